@@ -1,23 +1,23 @@
 -- What every run keeps.
 use Rattle.std.proofs.Common.{◌≡◌, ◌≢◌, ℕ, ◌<◌, ◌≤◌, List, [], ◌∷◌, ◌++◌, length, Bool, Option, Some, None, refl, sym, ap, ◌∙◌, subst, arith, ◌⊎◌, inl, inr, length-append, append_assoc}
 use Rattle.std.specs.Prelude.{IsSome, Contains}
-use Rattle.std.specs.Option.{option_map, option_or}
+use Rattle.std.specs.Option.{option_map}
 use Rattle.std.proofs.lemmas.Bool.{cases_eq, cases_lt}
 use Rattle.std.proofs.lemmas.Option.{slice_get_within, same_Some, none-some}
 use Rattle.std.proofs.lemmas.List.{append-nil}
 use Rattle.std.proofs.lemmas.List.Elements.{Contains-push_cases, Contains-append_left}
 use Rattle.tuple_header.specs.declared.version.Row.{Row}
-use Rattle.history.specs.History.{Write, Transaction, written, IsLate}
-use Rattle.history.specs.World.{World, OpenSession, beginning, joined, own_write, view, Holds, MayWrite}
-use Rattle.history.specs.Moves.{put, change, add_write, with_write, as_failed, with_savepoint, empty_newest, to_savepoint, without_savepoint, without_cursor, aborted, transaction_of, appended, committed_by}
-use Rattle.history.specs.Events.{Happens, passes, begins, inserts, updates, deletes, conflicts, waits, deadlocks, saves, rolls_back_to, releases, commits, aborts, opens_index, opens_heap, opens_keys, takes, takes_keys, closes, StepsReach, stays, goes_on}
-use Rattle.history.specs.Laws.{FirstCommitterWins, HeldInTime, HeldOnce, Grows, KeepsView}
+use Rattle.history.specs.History.{Write, Transaction, written, reading, IsLate}
+use Rattle.history.specs.World.{World, Isolation, by_snapshot, by_statement, OpenSession, beginning, joined, own_write, start_by, start_now, view, Holds, MayWrite}
+use Rattle.history.specs.Moves.{put, change, new_session, add_write, with_write, as_failed, with_savepoint, empty_newest, to_savepoint, without_savepoint, without_cursor, aborted, transaction_of, appended, committed_by}
+use Rattle.history.specs.Events.{Happens, passes, begins, begins_by_statement, inserts, updates, deletes, conflicts, waits, deadlocks, saves, rolls_back_to, releases, commits, aborts, opens_index, opens_heap, opens_keys, takes, takes_keys, closes, StepsReach, stays, goes_on}
+use Rattle.history.specs.Laws.{FirstCommitterWins, HeldInTime, HeldOnce, Grows, IsBySnapshot, KeepsView, NeverLate}
 use Rattle.history.proofs.Places.{slice_get-push_cases}
-use Rattle.history.proofs.HistoryLemmas.{at_same, at_other, joined-add_write, joined-join_newest, IsLate-push_cases, reading-append_history, among-written, written-among, fewer-written}
+use Rattle.history.proofs.HistoryLemmas.{at_same, at_other, joined-add_write, joined-join_newest, IsLate-push_cases, IsLate-now, reading-append_history, among-written, written-among, fewer-written}
 
 -- what holds after every step
 pub record Lawful (w : World) : Type 0 where
-  pub began : (s : ℕ) (m : OpenSession) → w.session s ≡ Some m → m.start ≤ length w.history
+  pub began : (s : ℕ) (m : OpenSession) → w.session s ≡ Some m → start_now w.history m ≤ length w.history
   pub in_time : HeldInTime w
   pub once : HeldOnce w
   pub first : FirstCommitterWins w.history
@@ -44,12 +44,12 @@ session-put_cases w s new t m at = elim (cases_eq t s) [
 ]
 
 -- one session changes
-pub Lawful-put : (w : World) (s : ℕ) (m : OpenSession) → Lawful w → m.start ≤ length w.history
+pub Lawful-put : (w : World) (s : ℕ) (m : OpenSession) → Lawful w → start_now w.history m ≤ length w.history
     → MayBe w s m → Lawful (put w s (Some m))
 Lawful-put w s m h began may = record {
   began = λ t n at. elim (cases_at t n at) [
     | inl other ↦ h.began t n other.1
-    | inr same ↦ subst (λ (n : OpenSession). n.start ≤ length w.history) (sym same.1) began
+    | inr same ↦ subst (λ (n : OpenSession). start_now w.history n ≤ length w.history) (sym same.1) began
   ];
   in_time = λ t n write at among. elim (cases_at t n at) [
     | inl other ↦ h.in_time t n write other.1 among
@@ -95,28 +95,28 @@ may_be w s m h at = record {
 }
 
 -- a session changes, and has no more writes than before
-pub Lawful-change : (w : World) (s : ℕ) (f : OpenSession → OpenSession) (m : OpenSession) → Lawful w → w.session s ≡ Some m → (f m).start ≡ m.start
+pub Lawful-change : (w : World) (s : ℕ) (f : OpenSession → OpenSession) (m : OpenSession) → Lawful w → w.session s ≡ Some m → (f m).isolation ≡ m.isolation
     → ((write : Write) → Contains (joined (f m).levels) write → Contains (joined m.levels) write) → Lawful (change w s f)
 Lawful-change w s f m h at same fewer =
     let may = may_be w s m h at in
     subst (λ n. Lawful (put w s n)) (sym (ap (option_map f) at))
-    (Lawful-put w s (f m) h (subst (λ n. n ≤ length w.history) (sym same) (h.began s m at)) (record {
+    (Lawful-put w s (f m) h (subst (λ isolation. start_by isolation w.history ≤ length w.history) (sym same) (h.began s m at)) (record {
       in_time = λ write among. may.in_time write (fewer write among);
       unheld = λ key o wrote. may.unheld key o (fewer-written (joined (f m).levels) (joined m.levels) fewer key wrote);
     }))
 
 -- it has one write more
 pub Lawful-write : (w : World) (s key : ℕ) (row : Option Row) (m : OpenSession) → Lawful w → MayWrite w s key m
-    → Lawful (change w s (with_write key row))
+    → Lawful (change w s (with_write w.history key row))
 Lawful-write w s key row m h may =
-    subst (λ n. Lawful (put w s n)) (sym (ap (option_map (with_write key row)) at))
-    (Lawful-put w s (with_write key row m) h (h.began s m at) (record { in_time = in_time; unheld = unheld }))
+    subst (λ n. Lawful (put w s n)) (sym (ap (option_map (with_write w.history key row)) at))
+    (Lawful-put w s (with_write w.history key row m) h (h.began s m at) (record { in_time = in_time; unheld = unheld }))
   where
     at : w.session s ≡ Some m
     at = may.writer.ready.there
 
     new : Write
-    new = record { start = m.start; key = key; row = row }
+    new = record { start = start_now w.history m; key = key; row = row }
 
     cases : (write : Write) → Contains (joined (add_write new m.levels)) write → Contains (joined m.levels) write ⊎ (new ≡ write)
     cases write among = Contains-push_cases (joined m.levels) new write (subst (λ ws. Contains ws write) (joined-add_write new m.levels) among)
@@ -133,10 +133,15 @@ Lawful-write w s key row m h may =
       | inr is ↦ subst (λ k. ¬ Holds w o k) (ap (λ (write : Write). write.key) is ∙ one.2) (may.unheld o ne)
     ]
 
+-- no start is later than the end of a history that has grown
+start_by-longer : (history more : List Transaction) (isolation : Isolation) → start_by isolation history ≤ length history → start_by isolation (history ++ more) ≤ length (history ++ more)
+start_by-longer history more (by_snapshot start) le = rw (length-append history more) (omega arith)
+start_by-longer history more by_statement le = omega arith
+
 -- the session's transaction joins the history
 pub Lawful-commit : (w : World) (s : ℕ) (m : OpenSession) → Lawful w → w.session s ≡ Some m → Lawful (committed_by w s)
 Lawful-commit w s m h at = subst (λ n. Lawful (record (aborted w s) { history = appended w.history n })) (sym at) (record {
-  began = λ t n there. longer (ended.began t n there);
+  began = λ t n there. start_by-longer w.history (transaction_of m ∷ []) n.isolation (ended.began t n there);
   in_time = λ t n write there among late. elim (IsLate-push_cases w.history (transaction_of m) write.start write.key late) [
     | inl old ↦ ended.in_time t n write there among old
     | inr new ↦ (session-ended w s t n there).0
@@ -148,9 +153,6 @@ Lawful-commit w s m h at = subst (λ n. Lawful (record (aborted w s) { history =
   where
     ended : Lawful (aborted w s)
     ended = Lawful-aborted w s h
-
-    longer : {n : ℕ} → n ≤ length w.history → n ≤ length (w.history ++ transaction_of m ∷ [])
-    longer {n} le = rw (length-append w.history (transaction_of m ∷ [])) (omega arith)
 
     first : FirstCommitterWins (w.history ++ transaction_of m ∷ [])
     first m' n a b at_a at_b same lt = elim (slice_get-push_cases w.history (transaction_of m) m' at_a.0 at_a.1) [
@@ -173,9 +175,17 @@ pub fewer-empty_newest : (levels : List (List Write)) (write : Write) → Contai
 fewer-empty_newest [] write among = among
 fewer-empty_newest (level ∷ older) write among = Contains-append_left (joined older) level write (subst (λ ws. Contains ws write) (append-nil (joined older)) among)
 
+-- a session that begins holds nothing
+Lawful-new : (w : World) (s : ℕ) (isolation : Isolation) → Lawful w → start_by isolation w.history ≤ length w.history → Lawful (put w s (Some (new_session isolation)))
+Lawful-new w s isolation h began = Lawful-put w s (new_session isolation) h began (record {
+  in_time = λ write among. absurd (let lt = among.1 in omega arith);
+  unheld = λ key o wrote. cc;
+})
+
 pub Lawful-step : {w : World} {s : ℕ} {after : World} → Happens w s after → Lawful w → Lawful after
 Lawful-step passes h = record { began = h.began; in_time = h.in_time; once = h.once; first = h.first }
-Lawful-step {w} {s} (begins within idle) h = Lawful-put w s _ h (omega arith) (record { in_time = λ write among. absurd (let lt = among.1 in omega arith); unheld = λ key o wrote. cc })
+Lawful-step {w} {s} (begins within idle) h = Lawful-new w s (by_snapshot (length w.history)) h (omega arith)
+Lawful-step {w} {s} (begins_by_statement within idle) h = Lawful-new w s by_statement h (omega arith)
 Lawful-step {w} {s} (inserts row m may absent) h = Lawful-write w s row.key (Some row) m h may
 Lawful-step {w} {s} (updates row m may there) h = Lawful-write w s row.key (Some row) m h may
 Lawful-step {w} {s} (deletes key m may there) h = Lawful-write w s key None m h may
@@ -229,9 +239,24 @@ same_session s passes ne = refl
 same_session s (waits key p m blocked free) ne = refl
 same_session {w} {o} s _ ne = at_other s o _ (w.session s) ne
 
+-- so each row stays that it reads by the snapshot of its beginning
+view-by_snapshot : (history more : List Transaction) (m : OpenSession) (key : ℕ) → IsBySnapshot m → start_now history m ≤ length history
+    → view (history ++ more) m key ≡ view history m key
+view-by_snapshot history more m key (start, is) began =
+    ap (λ isolation. reading (history ++ more) (start_by isolation (history ++ more)) (joined m.levels) key) is
+    ∙ (reading-append_history history more start (joined m.levels) key (subst (λ isolation. start_by isolation history ≤ length history) is began)
+    ∙ sym (ap (λ isolation. reading history (start_by isolation history) (joined m.levels) key) is))
+
 pub KeepsView-step : {w : World} {o : ℕ} {after : World} (s : ℕ) → Lawful w → Happens w o after → s ≢ o → KeepsView s w after
 KeepsView-step {w} s h step ne = let grows = Grows-step step in (
   same_session s step ne,
-  λ m key at.
-      ap (λ history. view history m key) grows.1 ∙ reading-append_history w.history grows.0 m.start (joined m.levels) key (h.began s m at),
+  λ m key at how. elim how [
+    | inl by ↦ ap (λ history. view history m key) grows.1 ∙ view-by_snapshot w.history grows.0 m key by (h.began s m at)
+    | inr same ↦ ap (λ history. view history m key) same
+  ],
 )
+
+-- no key is late at the end of the history
+pub never_late : (w : World) → NeverLate w
+never_late w s m key at is late =
+    IsLate-now w.history key (subst (λ isolation. IsLate w.history (start_by isolation w.history) key) is late)

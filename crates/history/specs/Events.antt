@@ -2,9 +2,9 @@
 use Rattle.std.specs.Prelude.{◌≡◌, ℕ, ◌<◌, ◌≤◌, List, length, Some, None, IsSome, true, ℤ, ◌≤ℤ◌}
 use Rattle.tuple_header.specs.declared.version.Row.{Row}
 use Rattle.history.specs.History.{IsLate}
-use Rattle.history.specs.World.{World, OpenSession, Cursor, view, ClosesRing, IsReady, IsWriter, MayWrite, IsBlocked}
+use Rattle.history.specs.World.{World, OpenSession, Cursor, start_now, view, ClosesRing, IsReady, IsWriter, MayWrite, IsBlocked}
 use Rattle.history.specs.Cursors.{HandsOutPart, HandsOutKeys, keys_of}
-use Rattle.history.specs.Moves.{stepped, change, begun, with_row, without_row, as_failed, blocked_by, with_savepoint, rolled_back_to, without_savepoint, aborted, committed_by, with_index_cursor, with_heap_cursor, with_keys_cursor, with_taken, without_cursor}
+use Rattle.history.specs.Moves.{stepped, change, begun, begun_by_statement, with_row, without_row, as_failed, blocked_by, with_savepoint, rolled_back_to, without_savepoint, aborted, committed_by, with_index_cursor, with_heap_cursor, with_keys_cursor, with_taken, without_cursor}
 use Rattle.calls.specs.declared.step.TheConstants.{MOST_SESSIONS}
 
 -- a step of the session s leads from the world w to another. A step that reads, or that is refused and leaves the
@@ -12,10 +12,11 @@ use Rattle.calls.specs.declared.step.TheConstants.{MOST_SESSIONS}
 pub data Happens (w : World) (s : ℕ) : World → Type 0 where
   passes : Happens w s (stepped w s)
   begins : s < MOST_SESSIONS → w.session s ≡ None → Happens w s (begun w s)
-  inserts : (row : Row) (m : OpenSession) → MayWrite w s row.key m → view w.history m row.key ≡ None → Happens w s (change w s (with_row row))
-  updates : (row : Row) (m : OpenSession) → MayWrite w s row.key m → IsSome (view w.history m row.key) → Happens w s (change w s (with_row row))
-  deletes : (key : ℕ) (m : OpenSession) → MayWrite w s key m → IsSome (view w.history m key) → Happens w s (change w s (without_row key))
-  conflicts : (key : ℕ) (m : OpenSession) → IsWriter w s m → IsLate w.history m.start key → Happens w s (change w s as_failed)
+  begins_by_statement : s < MOST_SESSIONS → w.session s ≡ None → Happens w s (begun_by_statement w s)
+  inserts : (row : Row) (m : OpenSession) → MayWrite w s row.key m → view w.history m row.key ≡ None → Happens w s (change w s (with_row w.history row))
+  updates : (row : Row) (m : OpenSession) → MayWrite w s row.key m → IsSome (view w.history m row.key) → Happens w s (change w s (with_row w.history row))
+  deletes : (key : ℕ) (m : OpenSession) → MayWrite w s key m → IsSome (view w.history m key) → Happens w s (change w s (without_row w.history key))
+  conflicts : (key : ℕ) (m : OpenSession) → IsWriter w s m → IsLate w.history (start_now w.history m) key → Happens w s (change w s as_failed)
   waits : (key o : ℕ) (m : OpenSession) → IsBlocked w s key o m → ¬ ClosesRing w.waits_for s o → Happens w s (blocked_by w s o)
   deadlocks : (key o : ℕ) (m : OpenSession) → IsBlocked w s key o m → ClosesRing w.waits_for s o → Happens w s (change w s as_failed)
   saves : (m : OpenSession) → IsWriter w s m → length m.levels ≤ 32 → Happens w s (change w s with_savepoint)

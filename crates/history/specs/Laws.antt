@@ -1,7 +1,7 @@
 -- Laws of every run.
-use Rattle.std.specs.Prelude.{◌≡◌, ℕ, ◌<◌, List, ◌++◌, Some, slice_get, Contains}
+use Rattle.std.specs.Prelude.{◌≡◌, ℕ, ◌<◌, List, ◌++◌, Some, slice_get, Contains, ◌⊎◌}
 use Rattle.history.specs.History.{Write, Transaction, IsLate}
-use Rattle.history.specs.World.{World, OpenSession, joined, view, Holds}
+use Rattle.history.specs.World.{World, by_snapshot, by_statement, OpenSession, joined, start_now, view, Holds}
 
 -- the transaction at this place of the history has the write
 abbrev pub Wrote : List Transaction → ℕ → Write → Type 0
@@ -26,6 +26,15 @@ HeldOnce w = (s o key : ℕ) → Holds w s key → Holds w o key → s ≡ o
 abbrev pub Grows : World → World → Type 0
 Grows before after = (more : List Transaction) × (after.history ≡ before.history ++ more)
 
--- the session is as it was, and so is each row that it reads
+-- the session reads by the snapshot of its beginning
+abbrev pub IsBySnapshot : OpenSession → Type 0
+IsBySnapshot m = (start : ℕ) × (m.isolation ≡ by_snapshot start)
+
+-- the session is as it was. So is each row that it reads, if it reads by snapshot or if nothing has committed
 abbrev pub KeepsView : ℕ → World → World → Type 0
-KeepsView s before after = (after.session s ≡ before.session s) × ((m : OpenSession) (key : ℕ) → before.session s ≡ Some m → view after.history m key ≡ view before.history m key)
+KeepsView s before after = (after.session s ≡ before.session s)
+    × ((m : OpenSession) (key : ℕ) → before.session s ≡ Some m → IsBySnapshot m ⊎ (after.history ≡ before.history) → view after.history m key ≡ view before.history m key)
+
+-- for a session that reads by statement no key is ever late
+abbrev pub NeverLate : World → Type 0
+NeverLate w = (s : ℕ) (m : OpenSession) (key : ℕ) → w.session s ≡ Some m → m.isolation ≡ by_statement → ¬ IsLate w.history (start_now w.history m) key

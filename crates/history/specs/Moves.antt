@@ -4,7 +4,7 @@ use Rattle.std.specs.Prelude.{ℕ, ◌==◌, not, if◌then◌else◌, List, [],
 use Rattle.std.specs.Option.{option_map}
 use Rattle.tuple_header.specs.declared.version.Row.{Row}
 use Rattle.history.specs.History.{Write, Transaction}
-use Rattle.history.specs.World.{World, OpenSession, Cursor, Order, by_index, by_heap, by_keys, joined, view}
+use Rattle.history.specs.World.{World, Isolation, by_snapshot, by_statement, OpenSession, Cursor, Order, by_index, by_heap, by_keys, joined, start_now, view}
 use Rattle.history.specs.Cursors.{kept_where, rows_within, without}
 
 -- the session has done a step, which ends its own wait
@@ -23,23 +23,32 @@ change w s f = put w s (option_map f (w.session s))
 abbrev pub awaited_no_more : World → ℕ → World
 awaited_no_more w s = record w { waits_for = λ t. kept_where (λ o. not (o == s)) (w.waits_for t) }
 
--- a session begins on all that has committed
+-- a session that begins
+abbrev pub new_session : Isolation → OpenSession
+new_session isolation = record { isolation = isolation; levels = [] ∷ []; failed = false; cursor = None }
+
+-- a session begins, and reads what has committed until now
 abbrev pub begun : World → ℕ → World
-begun w s = put w s (Some (record { start = length w.history; levels = [] ∷ []; failed = false; cursor = None }))
+begun w s = put w s (Some (new_session (by_snapshot (length w.history))))
+
+-- a session begins, each of whose statements reads what has committed until then
+abbrev pub begun_by_statement : World → ℕ → World
+begun_by_statement w s = put w s (Some (new_session by_statement))
 
 -- a write joins the newest level
 abbrev pub add_write : Write → List (List Write) → List (List Write)
 add_write write [] = (write ∷ []) ∷ []
 add_write write (level ∷ older) = (level ++ write ∷ []) ∷ older
 
-abbrev pub with_write : ℕ → Option Row → OpenSession → OpenSession
-with_write key row m = record m { levels = add_write (record { start = m.start; key = key; row = row }) m.levels }
+-- it keeps the start of its statement
+abbrev pub with_write : List Transaction → ℕ → Option Row → OpenSession → OpenSession
+with_write history key row m = record m { levels = add_write (record { start = start_now history m; key = key; row = row }) m.levels }
 
-abbrev pub with_row : Row → OpenSession → OpenSession
-with_row row m = with_write row.key (Some row) m
+abbrev pub with_row : List Transaction → Row → OpenSession → OpenSession
+with_row history row m = with_write history row.key (Some row) m
 
-abbrev pub without_row : ℕ → OpenSession → OpenSession
-without_row key m = with_write key None m
+abbrev pub without_row : List Transaction → ℕ → OpenSession → OpenSession
+without_row history key m = with_write history key None m
 
 -- the session can only be rolled back
 abbrev pub as_failed : OpenSession → OpenSession

@@ -1,5 +1,5 @@
 -- The history and the sessions that are open on it.
-use Rattle.std.specs.Prelude.{◌≡◌, ◌≢◌, ℕ, List, [], ◌∷◌, ◌++◌, Option, Some, None, Bool, true, false, IsSome, slice_index_or}
+use Rattle.std.specs.Prelude.{◌≡◌, ◌≢◌, ℕ, List, [], ◌∷◌, ◌++◌, length, Option, Some, None, Bool, true, false, IsSome, slice_index_or}
 use Rattle.xid_circle.specs.Numbers.{SessionNo, Key}
 use Rattle.xid_circle.specs.Following.{ReachesIn}
 use Rattle.tuple_header.specs.declared.version.Row.{Row}
@@ -17,11 +17,17 @@ pub record Cursor : Type 0 where
   pub order : Order
   pub rest : ℕ → Option Row
 
--- an open session: how many transactions had committed when it began; what it wrote at each level, the newest level
--- first, and within a level the oldest write first; whether it can only be rolled back; its cursor. A savepoint
--- begins a level, so there is always one more than there are savepoints
+-- by which snapshot a session reads: by that of its beginning, when so many transactions had committed, or by one that each of
+-- its statements takes anew (Repeatable Read and Read Committed, in the manual's section "Transaction Isolation")
+pub data Isolation : Type 0 where
+  by_snapshot : (start : ℕ) → Isolation
+  by_statement : Isolation
+
+-- an open session: by which snapshot it reads; what it wrote at each level, the newest level first, and within a level the
+-- oldest write first; whether it can only be rolled back; its cursor. A savepoint begins a level, so there is always one
+-- more than there are savepoints
 pub record OpenSession : Type 0 where
-  pub start : ℕ
+  pub isolation : Isolation
   pub levels : List (List Write)
   pub failed : Bool
   pub cursor : Option Cursor
@@ -54,9 +60,18 @@ joined (level ∷ older) = joined older ++ level
 abbrev pub own_write : OpenSession → ℕ → Option (Option Row)
 own_write m key = written (joined m.levels) key
 
+-- how many transactions had committed when the snapshot was taken by which a statement reads now
+abbrev pub start_by : Isolation → List Transaction → ℕ
+start_by (by_snapshot start) history = start
+start_by by_statement history = length history
+
+-- the same of a statement of the session
+abbrev pub start_now : List Transaction → OpenSession → ℕ
+start_now history m = start_by m.isolation history
+
 -- the row that the session reads
 abbrev pub view : List Transaction → OpenSession → ℕ → Option Row
-view history m key = reading history m.start (joined m.levels) key
+view history m key = reading history (start_now history m) (joined m.levels) key
 
 -- the session is open and has the key in its levels
 abbrev pub Holds : World → ℕ → ℕ → Type 0
@@ -76,15 +91,15 @@ pub record IsWriter (w : World) (s : ℕ) (m : OpenSession) : Type 0 where
   pub ready : IsReady w s m
   pub bare : m.cursor ≡ None
 
--- its write of the key meets none that committed since its start, and none of another open session
+-- its write of the key meets none that committed since the start of its statement, and none of another open session
 pub record MayWrite (w : World) (s key : ℕ) (m : OpenSession) : Type 0 where
   pub writer : IsWriter w s m
-  pub in_time : ¬ IsLate w.history m.start key
+  pub in_time : ¬ IsLate w.history (start_now w.history m) key
   pub unheld : (o : ℕ) → o ≢ s → ¬ Holds w o key
 
 -- its write of the key has to wait for the session o, which holds it
 pub record IsBlocked (w : World) (s : SessionNo) (key : Key) (o : SessionNo) (m : OpenSession) : Type 0 where
   pub writer : IsWriter w s m
-  pub in_time : ¬ IsLate w.history m.start key
+  pub in_time : ¬ IsLate w.history (start_now w.history m) key
   pub other : o ≢ s
   pub held : Holds w o key

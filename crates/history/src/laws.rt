@@ -4,7 +4,7 @@
 ghost use Rattle.std.specs.Prelude.{ℕ, ◌≢◌, List, Bool};
 ghost use Rattle.history.specs.World.{World, beginning};
 ghost use Rattle.history.specs.Events.{Happens, StepsReach};
-ghost use Rattle.history.specs.Laws.{FirstCommitterWins, Grows, HeldInTime, HeldOnce, KeepsView};
+ghost use Rattle.history.specs.Laws.{FirstCommitterWins, Grows, HeldInTime, HeldOnce, KeepsView, NeverLate};
 
 /// The first committer wins: of two transactions that wrote one key, the second to commit wrote it by a snapshot that was taken
 /// after the first had committed (Berenson et al. 1995, snapshot isolation).
@@ -29,9 +29,15 @@ pub fn history_only_grows()
         → StepsReach w after → Grows w after }
 {}
 
-/// What a session reads, and all else that is its own, never changes but by its own steps. For whom it waits is kept apart.
+/// What a session reads by snapshot, and all else that is its own, never changes but by its own steps. What it reads by statement
+/// changes besides where another commits. For whom it waits is kept apart.
 pub fn views_stay()
     ensures { (columns : List Bool) (w : World) (after : World) (s : ℕ) (other : ℕ)
         → StepsReach (beginning columns) w → Happens w other after → s ≢ other
         → KeepsView s w after }
+{}
+
+/// A write by statement never meets a later commit: there is no Conflict.
+pub fn no_write_by_statement_is_late()
+    ensures { (w : World) → NeverLate w }
 {}

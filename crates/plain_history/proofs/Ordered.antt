@@ -12,7 +12,7 @@ use Rattle.std.proofs.lemmas.List.{take-append-drop}
 use Rattle.std.proofs.lemmas.Option.{none-some, same_Some}
 use Rattle.tuple_header.specs.declared.version.Row.{Row}
 use Rattle.history.specs.History.{Write, Transaction, said, written, latest, committed, own_or}
-use Rattle.history.specs.World.{OpenSession, joined, own_write, view}
+use Rattle.history.specs.World.{OpenSession, joined, own_write, start_now, view}
 use Rattle.history.proofs.HistoryLemmas.{written-append, said-other, option_or-none, option_or_assoc}
 use Rattle.plain_history.proofs.Lists.{written-take, latest-take, joined-take}
 use Rattle.tuple_header.specs.IndexValue.{value_in}
@@ -194,13 +194,13 @@ latest-append (t ∷ earlier) later key = ap (λ o. option_or o (written t key))
 pub view-none : (history : List Transaction) (m : OpenSession) (older newest : List Write) (key : ℕ) → joined m.levels ≡ older ++ newest
     → latest history key ≡ None → written older key ≡ None → written newest key ≡ None → view history m key ≡ None
 view-none history m older newest key all none none' none'' =
-    ap (λ o. own_or o (committed history m.start key)) own ∙ ap option_flatten (right_none (latest (drop m.start history) key) (latest (take m.start history) key) whole)
+    ap (λ o. own_or o (committed history (start_now history m) key)) own ∙ ap option_flatten (right_none (latest (drop (start_now history m) history) key) (latest (take (start_now history m) history) key) whole)
   where
     own : own_write m key ≡ None
     own = ap (λ ws. written ws key) all ∙ both_none (written newest key) (written older key) (written (older ++ newest) key) (written-append older newest key) none'' none'
 
-    whole : option_or (latest (drop m.start history) key) (latest (take m.start history) key) ≡ None
-    whole = sym (latest-append (take m.start history) (drop m.start history) key) ∙ (ap (λ ts. latest ts key) (take-append-drop m.start history) ∙ none)
+    whole : option_or (latest (drop (start_now history m) history) key) (latest (take (start_now history m) history) key) ≡ None
+    whole = sym (latest-append (take (start_now history m) history) (drop (start_now history m) history) key) ∙ (ap (λ ts. latest ts key) (take-append-drop (start_now history m) history) ∙ none)
 
     right_none : {A : Type 0} (o p : Option A) → option_or o p ≡ None → p ≡ None
     right_none None p e = e

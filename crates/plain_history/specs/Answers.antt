@@ -12,7 +12,7 @@ use Rattle.calls.specs.declared.step.TheConstants.{MOST_SESSIONS}
 use Rattle.plain_history.specs.declared.refusal.Outcome.{Outcome}
 use Rattle.plain_history.specs.declared.refusal.Outcome.TheVariants.{Committed, RolledBack}
 use Rattle.history.specs.History.{Transaction, IsLate}
-use Rattle.history.specs.World.{World, world_sessions, OpenSession, Cursor, view, ClosesRing, IsReady, IsWriter, MayWrite, IsBlocked}
+use Rattle.history.specs.World.{World, world_sessions, OpenSession, Cursor, start_now, view, ClosesRing, IsReady, IsWriter, MayWrite, IsBlocked}
 use Rattle.history.specs.Moves.{stepped, change, as_failed, blocked_by, opened, past, with_taken, transaction_of, aborted, committed_by}
 use Rattle.plain_history.specs.declared.cursor.PlainOrder.{PlainOrder}
 use Rattle.plain_history.specs.declared.cursor.Bounds.{Bounds}
@@ -43,7 +43,7 @@ after_refusal w s why = stepped w s
 
 -- the write of a key by a session that may write meets another
 abbrev pub MeetsWrite : World → ℕ → ℕ → OpenSession → Refused → Type 0
-MeetsWrite w s key m (By refusal.Conflict) = IsLate w.history m.start key
+MeetsWrite w s key m (By refusal.Conflict) = IsLate w.history (start_now w.history m) key
 MeetsWrite w s key m (By (refusal.Busy o)) = IsBlocked w s key o m × ¬ ClosesRing w.waits_for s o
 MeetsWrite w s key m Deadlock = (o : ℕ) × IsBlocked w s key o m × ClosesRing w.waits_for s o
 MeetsWrite w s key m why = ⊥
@@ -97,6 +97,9 @@ RefusesBegin w s refusal.AlreadyOpen = (s < MOST_SESSIONS) × IsSome (w.session 
 RefusesBegin w s why = ⊥
 
 -- and where it is taken
+
+abbrev pub MayBegin : World → ℕ → Type 0
+MayBegin w s = (s < MOST_SESSIONS) × (w.session s ≡ None)
 
 abbrev pub PlainReads : World → ℕ → ℕ → Option Row → Type 0
 PlainReads w s key row = (m : OpenSession) × IsReady w s m × (row ≡ view w.history m key)

@@ -6,8 +6,10 @@ use Rattle.plain_history.specs.declared.cursor.PlainOrder.{PlainOrder}
 use Rattle.plain_history.specs.declared.cursor.PlainOrder.TheVariants.{Index, Heap, Keys}
 use Rattle.plain_history.specs.Order.{KeptCursor, row_of_key}
 use Rattle.plain_history.specs.declared.plain.PlainSession.{PlainSession}
+use Rattle.plain_history.specs.declared.plain.PlainIsolation.{PlainIsolation}
+use Rattle.plain_history.specs.declared.plain.PlainIsolation.TheVariants.{BySnapshot, ByStatement}
 use Rattle.history.specs.History.{Transaction}
-use Rattle.history.specs.World.{World, is_indexed, OpenSession, Cursor, Order, by_index, by_heap, by_keys}
+use Rattle.history.specs.World.{World, is_indexed, Isolation, by_snapshot, by_statement, OpenSession, Cursor, Order, by_index, by_heap, by_keys}
 
 pub record Plain : Type 0 where
   pub history : List Transaction
@@ -34,9 +36,13 @@ IsRowOf key row = IfSome row (λ r. r.key ≡ key)
 abbrev pub cursor_of : KeptCursor → Cursor
 cursor_of c = record { order = plain_order_of c.order; rest = row_of_key c.rest }
 
+abbrev pub isolation_of : PlainIsolation → Isolation
+isolation_of (BySnapshot start) = by_snapshot start
+isolation_of ByStatement = by_statement
+
 abbrev pub open_of : PlainSession → OpenSession
 open_of m = record {
-  start = m.start;
+  isolation = isolation_of m.isolation;
   levels = m.newest ∷ m.older.items;
   failed = m.failed;
   cursor = option_map cursor_of m.cursor;

@@ -20,13 +20,19 @@ fn fail(session: &mut Option<PlainSession>)
     }
 }
 
-fn write(session: &mut Option<PlainSession>, key: u64, row: Option<Row>) -> Result<(), AllocError>
+fn write(
+    session: &mut Option<PlainSession>,
+    history: &[PlainLevel],
+    key: u64,
+    row: Option<Row>,
+) -> Result<(), AllocError>
     requires { IsRowOf key row }
-    ensures ok { OnOk result (PlainBecomes session.old session.new (with_write key row)) }
+    ensures ok { OnOk result
+        (PlainBecomes session.old session.new (with_write history.now key row)) }
     ensures err { OnErr result (PlainStays session.old session.new) }
 {
     if let Some(session) = session {
-        let start = session.start;
+        let start = session.start_now(history);
         session.newest.push(PlainWrite { start, key, row })?;
     }
     Ok(())
@@ -109,11 +115,12 @@ impl PlainHistory {
     pub(crate) fn write(&mut self, s: u8, key: u64, row: Option<Row>) -> Result<(), AllocError>
         requires { IsRowOf key row }
         ensures ok { OnOk result
-            (world_of self.new ≡ change (world_of self.old) s (with_write key row)) }
+            (world_of self.new
+            ≡ change (world_of self.old) s (with_write self.old.history key row)) }
         ensures err { OnErr result (world_of self.new ≡ stepped (world_of self.old) s) }
     {
         self.waits[s as usize] = None;
-        write(&mut self.sessions[s as usize], key, row)
+        write(&mut self.sessions[s as usize], &self.history, key, row)
     }
 
     pub(crate) fn save(&mut self, s: u8) -> Result<(), AllocError>

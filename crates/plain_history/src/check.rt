@@ -66,7 +66,7 @@ impl PlainHistory {
         ensures err { IfErr result
             (λ why. MeetsWrite (world_of self.now) s key (open_of session.now) why) }
     {
-        if is_late(&self.history, session.start, key) {
+        if is_late(&self.history, session, key) {
             return Err(Refused::By(Refusal::Conflict));
         }
         match holder(&self.sessions, s, key) {

@@ -12,5 +12,5 @@ mod refusal;
 mod steps;
 
 pub use cursor::{Bounds, PlainCursor, PlainOrder};
-pub use plain::{PlainHistory, PlainLevel, PlainSession, PlainWrite};
+pub use plain::{PlainHistory, PlainIsolation, PlainLevel, PlainSession, PlainWrite};
 pub use refusal::{Handed, Outcome, Refused};

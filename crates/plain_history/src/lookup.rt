@@ -2,11 +2,11 @@
 
 ghost use Rattle.std.specs.Prelude.{◌≡◌, ◌≢◌, ℕ, ◌≤◌, ◌<◌, ◌↔◌, IsTrue, IsSome, MatchOption, length, IfOk, IfSome, OnOk, Some, ◌++◌};
 ghost use Rattle.history.specs.History.{said, written, latest, committed, IsLate};
-ghost use Rattle.history.specs.World.{joined, own_write, view, ClosesRing, OpenSession};
+ghost use Rattle.history.specs.World.{joined, own_write, start_now, view, ClosesRing, OpenSession};
 ghost use Rattle.std.specs.Option.{option_map};
 ghost use Rattle.plain_history.specs.Plain.{IsRowOf, open_of, session_in, wait_in};
 
-use crate::plain::{PlainLevel, PlainSession, PlainWrite};
+use crate::plain::{PlainIsolation, PlainLevel, PlainSession, PlainWrite};
 use arrayvec::ArrayVec;
 use std::alloc::{AllocError, Global};
 use tuple_header::Row;
@@ -57,6 +57,13 @@ impl PlainLevel {
         ensures { IsTrue result ↔ IsSome (written self.now key) }
     {
         self.last_write(key).is_some()
+    }
+
+    /// Puts a copy of later writes behind these.
+    fn extend(&mut self, later: &PlainLevel) -> Result<(), AllocError>
+        ensures { OnOk result (self.new ≡ self.old ++ later.now) }
+    {
+        extend_with(&mut self.writes, &later.writes)
     }
 }
 
@@ -135,6 +142,16 @@ impl PlainSession {
         Ok(all)
     }
 
+    /// How many transactions had committed when the snapshot was taken by which a statement of the session reads now.
+    pub(crate) fn start_now(&self, history: &[PlainLevel]) -> usize
+        ensures { result ≡ start_now history.now (open_of self.now) }
+    {
+        match self.isolation {
+            PlainIsolation::BySnapshot(start) => start,
+            PlainIsolation::ByStatement => history.len(),
+        }
+    }
+
     /// The row that the session reads.
     pub(crate) fn view(&self, history: &[PlainLevel], key: u64) -> Option<Row>
         ensures value { result ≡ view history.now (open_of self.now) key }
@@ -142,17 +159,8 @@ impl PlainSession {
     {
         match self.own_write(key) {
             Some(row) => row,
-            None => committed_in(history, self.start, key),
+            None => committed_in(history, self.start_now(history), key),
         }
-    }
-}
-
-impl PlainLevel {
-    /// Puts a copy of later writes behind these.
-    fn extend(&mut self, later: &PlainLevel) -> Result<(), AllocError>
-        ensures { OnOk result (self.new ≡ self.old ++ later.now) }
-    {
-        extend_with(&mut self.writes, &later.writes)
     }
 }
 
@@ -179,10 +187,12 @@ fn joined_levels(alloc: Global, levels: &[PlainLevel]) -> Result<PlainLevel, All
     Ok(all)
 }
 
-/// Did a transaction that committed since the start write the key?
-pub(crate) fn is_late(history: &[PlainLevel], start: usize, key: u64) -> bool
-    ensures { IsTrue result ↔ IsLate history.now start key }
+/// Did a transaction write the key that has committed since the snapshot of the session's statement was taken?
+pub(crate) fn is_late(history: &[PlainLevel], session: &PlainSession, key: u64) -> bool
+    ensures { IsTrue result
+        ↔ IsLate history.now (start_now history.now (open_of session.now)) key }
 {
+    let start = session.start_now(history);
     for n in 0..history.len() {
         if start <= n && history[n].wrote(key) {
             return true;

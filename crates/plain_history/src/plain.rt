@@ -10,7 +10,7 @@ use std::alloc::{AllocError, Global};
 use std::marker::Model;
 use tuple_header::Row;
 
-/// A key with a row, or with none, and the start of the session that wrote it.
+/// A key with a row, or with none, and the start of the statement that wrote it.
 #[derive(Drop)]
 pub struct PlainWrite {
     pub(crate) start: usize,
@@ -45,10 +45,19 @@ impl Model for PlainLevel {
     ghost view = { λ l. l.writes.items };
 }
 
+/// By which snapshot a session reads.
+#[derive(Clone, Copy)]
+pub enum PlainIsolation {
+    /// By that of its beginning, when so many transactions had committed.
+    BySnapshot(usize),
+    /// By one that each of its statements takes anew.
+    ByStatement,
+}
+
 /// An open session. The levels of the savepoints below the newest stand in `older`, the newest of them first.
 #[derive(Drop)]
 pub struct PlainSession {
-    pub(crate) start: usize,
+    pub(crate) isolation: PlainIsolation,
     pub(crate) newest: PlainLevel,
     pub(crate) older: Vec<PlainLevel>,
     pub(crate) failed: bool,
@@ -106,9 +115,7 @@ impl PlainLevel {
     {
         self.writes.append(&mut later.writes)
     }
-}
 
-impl PlainLevel {
     pub(crate) fn clear(&mut self)
         ensures { self.new ≡ [] }
     {

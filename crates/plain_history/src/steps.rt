@@ -1,15 +1,14 @@
 //! The steps of a session. Each makes its tests in order, and then its transition; a refused one leaves what its refusal
 //! says.
 
-ghost use Rattle.std.specs.Prelude.{◌≡◌, ◌<◌, OnOk, IfErr, IfOk, IsSome, Some, None};
+ghost use Rattle.std.specs.Prelude.{◌≡◌, OnOk, IfErr, IfOk, IsSome, Some};
 ghost use Rattle.history.specs.World.{world_sessions};
-ghost use Rattle.history.specs.Moves.{begun, change, with_row, without_row, with_savepoint, rolled_back_to, without_savepoint, aborted, stepped};
-ghost use Rattle.plain_history.specs.Plain.{world_of};
+ghost use Rattle.history.specs.Moves.{put, new_session, begun, begun_by_statement, change, with_row, without_row, with_savepoint, rolled_back_to, without_savepoint, aborted, stepped};
+ghost use Rattle.plain_history.specs.Plain.{isolation_of, world_of};
 ghost use Rattle.calls.specs.Bars.{BarsOpen, BarsReady};
-ghost use Rattle.calls.specs.declared.step.TheConstants.{MOST_SESSIONS};
-ghost use Rattle.plain_history.specs.Answers.{after_refusal, OrMemory, OrWriteMemory, RefusesBegin, RefusesInsert, RefusesReplace, RefusesSave, RefusesRollBack, RefusesRelease, MayInsert, MayReplace, PlainReads, MaySave, MayRollBack, MayRelease, MayCommit, WouldCommit, EndsTransaction};
+ghost use Rattle.plain_history.specs.Answers.{after_refusal, OrMemory, OrWriteMemory, MayBegin, RefusesBegin, RefusesInsert, RefusesReplace, RefusesSave, RefusesRollBack, RefusesRelease, MayInsert, MayReplace, PlainReads, MaySave, MayRollBack, MayRelease, MayCommit, WouldCommit, EndsTransaction};
 
-use crate::plain::{PlainHistory, PlainLevel, PlainSession};
+use crate::plain::{PlainHistory, PlainIsolation, PlainLevel, PlainSession};
 use crate::refusal::{Outcome, Refused};
 use calls::Refusal;
 use tuple_header::Row;
@@ -28,7 +27,7 @@ impl PlainHistory {
     }
 
     fn check_begin(&self, s: u8) -> Result<(), Refusal>
-        ensures ok { OnOk result ((s < MOST_SESSIONS) × ((world_of self.now).session s ≡ None)) }
+        ensures ok { OnOk result (MayBegin (world_of self.now) s) }
         ensures err { IfErr result (λ why. RefusesBegin (world_of self.now) s why) }
     {
         match self.open_session(s) {
@@ -38,18 +37,50 @@ impl PlainHistory {
         }
     }
 
-    /// Opens an idle session on what has committed. Refusals: NoSuchSession, AlreadyOpen.
+    /// Opens an idle session, which reads what has committed until now. Refusals: NoSuchSession, AlreadyOpen.
     pub fn begin(&mut self, s: u8) -> Result<(), Refusal>
         ensures done { OnOk result
-            ((s < MOST_SESSIONS) × ((world_of self.old).session s ≡ None)
+            (MayBegin (world_of self.old) s
             × (world_of self.new ≡ begun (world_of self.old) s)) }
+        ensures refused { IfErr result
+            (λ why. RefusesBegin (world_of self.old) s why
+            × (world_of self.new ≡ stepped (world_of self.old) s)) }
+    {
+        let start = self.history.len();
+        self.begin_by(s, PlainIsolation::BySnapshot(start))
+    }
+
+    /// Opens an idle session, each of whose statements reads what has committed until then. Refusals: NoSuchSession, AlreadyOpen.
+    pub fn begin_read_committed(&mut self, s: u8) -> Result<(), Refusal>
+        ensures done { OnOk result
+            (MayBegin (world_of self.old) s
+            × (world_of self.new ≡ begun_by_statement (world_of self.old) s)) }
+        ensures refused { IfErr result
+            (λ why. RefusesBegin (world_of self.old) s why
+            × (world_of self.new ≡ stepped (world_of self.old) s)) }
+    {
+        self.begin_by(s, PlainIsolation::ByStatement)
+    }
+
+    fn begin_by(&mut self, s: u8, isolation: PlainIsolation) -> Result<(), Refusal>
+        ensures done { OnOk result
+            (MayBegin (world_of self.old) s
+            × (world_of self.new
+            ≡ put (world_of self.old) s (Some (new_session (isolation_of isolation))))) }
         ensures refused { IfErr result
             (λ why. RefusesBegin (world_of self.old) s why
             × (world_of self.new ≡ stepped (world_of self.old) s)) }
     {
         match self.check_begin(s) {
             Ok(()) => {
-                self.start(s);
+                let session = PlainSession {
+                    isolation,
+                    newest: PlainLevel::new(self.alloc),
+                    older: Vec::new(self.alloc),
+                    failed: false,
+                    cursor: None,
+                };
+                self.put(s, Some(session));
                 Ok(())
             }
             Err(why) => {
@@ -57,19 +88,6 @@ impl PlainHistory {
                 Err(why)
             }
         }
-    }
-
-    fn start(&mut self, s: u8)
-        ensures { world_of self.new ≡ begun (world_of self.old) s }
-    {
-        let session = PlainSession {
-            start: self.history.len(),
-            newest: PlainLevel::new(self.alloc),
-            older: Vec::new(self.alloc),
-            failed: false,
-            cursor: None,
-        };
-        self.put(s, Some(session));
     }
 
     fn check_get(&self, s: u8, key: u64) -> Result<Option<Row>, Refusal>
@@ -98,7 +116,7 @@ impl PlainHistory {
     pub fn insert(&mut self, s: u8, row: Row) -> Result<(), Refused>
         ensures done { OnOk result
             (MayInsert (world_of self.old) s row.key
-            × (world_of self.new ≡ change (world_of self.old) s (with_row row))) }
+            × (world_of self.new ≡ change (world_of self.old) s (with_row self.old.history row))) }
         ensures refused { IfErr result
             (λ why. OrWriteMemory why (MayInsert (world_of self.old) s row.key)
             (RefusesInsert (world_of self.old) s row.key why)
@@ -117,7 +135,7 @@ impl PlainHistory {
     pub fn update(&mut self, s: u8, row: Row) -> Result<(), Refused>
         ensures done { OnOk result
             (MayReplace (world_of self.old) s row.key
-            × (world_of self.new ≡ change (world_of self.old) s (with_row row))) }
+            × (world_of self.new ≡ change (world_of self.old) s (with_row self.old.history row))) }
         ensures refused { IfErr result
             (λ why. OrWriteMemory why (MayReplace (world_of self.old) s row.key)
             (RefusesReplace (world_of self.old) s row.key why)
@@ -133,7 +151,8 @@ impl PlainHistory {
     }
 
     fn write_row(&mut self, s: u8, row: Row) -> Result<(), Refused>
-        ensures ok { OnOk result (world_of self.new ≡ change (world_of self.old) s (with_row row)) }
+        ensures ok { OnOk result
+            (world_of self.new ≡ change (world_of self.old) s (with_row self.old.history row)) }
         ensures err { IfErr result
             (λ why. (why ≡ Refused.By Refusal.NoMemory)
             × (world_of self.new ≡ stepped (world_of self.old) s)) }
@@ -149,7 +168,8 @@ impl PlainHistory {
     pub fn delete(&mut self, s: u8, key: u64) -> Result<(), Refused>
         ensures done { OnOk result
             (MayReplace (world_of self.old) s key
-            × (world_of self.new ≡ change (world_of self.old) s (without_row key))) }
+            × (world_of self.new
+            ≡ change (world_of self.old) s (without_row self.old.history key))) }
         ensures refused { IfErr result
             (λ why. OrWriteMemory why (MayReplace (world_of self.old) s key)
             (RefusesReplace (world_of self.old) s key why)

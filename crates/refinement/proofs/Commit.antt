@@ -11,7 +11,7 @@ use Rattle.commit_status.specs.declared.status.Status.{Status}
 use Rattle.commit_status.specs.declared.status.Status.TheVariants.{Committed}
 use Rattle.snapshot.specs.Snap.{Snap}
 use Rattle.history.specs.History.{Transaction, committed, own_or}
-use Rattle.history.specs.World.{World, OpenSession, joined, own_write}
+use Rattle.history.specs.World.{World, OpenSession, joined, own_write, start_now, start_by}
 use Rattle.history.specs.Moves.{aborted, transaction_of, committed_by, appended}
 use Rattle.history.proofs.HistoryLemmas.{at_same, at_other, committed-push_all}
 use Rattle.refinement.specs.Heap.{SeenSession, Heap}
@@ -49,20 +49,26 @@ committed-is w s m there = ap (λ history. world history) (ap (appended w.histor
     world : List Transaction → World
     world history = record (aborted w s) { history = history }
 
+-- who reads by snapshot starts where it did, whatever has committed since
+SessionAgrees-since : {status : ℕ → Option Status} {store : Tid → Option Version} {history : List Transaction} {sees : ℕ → Type 0} {e : SeenSession} {m : OpenSession} (before : List Transaction)
+    → SessionAgrees status store history sees (start_now before m) sees e m → SessionAgrees status store history sees (start_now history m) sees e m
+SessionAgrees-since {status} {store} {history} {sees} {e} {m} before h =
+    subst (λ start. SessionAgrees status store history sees start sees e m) (sym (ap (λ isolation. start_by isolation history) h.isolation)) h
+
 pub Agrees-commit : (h : Heap) (w : World) (s : ℕ) (e : SeenSession) (m : OpenSession) (status' : ℕ → Option Status) (sees' : Snap → ℕ → Type 0) (session' : ℕ → Option SeenSession)
     → OnlyIs h.session session' s None → h.session s ≡ Some e → w.session s ≡ Some m
     → FinishesIds h.status status' (λ x. Contains e.own x) Committed → SameSights h sees' → ((x : ℕ) → h.sees e.snapshot x ⊎ (¬ h.sees e.snapshot x))
-    → SessionAgrees h.status h.version w.history (h.sees e.snapshot) m.start (h.sees e.snapshot) e m
+    → SessionAgrees h.status h.version w.history (h.sees e.snapshot) (start_now w.history m) (h.sees e.snapshot) e m
     → HeapAgrees h w → HeapAgrees (record h { status = status'; sees = sees'; session = session' }) (with_transaction w s m)
 Agrees-commit h w s e m status' sees' session' only at there finishes same decided mine agrees = record {
   opened = opened-change h h' w w' s agrees only.others models
-      (λ o f n ne bt there' old. SessionAgrees-commit_other e.own (transaction_of m) finishes (same o f bt) (λ x ours theirs. ne (agrees.apart o s f e x bt at theirs ours)) carries
-      (λ k theirs ours. ne (agrees.alone o s k (n, there', theirs) (m, there, ours))) old)
+      (λ o f n ne bt there' old. SessionAgrees-since w.history (SessionAgrees-commit_other e.own (transaction_of m) finishes (same o f bt) (λ x ours theirs. ne (agrees.apart o s f e x bt at theirs ours)) carries
+      (λ k theirs ours. ne (agrees.alone o s k (n, there', theirs) (m, there, ours))) old))
       (λ e' at'. absurd (none-some e' (sym only.itself ∙ at')));
   idle = idle-change h h' w w' s agrees only.others models (λ at'. at_same s None (w.session s));
   waits = waits-aborted w s agrees.waits;
   current = Shows-by_key (λ k. is_some (own_write m k))
-      (λ p v at' ours. (ours_to p v at' ours, ours_back p v at' ours)) (λ k ours. rows-after k ∙ own_or-some (own_write m k) (committed w.history (length w.history) k) (committed w.history m.start k) ours)
+      (λ p v at' ours. (ours_to p v at' ours, ours_back p v at' ours)) (λ k ours. rows-after k ∙ own_or-some (own_write m k) (committed w.history (length w.history) k) (committed w.history (start_now w.history m) k) ours)
       (λ p v at' theirs. (theirs_to p v at' theirs, theirs_back p v at' theirs)) (λ k theirs. rows-after k ∙ own_or-none (own_write m k) (committed w.history (length w.history) k) (both_ways (is_some (own_write m k)) theirs))
       top.rows agrees.current;
   made = λ p y v at' is done z inserter. elim (IsCommitted-commit_cases finishes y done) [
@@ -82,7 +88,7 @@ Agrees-commit h w s e m status' sees' session' only at there finishes same decid
     w' : World
     w' = with_transaction w s m
 
-    top : ReaderAgrees h.status h.version w.history (h.sees e.snapshot) m.start e.own (joined m.levels)
+    top : ReaderAgrees h.status h.version w.history (h.sees e.snapshot) (start_now w.history m) e.own (joined m.levels)
     top = Levels-top e.own e.saved m.levels mine.levels
 
     carries : Traced h.version (λ x. Contains e.own x) (joined m.levels)

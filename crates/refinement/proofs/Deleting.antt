@@ -7,7 +7,7 @@ use Rattle.xid_circle.specs.declared.Tid.{Tid}
 use Rattle.tuple_header.specs.Version.{Version}
 use Rattle.commit_status.specs.declared.status.Status.TheVariants.{InProgress}
 use Rattle.history.specs.History.{Write, written, IsLate}
-use Rattle.history.specs.World.{World, OpenSession, joined, own_write, Holds}
+use Rattle.history.specs.World.{World, OpenSession, joined, own_write, Holds, start_now}
 use Rattle.history.specs.Moves.{put, without_row}
 use Rattle.history.proofs.HistoryLemmas.{at_same, at_other, joined-add_write}
 use Rattle.refinement.specs.Heap.{SeenSession, Heap}
@@ -27,9 +27,9 @@ use Rattle.refinement.proofs.Steps.{waits-put, own_traced}
 -- the version is deleted under an id that the session has
 pub Agrees-delete : (h : Heap) (w : World) (s : ℕ) (e : SeenSession) (m : OpenSession) (x : ℕ) (place : Tid) (old new : Version) (store' : Tid → Option Version)
     → Alters h.version store' place old new → IsDeleted x old new → h.session s ≡ Some e → IsCurrent e x → w.session s ≡ Some m → m.cursor ≡ None
-    → ReaderSees h.status (h.sees e.snapshot) e.own old → ¬ IsLate w.history m.start old.row.key → ((o : ℕ) → o ≢ s → ¬ Holds w o old.row.key)
-    → SessionAgrees h.status h.version w.history (h.sees e.snapshot) m.start (h.sees e.snapshot) e m
-    → HeapAgrees h w → HeapAgrees (record h { version = store' }) (put w s (Some (without_row old.row.key m)))
+    → ReaderSees h.status (h.sees e.snapshot) e.own old → ¬ IsLate w.history (start_now w.history m) old.row.key → ((o : ℕ) → o ≢ s → ¬ Holds w o old.row.key)
+    → SessionAgrees h.status h.version w.history (h.sees e.snapshot) (start_now w.history m) (h.sees e.snapshot) e m
+    → HeapAgrees h w → HeapAgrees (record h { version = store' }) (put w s (Some (without_row w.history old.row.key m)))
 Agrees-delete h w s e m x place old new store' alters deleted at current there bare seen in_time unheld mine agrees = record {
   opened = opened-change h h' w w' s agrees (λ o ne. refl) models
       (λ o f n ne bt there' theirs. SessionAgrees-delete_other x place old new alters deleted active (λ foreign. ne (agrees.apart o s f e x bt at foreign current.mine))
@@ -39,7 +39,7 @@ Agrees-delete h w s e m x place old new store' alters deleted at current there b
       }) theirs)
       (λ e' at'. let is : e ≡ e' = same_Some e e' (sym at ∙ at') in
       subst (λ e. Matches h' w' s e) is
-      (without_row old.row.key m, at_same s (Some (without_row old.row.key m)) (w.session s), SessionAgrees-delete x place old new alters deleted current bare seen in_time dead mine));
+      (without_row w.history old.row.key m, at_same s (Some (without_row w.history old.row.key m)) (w.session s), SessionAgrees-delete x place old new alters deleted current bare seen in_time dead mine));
   idle = idle-change h h' w w' s agrees (λ o ne. refl) models (λ at'. absurd (none-some e (sym at' ∙ at)));
   waits = waits-put w s agrees.waits;
   current = Shows-alter_same alters deleted.same_row still before (λ p v bt seen. seen) (λ p v bt seen. seen) agrees.current;
@@ -55,7 +55,7 @@ Agrees-delete h w s e m x place old new store' alters deleted at current there b
   apart = agrees.apart;
   alone = alone-change h h' w w' s agrees (λ o ne. refl) models (λ o k ne p q. elim (cases_eq k old.row.key) [
     | inl same ↦ unheld o ne (subst (λ k. Holds w o k) same q)
-    | inr ne' ↦ (let is : p.0 ≡ without_row old.row.key m = same_Some p.0 (without_row old.row.key m) (sym p.1 ∙ at_same s (Some (without_row old.row.key m)) (w.session s)) in
+    | inr ne' ↦ (let is : p.0 ≡ without_row w.history old.row.key m = same_Some p.0 (without_row w.history old.row.key m) (sym p.1 ∙ at_same s (Some (without_row w.history old.row.key m)) (w.session s)) in
         ne (agrees.alone o s k q (
           m,
           there,
@@ -66,19 +66,19 @@ Agrees-delete h w s e m x place old new store' alters deleted at current there b
 }
   where
     write : Write
-    write = record { start = m.start; key = old.row.key; row = None }
+    write = record { start = start_now w.history m; key = old.row.key; row = None }
 
     h' : Heap
     h' = record h { version = store' }
 
     w' : World
-    w' = put w s (Some (without_row old.row.key m))
+    w' = put w s (Some (without_row w.history old.row.key m))
 
     active : IsRunning h.status x
     active = mine.own_active x current.mine
 
     models : (o : ℕ) → o ≢ s → w'.session o ≡ w.session o
-    models o ne = at_other o s (Some (without_row old.row.key m)) (w.session o) ne
+    models o ne = at_other o s (Some (without_row w.history old.row.key m)) (w.session o) ne
 
     -- what deleted it before, if anything did, was rolled back
     dead : (y : ℕ) → deleter old.header ≡ Some y → ¬ HasCommitted h.status y

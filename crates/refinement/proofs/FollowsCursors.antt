@@ -10,7 +10,7 @@ use Rattle.tuple_header.specs.declared.version.Row.{Row}
 use Rattle.tuple_header.specs.Version.{Version}
 use Rattle.commit_status.specs.declared.status.Status.{Status}
 use Rattle.history.specs.History.{Transaction}
-use Rattle.history.specs.World.{World, OpenSession, Cursor, by_index, by_heap, view, IsReady, world_sessions}
+use Rattle.history.specs.World.{World, OpenSession, Cursor, by_index, by_heap, view, IsReady, world_sessions, start_now}
 use Rattle.history.specs.Cursors.{rows_within, keys_of}
 use Rattle.history.specs.Moves.{change, past, with_taken}
 use Rattle.calls.specs.declared.step.Step.{Step}
@@ -47,11 +47,12 @@ ready : (h : Heap) (w : World) (s : ℕ) (e : SeenSession) (at : h.session s ≡
 ready h w s e at agrees sound = let open_ = agrees.opened s e at in record { there = open_.1; sound = sym open_.2.same_failed ∙ sound }
 
 -- the cursor alone changes, on both sides
-SessionAgrees-cursor : {status : ℕ → Option Status} {store : Tid → Option Version} {history : List Transaction} {sees : ℕ → Type 0} {e : SeenSession} {m : OpenSession} (position : Option Position) (c : Option Cursor)
+SessionAgrees-cursor : {status : ℕ → Option Status} {store : Tid → Option Version} {history : List Transaction} {sees : ℕ → Type 0} {start : ℕ} {e : SeenSession} {m : OpenSession} (position : Option Position) (c : Option Cursor)
     → CursorAgrees store (ReaderSees status sees e.own) position c
-    → SessionAgrees status store history sees m.start sees e m → SessionAgrees status store history sees m.start sees (record e { cursor = position }) (record m { cursor = c })
-SessionAgrees-cursor {status} {store} {history} {sees} {e} {m} position c now mine = record {
+    → SessionAgrees status store history sees start sees e m → SessionAgrees status store history sees start sees (record e { cursor = position }) (record m { cursor = c })
+SessionAgrees-cursor {status} {store} {history} {sees} {start} {e} {m} position c now mine = record {
   same_failed = mine.same_failed;
+  isolation = mine.isolation;
   cursor = now;
   levels = mine.levels;
   level_traces = mine.level_traces;
@@ -64,7 +65,7 @@ SessionAgrees-cursor {status} {store} {history} {sees} {e} {m} position c now mi
 
 Agrees-cursor : (h : Heap) (w : World) (s : ℕ) (e : SeenSession) (position : Option Position) (f : OpenSession → Option Cursor) (session' : ℕ → Option SeenSession)
     → OnlyIs h.session session' s (Some (record e { cursor = position })) → h.session s ≡ Some e
-    → ((m : OpenSession) → SessionAgrees h.status h.version w.history (h.sees e.snapshot) m.start (h.sees e.snapshot) e m → CursorAgrees h.version (seen_by h e) position (f m))
+    → ((m : OpenSession) → SessionAgrees h.status h.version w.history (h.sees e.snapshot) (start_now w.history m) (h.sees e.snapshot) e m → CursorAgrees h.version (seen_by h e) position (f m))
     → HeapAgrees h w → HeapAgrees (record h { session = session' }) (change w s (λ m. record m { cursor = f m }))
 Agrees-cursor h w s e position f session' only at now agrees =
     Agrees-change h w s e (record e { cursor = position }) (λ m. record m { cursor = f m }) h.status h.sees session' only at (Finishes-none h.status e.own) (same_sights h) (λ m mine x ours. ours)

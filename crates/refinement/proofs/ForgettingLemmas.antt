@@ -40,10 +40,11 @@ module _ (h : Heap) (status' : ℕ → Option Status) (sees' : Snap → ℕ → 
   read-back s e own at p x v there touch (by_itself mine) = by_itself mine
   read-back s e own at p x v there touch (by_others sees done) = by_others ((f.sight s e at x Committed committed-stays done).1 sees) (known x Committed done)
 
-  SessionAgrees-forgets : {history : List Transaction} (s : ℕ) (e : SeenSession) (m : OpenSession) → h.session s ≡ Some e
-      → SessionAgrees h.status h.version history (h.sees e.snapshot) m.start (h.sees e.snapshot) e m → SessionAgrees status' h.version history (sees' e.snapshot) m.start (sees' e.snapshot) e m
-  SessionAgrees-forgets {history} s e m at a = record {
+  SessionAgrees-forgets : {history : List Transaction} {start : ℕ} (s : ℕ) (e : SeenSession) (m : OpenSession) → h.session s ≡ Some e
+      → SessionAgrees h.status h.version history (h.sees e.snapshot) start (h.sees e.snapshot) e m → SessionAgrees status' h.version history (sees' e.snapshot) start (sees' e.snapshot) e m
+  SessionAgrees-forgets {history} {start} s e m at a = record {
     same_failed = a.same_failed;
+    isolation = a.isolation;
     cursor = CursorAgrees-keeps (record {
       to = λ p v there seen. (v, there, VisibleBy-same (λ x touch. read-forth s e e.own at p x v there touch) (λ x touch. read-back s e e.own at p x v there touch) seen, refl);
       back = λ p v there seen. (v, there, VisibleBy-same (λ x touch. read-back s e e.own at p x v there touch) (λ x touch. read-forth s e e.own at p x v there touch) seen, refl);

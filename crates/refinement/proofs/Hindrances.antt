@@ -5,7 +5,7 @@ use Rattle.std.specs.Option.{option_map}
 use Rattle.std.proofs.lemmas.Option.{same_Some, none-some}
 use Rattle.tuple_header.specs.declared.version.Row.{Row}
 use Rattle.history.specs.History.{IsLate}
-use Rattle.history.specs.World.{World, OpenSession, own_write, view, Holds, IsWriter, MayWrite, world_sessions}
+use Rattle.history.specs.World.{World, OpenSession, own_write, view, Holds, IsWriter, MayWrite, world_sessions, start_now}
 use Rattle.history.specs.Moves.{put, as_failed}
 use Rattle.calls.specs.declared.step.Step.TheVariants as step
 use Rattle.calls.specs.declared.reply.Reply.TheVariants as reply
@@ -87,10 +87,10 @@ suits h w s e write found b agrees asks = record {
 }
 
 -- late exactly where the model is
-pub late_for : (h : Heap) (w : World) (s : ℕ) (e : SeenSession) (k : ℕ) (at : h.session s ≡ Some e) (agrees : HeapAgrees h w) → IsLateFor h e k → IsLate w.history (agrees.opened s e at).0.start k
-late_for h w s e k at agrees some = subst (λ k. IsLate w.history (agrees.opened s e at).0.start k) some.3 ((agrees.opened s e at).2.traces.missed_late some.0 some.1 some.2 some.4)
+pub late_for : (h : Heap) (w : World) (s : ℕ) (e : SeenSession) (k : ℕ) (at : h.session s ≡ Some e) (agrees : HeapAgrees h w) → IsLateFor h e k → IsLate w.history (start_now w.history (agrees.opened s e at).0) k
+late_for h w s e k at agrees some = subst (λ k. IsLate w.history (start_now w.history (agrees.opened s e at).0) k) some.3 ((agrees.opened s e at).2.traces.missed_late some.0 some.1 some.2 some.4)
 
-pub in_time : (h : Heap) (w : World) (s : ℕ) (e : SeenSession) (k : ℕ) (at : h.session s ≡ Some e) (agrees : HeapAgrees h w) → ¬ IsLateFor h e k → ¬ IsLate w.history (agrees.opened s e at).0.start k
+pub in_time : (h : Heap) (w : World) (s : ℕ) (e : SeenSession) (k : ℕ) (at : h.session s ≡ Some e) (agrees : HeapAgrees h w) → ¬ IsLateFor h e k → ¬ IsLate w.history (start_now w.history (agrees.opened s e at).0) k
 in_time h w s e k at agrees none late = none ((agrees.opened s e at).2.traces.late_missed k late)
 
 pub Follows-conflict : (h : Heap) (s : ℕ) (e : SeenSession) (write : WriteStep) (found : Option Row) (session' : ℕ → Option SeenSession) → BeginsWrite h s e (key_of write) found → Asks write found → IsLateFor h e (key_of write)

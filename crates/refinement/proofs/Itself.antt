@@ -10,8 +10,8 @@ use Rattle.commit_status.specs.declared.status.Status.{Status}
 use Rattle.commit_status.specs.declared.status.Status.TheVariants.{InProgress, Committed}
 use Rattle.snapshot.specs.Snap.{Snap}
 use Rattle.history.specs.History.{Write, Transaction, committed, written, reading, IsLate}
-use Rattle.history.specs.World.{World, OpenSession, joined}
-use Rattle.history.specs.Moves.{add_write, with_row, without_row, as_failed}
+use Rattle.history.specs.World.{World, by_snapshot, OpenSession, joined, start_now}
+use Rattle.history.specs.Moves.{new_session as new_model, add_write, with_row, without_row, as_failed}
 use Rattle.history.proofs.HistoryLemmas.{IsLate-now, joined-add_write}
 use Rattle.refinement.specs.Heap.{SeenSession}
 use Rattle.visibility.specs.Seeing.{HasCommitted, IsRunning, Reads, by_itself, by_others, VisibleBy, Touches, inserter, deleter}
@@ -30,14 +30,14 @@ use Rattle.refinement.proofs.Traces.{TracesAgree-same, TracesAgree-add, TracesAg
 use Rattle.refinement.proofs.Others.{same_reader, reads_before}
 
 -- what its newest savepoint had, the session has
-pub saved_within : {status : ℕ → Option Status} {store : Tid → Option Version} {history : List Transaction} {sees : ℕ → Type 0} {e : SeenSession} {m : OpenSession} (before : List ℕ)
-    → SessionAgrees status store history sees m.start sees e m → slice_get e.saved 0 ≡ Some before → (x : ℕ) → Contains before x → Contains e.own x
-saved_within {status} {store} {history} {sees} {e} {m} before h is = Levels-within status store history sees m.start e.own e.saved m.levels before h.levels is
+pub saved_within : {status : ℕ → Option Status} {store : Tid → Option Version} {history : List Transaction} {sees : ℕ → Type 0} {start : ℕ} {e : SeenSession} {m : OpenSession} (before : List ℕ)
+    → SessionAgrees status store history sees start sees e m → slice_get e.saved 0 ≡ Some before → (x : ℕ) → Contains before x → Contains e.own x
+saved_within {status} {store} {history} {sees} {start} {e} {m} before h is = Levels-within status store history sees start e.own e.saved m.levels before h.levels is
 
 -- it has one level more than it has savepoints
-pub levels_count : {status : ℕ → Option Status} {store : Tid → Option Version} {history : List Transaction} {sees : ℕ → Type 0} {e : SeenSession} {m : OpenSession}
-    → SessionAgrees status store history sees m.start sees e m → length m.levels ≡ suc (length e.saved)
-levels_count {status} {store} {history} {sees} {e} {m} h = Levels-count status store history sees m.start e.own e.saved m.levels h.levels
+pub levels_count : {status : ℕ → Option Status} {store : Tid → Option Version} {history : List Transaction} {sees : ℕ → Type 0} {start : ℕ} {e : SeenSession} {m : OpenSession}
+    → SessionAgrees status store history sees start sees e m → length m.levels ≡ suc (length e.saved)
+levels_count {status} {store} {history} {sees} {start} {e} {m} h = Levels-count status store history sees start e.own e.saved m.levels h.levels
 
 -- the id is the session's, of its newest level
 pub record IsCurrent (e : SeenSession) (x : ℕ) : Type 0 where
@@ -71,51 +71,54 @@ in_time-write history start new levels in_time before k wrote late = elim (cases
   | inr ne ↦ before k (wrote_before (joined levels) new k ne (subst (λ ws. IsSome (written ws k)) (joined-add_write new levels) wrote)) late
 ]
 
-pub SessionAgrees-insert : {status : ℕ → Option Status} {store store' : Tid → Option Version} {history : List Transaction} {sees : ℕ → Type 0} {e : SeenSession} {m : OpenSession} (x : ℕ) (place : Tid) (new : Version)
-    → AddsVersion store store' place new → IsNew x new → IsCurrent e x → m.cursor ≡ None → reading history m.start (joined m.levels) new.row.key ≡ None → ¬ IsLate history m.start new.row.key
-    → SessionAgrees status store history sees m.start sees e m → SessionAgrees status store' history sees m.start sees e (with_row new.row m)
-SessionAgrees-insert {status} {store} {store'} {history} {sees} {e} {m} x place new adds is_new current bare none in_time h = record {
+pub SessionAgrees-insert : {status : ℕ → Option Status} {store store' : Tid → Option Version} {history : List Transaction} {sees : ℕ → Type 0} {start : ℕ} {e : SeenSession} {m : OpenSession} (x : ℕ) (place : Tid) (new : Version)
+    → AddsVersion store store' place new → IsNew x new → IsCurrent e x → m.cursor ≡ None → reading history start (joined m.levels) new.row.key ≡ None → ¬ IsLate history start new.row.key
+    → SessionAgrees status store history sees start sees e m → SessionAgrees status store' history sees start sees e (with_row history new.row m)
+SessionAgrees-insert {status} {store} {store'} {history} {sees} {start} {e} {m} x place new adds is_new current bare none in_time h = record {
   same_failed = h.same_failed;
+  isolation = h.isolation;
   cursor = CursorAgrees-bare bare h.cursor;
-  levels = levels_write (record { start = m.start; key = new.row.key; row = Some new.row }) e.own e.saved m.levels
-      (λ r. ReaderAgrees-insert x place new adds is_new current.mine none r)
+  levels = levels_write (record { start = start_now history m; key = new.row.key; row = Some new.row }) e.own e.saved m.levels
+      (λ r. ReaderAgrees-insert (start_now history m) x place new adds is_new current.mine none r)
       (λ before own' writes is subset among r. ReaderAgrees-add_other x place new adds is_new (h.own_active x current.mine) (λ mine. current.newest before is (among x mine)) r) h.levels;
-  level_traces = LevelTraces-write x (record { start = m.start; key = new.row.key; row = Some new.row }) e.own e.saved m.levels (nested_of status store history sees m.start e.own e.saved m.levels h.levels) (of_newest e.own e.saved x current.mine current.newest)
-      (λ P writes mine t. Traced-insert m.start x place new adds is_new mine t) (λ P writes other within t. Traced-add_other x place new adds is_new other t) h.level_traces;
+  level_traces = LevelTraces-write x (record { start = start_now history m; key = new.row.key; row = Some new.row }) e.own e.saved m.levels (nested_of status store history sees start e.own e.saved m.levels h.levels) (of_newest e.own e.saved x current.mine current.newest)
+      (λ P writes mine t. Traced-insert (start_now history m) x place new adds is_new mine t) (λ P writes other within t. Traced-add_other x place new adds is_new other t) h.level_traces;
   traces = TracesAgree-add x place new adds is_new (h.own_active x current.mine) h.traces;
   began = h.began;
-  in_time = in_time-write history m.start (record { start = m.start; key = new.row.key; row = Some new.row }) m.levels in_time h.in_time;
+  in_time = in_time-write history start (record { start = start_now history m; key = new.row.key; row = Some new.row }) m.levels in_time h.in_time;
   active_unseen = h.active_unseen;
   own_active = h.own_active;
 }
 
-pub SessionAgrees-delete : {status : ℕ → Option Status} {store store' : Tid → Option Version} {history : List Transaction} {sees : ℕ → Type 0} {e : SeenSession} {m : OpenSession} (x : ℕ) (place : Tid) (old new : Version)
-    → Alters store store' place old new → IsDeleted x old new → IsCurrent e x → m.cursor ≡ None → ReaderSees status sees e.own old → ¬ IsLate history m.start old.row.key → ((y : ℕ) → deleter old.header ≡ Some y → ¬ HasCommitted status y)
-    → SessionAgrees status store history sees m.start sees e m → SessionAgrees status store' history sees m.start sees e (without_row old.row.key m)
-SessionAgrees-delete {status} {store} {store'} {history} {sees} {e} {m} x place old new alters deleted current bare seen in_time dead h = record {
+pub SessionAgrees-delete : {status : ℕ → Option Status} {store store' : Tid → Option Version} {history : List Transaction} {sees : ℕ → Type 0} {start : ℕ} {e : SeenSession} {m : OpenSession} (x : ℕ) (place : Tid) (old new : Version)
+    → Alters store store' place old new → IsDeleted x old new → IsCurrent e x → m.cursor ≡ None → ReaderSees status sees e.own old → ¬ IsLate history start old.row.key → ((y : ℕ) → deleter old.header ≡ Some y → ¬ HasCommitted status y)
+    → SessionAgrees status store history sees start sees e m → SessionAgrees status store' history sees start sees e (without_row history old.row.key m)
+SessionAgrees-delete {status} {store} {store'} {history} {sees} {start} {e} {m} x place old new alters deleted current bare seen in_time dead h = record {
   same_failed = h.same_failed;
+  isolation = h.isolation;
   cursor = CursorAgrees-bare bare h.cursor;
-  levels = levels_write (record { start = m.start; key = old.row.key; row = None }) e.own e.saved m.levels
-      (λ r. ReaderAgrees-delete x place old new alters deleted current.mine seen r)
+  levels = levels_write (record { start = start_now history m; key = old.row.key; row = None }) e.own e.saved m.levels
+      (λ r. ReaderAgrees-delete (start_now history m) x place old new alters deleted current.mine seen r)
       (λ before own' writes is subset among r. ReaderAgrees-delete_other x place old new alters deleted (h.own_active x current.mine) (λ mine. current.newest before is (among x mine))
       (record { uncommitted = dead; foreign = λ y is mine. seen.kept y is (by_itself (subset y (among y mine))) }) r) h.levels;
-  level_traces = LevelTraces-write x (record { start = m.start; key = old.row.key; row = None }) e.own e.saved m.levels (nested_of status store history sees m.start e.own e.saved m.levels h.levels) (of_newest e.own e.saved x current.mine current.newest)
-      (λ P writes mine t. Traced-delete m.start x place old new alters deleted mine t)
+  level_traces = LevelTraces-write x (record { start = start_now history m; key = old.row.key; row = None }) e.own e.saved m.levels (nested_of status store history sees start e.own e.saved m.levels h.levels) (of_newest e.own e.saved x current.mine current.newest)
+      (λ P writes mine t. Traced-delete (start_now history m) x place old new alters deleted mine t)
       (λ P writes other within t. Traced-delete_other x place old new alters deleted other (λ y is p. seen.kept y is (by_itself (within y p))) t) h.level_traces;
   traces = TracesAgree-delete x place old new alters deleted (h.own_active x current.mine) dead h.traces;
   began = h.began;
-  in_time = in_time-write history m.start (record { start = m.start; key = old.row.key; row = None }) m.levels in_time h.in_time;
+  in_time = in_time-write history start (record { start = start_now history m; key = old.row.key; row = None }) m.levels in_time h.in_time;
   active_unseen = h.active_unseen;
   own_active = h.own_active;
 }
 
 -- the session is given an id, of any of its levels
-pub SessionAgrees-give : {status status' : ℕ → Option Status} {store : Tid → Option Version} {history : List Transaction} {sees sees' : ℕ → Type 0} {e : SeenSession} {m : OpenSession} (n x : ℕ)
+pub SessionAgrees-give : {status status' : ℕ → Option Status} {store : Tid → Option Version} {history : List Transaction} {sees sees' : ℕ → Type 0} {start : ℕ} {e : SeenSession} {m : OpenSession} (n x : ℕ)
     → GivesNext status status' x → SameSight status sees sees' → ¬ sees' x → ((p : Tid) (y : ℕ) (v : Version) → At store p v → Touches y v.header → IsSome (status y))
-    → SessionAgrees status store history sees m.start sees e m
-    → SessionAgrees status' store history sees' m.start sees' (with_id n x e) m
-SessionAgrees-give {status} {status'} {store} {history} {sees} {sees'} {e} {m} n x gives same unseen given h = record {
+    → SessionAgrees status store history sees start sees e m
+    → SessionAgrees status' store history sees' start sees' (with_id n x e) m
+SessionAgrees-give {status} {status'} {store} {history} {sees} {sees'} {start} {e} {m} n x gives same unseen given h = record {
   same_failed = h.same_failed;
+  isolation = h.isolation;
   cursor = CursorAgrees-keeps (KeepsSeen-same (λ p v at seen. VisibleBy-same (λ y touch. to e.own y) (λ y touch. back e.own p y v at touch) seen)
       (λ p v at seen. VisibleBy-same (λ y touch. back e.own p y v at touch) (λ y touch. to e.own y) seen)) h.cursor;
   levels = levels n e.own e.saved m.levels h.levels;
@@ -144,11 +147,11 @@ SessionAgrees-give {status} {status'} {store} {history} {sees} {sees'} {e} {m} n
     back own p y v at touch (by_itself mine) = by_itself (old_own own p y v at touch mine)
     back own p y v at touch (by_others seen done) = (let was = IsCommitted-give gives y done in by_others ((same y Committed was).1 seen) was)
 
-    top : (own : List ℕ) (writes : List Write) → ReaderAgrees status store history sees m.start own writes → ReaderAgrees status' store history sees' m.start (own ++ x ∷ []) writes
+    top : (own : List ℕ) (writes : List Write) → ReaderAgrees status store history sees start own writes → ReaderAgrees status' store history sees' start (own ++ x ∷ []) writes
     top own writes r = ReaderAgrees-same (λ p y v at touch. to own y) (back own) (λ k. refl) (λ k. refl) r
 
-    levels : (n : ℕ) (own : List ℕ) (saved : List (List ℕ)) (levels : List (List Write)) → LevelsAgree status store history sees m.start own saved levels
-        → LevelsAgree status' store history sees' m.start (own ++ x ∷ []) (saved_with n x saved) levels
+    levels : (n : ℕ) (own : List ℕ) (saved : List (List ℕ)) (levels : List (List Write)) → LevelsAgree status store history sees start own saved levels
+        → LevelsAgree status' store history sees' start (own ++ x ∷ []) (saved_with n x saved) levels
     levels n own [] [] h = absurd h
     levels zero own [] (ws ∷ []) h = top own (joined (ws ∷ [])) h
     levels (suc n) own [] (ws ∷ []) h = top own (joined (ws ∷ [])) h
@@ -169,10 +172,11 @@ SessionAgrees-give {status} {status'} {store} {history} {sees} {sees'} {e} {m} n
     )
 
 -- the session fails
-pub SessionAgrees-fail : {status : ℕ → Option Status} {store : Tid → Option Version} {history : List Transaction} {sees : ℕ → Type 0} {e : SeenSession} {m : OpenSession}
-    → SessionAgrees status store history sees m.start sees e m → SessionAgrees status store history sees m.start sees (record e { failed = true }) (as_failed m)
+pub SessionAgrees-fail : {status : ℕ → Option Status} {store : Tid → Option Version} {history : List Transaction} {sees : ℕ → Type 0} {start : ℕ} {e : SeenSession} {m : OpenSession}
+    → SessionAgrees status store history sees start sees e m → SessionAgrees status store history sees start sees (record e { failed = true }) (as_failed m)
 SessionAgrees-fail h = record {
   same_failed = refl;
+  isolation = h.isolation;
   cursor = h.cursor;
   levels = h.levels;
   level_traces = h.level_traces;
@@ -188,7 +192,7 @@ abbrev pub new_session : Snap → SeenSession
 new_session snapshot = record { snapshot = snapshot; own = []; saved = []; failed = false; cursor = None }
 
 abbrev pub fresh_model : World → OpenSession
-fresh_model w = record { start = length w.history; levels = [] ∷ []; failed = false; cursor = None }
+fresh_model w = new_model (by_snapshot (length w.history))
 
 pub SessionAgrees-begin : {status : ℕ → Option Status} {store : Tid → Option Version} {sees : ℕ → Type 0} (snapshot : Snap) (w : World)
     → IsFreshSnapshot status sees
@@ -197,6 +201,7 @@ pub SessionAgrees-begin : {status : ℕ → Option Status} {store : Tid → Opti
     → SessionAgrees status store w.history sees (length w.history) sees (new_session snapshot) (fresh_model w)
 SessionAgrees-begin {status} {store} {sees} snapshot w fresh current made = record {
   same_failed = refl;
+  isolation = refl;
   cursor = CursorAgrees-none refl refl;
   levels = record {
     rows = Shows-same (λ p v at seen. VisibleBy-same (λ x touch. to x) (λ x touch. back x) seen) (λ p v at seen. VisibleBy-same (λ x touch. back x) (λ x touch. to x) seen) (λ k. refl) current;

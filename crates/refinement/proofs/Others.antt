@@ -21,14 +21,15 @@ use Rattle.refinement.proofs.Readers.{IsNew, IsDeleted, IsIdle, seen_deleted, se
 use Rattle.refinement.proofs.LevelTraces.{Traced-add_other, Traced-delete_other, nested_of, LevelTraces-map}
 use Rattle.refinement.proofs.Traces.{TracesAgree-same, TracesAgree-add, TracesAgree-delete, TracesAgree-commit, unseen_still}
 
-pub SessionAgrees-add_other : {status : ℕ → Option Status} {store store' : Tid → Option Version} {history : List Transaction} {sees : ℕ → Type 0} {e : SeenSession} {m : OpenSession} (x : ℕ) (place : Tid) (new : Version)
+pub SessionAgrees-add_other : {status : ℕ → Option Status} {store store' : Tid → Option Version} {history : List Transaction} {sees : ℕ → Type 0} {start : ℕ} {e : SeenSession} {m : OpenSession} (x : ℕ) (place : Tid) (new : Version)
     → AddsVersion store store' place new → IsNew x new → IsRunning status x → ¬ Contains e.own x
-    → SessionAgrees status store history sees m.start sees e m → SessionAgrees status store' history sees m.start sees e m
-SessionAgrees-add_other {status} {store} {store'} {history} {sees} {e} {m} x place new adds is_new active foreign h = record {
+    → SessionAgrees status store history sees start sees e m → SessionAgrees status store' history sees start sees e m
+SessionAgrees-add_other {status} {store} {store'} {history} {sees} {start} {e} {m} x place new adds is_new active foreign h = record {
   same_failed = h.same_failed;
+  isolation = h.isolation;
   cursor = CursorAgrees-keeps (KeepsSeen-add adds (λ seen. active_unread active foreign (seen.made x is_new.made))) h.cursor;
   levels = Levels-map e.own e.saved m.levels (λ own writes among r. ReaderAgrees-add_other x place new adds is_new active (λ mine. foreign (among x mine)) r) h.levels;
-  level_traces = LevelTraces-map e.own e.saved m.levels (nested_of status store history sees m.start e.own e.saved m.levels h.levels) (λ P writes within t. Traced-add_other x place new adds is_new (λ p. foreign (within x p)) t) h.level_traces;
+  level_traces = LevelTraces-map e.own e.saved m.levels (nested_of status store history sees start e.own e.saved m.levels h.levels) (λ P writes within t. Traced-add_other x place new adds is_new (λ p. foreign (within x p)) t) h.level_traces;
   traces = TracesAgree-add x place new adds is_new active h.traces;
   began = h.began;
   in_time = h.in_time;
@@ -36,14 +37,15 @@ SessionAgrees-add_other {status} {store} {store'} {history} {sees} {e} {m} x pla
   own_active = h.own_active;
 }
 
-pub SessionAgrees-delete_other : {status : ℕ → Option Status} {store store' : Tid → Option Version} {history : List Transaction} {sees : ℕ → Type 0} {e : SeenSession} {m : OpenSession} (x : ℕ) (place : Tid) (old new : Version)
+pub SessionAgrees-delete_other : {status : ℕ → Option Status} {store store' : Tid → Option Version} {history : List Transaction} {sees : ℕ → Type 0} {start : ℕ} {e : SeenSession} {m : OpenSession} (x : ℕ) (place : Tid) (old new : Version)
     → Alters store store' place old new → IsDeleted x old new → IsRunning status x → ¬ Contains e.own x → IsIdle status e.own old
-    → SessionAgrees status store history sees m.start sees e m → SessionAgrees status store' history sees m.start sees e m
-SessionAgrees-delete_other {status} {store} {store'} {history} {sees} {e} {m} x place old new alters deleted active foreign idle h = record {
+    → SessionAgrees status store history sees start sees e m → SessionAgrees status store' history sees start sees e m
+SessionAgrees-delete_other {status} {store} {store'} {history} {sees} {start} {e} {m} x place old new alters deleted active foreign idle h = record {
   same_failed = h.same_failed;
+  isolation = h.isolation;
   cursor = CursorAgrees-keeps (KeepsSeen-alter alters deleted.same_row (seen_deleted deleted active foreign) (seen_undeleted deleted idle)) h.cursor;
   levels = Levels-map e.own e.saved m.levels (λ own writes among r. ReaderAgrees-delete_other x place old new alters deleted active (λ mine. foreign (among x mine)) (record { uncommitted = idle.uncommitted; foreign = λ y is mine. idle.foreign y is (among y mine) }) r) h.levels;
-  level_traces = LevelTraces-map e.own e.saved m.levels (nested_of status store history sees m.start e.own e.saved m.levels h.levels) (λ P writes within t. Traced-delete_other x place old new alters deleted (λ p. foreign (within x p)) (λ y is p. idle.foreign y is (within y p)) t) h.level_traces;
+  level_traces = LevelTraces-map e.own e.saved m.levels (nested_of status store history sees start e.own e.saved m.levels h.levels) (λ P writes within t. Traced-delete_other x place old new alters deleted (λ p. foreign (within x p)) (λ y is p. idle.foreign y is (within y p)) t) h.level_traces;
   traces = TracesAgree-delete x place old new alters deleted active idle.uncommitted h.traces;
   began = h.began;
   in_time = h.in_time;
@@ -78,11 +80,12 @@ same_seen {status} {status'} {store} {sees} {sees'} own to same back =
     read x reads = Reads-status (to x) (λ done. (same x Committed done).0) reads
 
 -- another session is given an id
-pub SessionAgrees-give_other : {status status' : ℕ → Option Status} {store : Tid → Option Version} {history : List Transaction} {sees sees' : ℕ → Type 0} {e : SeenSession} {m : OpenSession} (x : ℕ)
+pub SessionAgrees-give_other : {status status' : ℕ → Option Status} {store : Tid → Option Version} {history : List Transaction} {sees sees' : ℕ → Type 0} {start : ℕ} {e : SeenSession} {m : OpenSession} (x : ℕ)
     → GivesNext status status' x → SameSight status sees sees' → ¬ sees' x
-    → SessionAgrees status store history sees m.start sees e m → SessionAgrees status' store history sees' m.start sees' e m
-SessionAgrees-give_other {status} {status'} {store} {history} {sees} {sees'} {e} {m} x gives same unseen h = record {
+    → SessionAgrees status store history sees start sees e m → SessionAgrees status' store history sees' start sees' e m
+SessionAgrees-give_other {status} {status'} {store} {history} {sees} {sees'} {start} {e} {m} x gives same unseen h = record {
   same_failed = h.same_failed;
+  isolation = h.isolation;
   cursor = CursorAgrees-keeps (same_seen e.own (λ y done. keeps-give gives y Committed done) same (reads_before e.own (λ y done. IsCommitted-give gives y done) same)) h.cursor;
   levels = Levels-map e.own e.saved m.levels (λ own writes among r. same_reader own writes (λ y done. keeps-give gives y Committed done) same (reads_before own (λ y done. IsCommitted-give gives y done) same) (λ k. refl) r) h.levels;
   level_traces = h.level_traces;
@@ -97,11 +100,12 @@ SessionAgrees-give_other {status} {status'} {store} {history} {sees} {sees'} {e}
 }
 
 -- ids of another session are rolled back
-pub SessionAgrees-abort_other : {status status' : ℕ → Option Status} {store : Tid → Option Version} {history : List Transaction} {sees sees' : ℕ → Type 0} {e : SeenSession} {m : OpenSession} (P : ℕ → Type 0)
+pub SessionAgrees-abort_other : {status status' : ℕ → Option Status} {store : Tid → Option Version} {history : List Transaction} {sees sees' : ℕ → Type 0} {start : ℕ} {e : SeenSession} {m : OpenSession} (P : ℕ → Type 0)
     → FinishesIds status status' P Aborted → SameSight status sees sees' → ((x : ℕ) → P x → ¬ Contains e.own x)
-    → SessionAgrees status store history sees m.start sees e m → SessionAgrees status' store history sees' m.start sees' e m
-SessionAgrees-abort_other {status} {status'} {store} {history} {sees} {sees'} {e} {m} P finishes same foreign h = record {
+    → SessionAgrees status store history sees start sees e m → SessionAgrees status' store history sees' start sees' e m
+SessionAgrees-abort_other {status} {status'} {store} {history} {sees} {sees'} {start} {e} {m} P finishes same foreign h = record {
   same_failed = h.same_failed;
+  isolation = h.isolation;
   cursor = CursorAgrees-keeps (same_seen e.own (λ y done. IsCommitted-finish_old finishes y done) same (reads_before e.own (λ y done. IsCommitted-abort finishes y done) same)) h.cursor;
   levels = Levels-map e.own e.saved m.levels (λ own writes among r. same_reader own writes (λ y done. IsCommitted-finish_old finishes y done) same (reads_before own (λ y done. IsCommitted-abort finishes y done) same) (λ k. refl) r) h.levels;
   level_traces = h.level_traces;
@@ -113,18 +117,19 @@ SessionAgrees-abort_other {status} {status'} {store} {history} {sees} {sees'} {e
 }
 
 -- another session commits
-pub SessionAgrees-commit_other : {status status' : ℕ → Option Status} {store : Tid → Option Version} {history : List Transaction} {sees sees' : ℕ → Type 0} {e : SeenSession} {m : OpenSession} (own : List ℕ) (t : Transaction)
+pub SessionAgrees-commit_other : {status status' : ℕ → Option Status} {store : Tid → Option Version} {history : List Transaction} {sees sees' : ℕ → Type 0} {start : ℕ} {e : SeenSession} {m : OpenSession} (own : List ℕ) (t : Transaction)
     → FinishesIds status status' (λ x. Contains own x) Committed → SameSight status sees sees' → ((x : ℕ) → Contains own x → ¬ Contains e.own x) → Traced store (λ x. Contains own x) t
     → ((k : ℕ) → IsSome (own_write m k) → IsSome (written t k) → ⊥)
-    → SessionAgrees status store history sees m.start sees e m → SessionAgrees status' store (history ++ t ∷ []) sees' m.start sees' e m
-SessionAgrees-commit_other {status} {status'} {store} {history} {sees} {sees'} {e} {m} own t finishes same foreign carries alone h = record {
+    → SessionAgrees status store history sees start sees e m → SessionAgrees status' store (history ++ t ∷ []) sees' start sees' e m
+SessionAgrees-commit_other {status} {status'} {store} {history} {sees} {sees'} {start} {e} {m} own t finishes same foreign carries alone h = record {
   same_failed = h.same_failed;
+  isolation = h.isolation;
   cursor = CursorAgrees-keeps (same_seen e.own (λ y done. IsCommitted-finish_old finishes y done) same (back e.own)) h.cursor;
-  levels = Levels-map e.own e.saved m.levels (λ own' writes among r. same_reader own' writes (λ y done. IsCommitted-finish_old finishes y done) same (back own') (λ k. committed-push_before history t m.start k h.began) r) h.levels;
+  levels = Levels-map e.own e.saved m.levels (λ own' writes among r. same_reader own' writes (λ y done. IsCommitted-finish_old finishes y done) same (back own') (λ k. committed-push_before history t start k h.began) r) h.levels;
   level_traces = h.level_traces;
   traces = TracesAgree-commit own t finishes same carries h.began (λ x mine. h.active_unseen x (finishes.active x mine)) h.traces;
   began = (let old = h.began in omega (arith, length-append history (t ∷ [])));
-  in_time = λ k wrote late. elim (IsLate-push_cases history t m.start k late) [ inl old ↦ h.in_time k wrote old | inr theirs ↦ alone k wrote theirs ];
+  in_time = λ k wrote late. elim (IsLate-push_cases history t start k late) [ inl old ↦ h.in_time k wrote old | inr theirs ↦ alone k wrote theirs ];
   active_unseen = λ y after. let old = (IsActive-finish (λ e. cc) finishes y after).0 in unseen_still same y InProgress old (h.active_unseen y old);
   own_active = λ y mine. IsActive-finish_other finishes y (λ p. foreign y p mine) (h.own_active y mine);
 }

@@ -109,15 +109,16 @@ ReaderAgrees-prune removes reader made h = record {
   whole = λ p y v at is reads. h.whole p y v (removes.kept p v at) is reads;
 }
 
-SessionAgrees-prune : {status : ℕ → Option Status} {store store' : Tid → Option Version} {history : List Transaction} {sees : Snap → ℕ → Type 0} {session : ℕ → Option SeenSession} (s : ℕ) (e : SeenSession) (m : OpenSession)
+SessionAgrees-prune : {status : ℕ → Option Status} {store store' : Tid → Option Version} {history : List Transaction} {sees : Snap → ℕ → Type 0} {session : ℕ → Option SeenSession} {start : ℕ} (s : ℕ) (e : SeenSession) (m : OpenSession)
     → MayRemove store store' (IsPast status sees session) → session s ≡ Some e
     → ((p : Tid) (y : ℕ) (v : Version) → At store p v → deleter v.header ≡ Some y → HasCommitted status y → (x : ℕ) → inserter v.header ≡ Some x → HasCommitted status x)
-    → SessionAgrees status store history (sees e.snapshot) m.start (sees e.snapshot) e m → SessionAgrees status store' history (sees e.snapshot) m.start (sees e.snapshot) e m
-SessionAgrees-prune {status} {store} {store'} {history} {sees} {session} s e m removes at made h = record {
+    → SessionAgrees status store history (sees e.snapshot) start (sees e.snapshot) e m → SessionAgrees status store' history (sees e.snapshot) start (sees e.snapshot) e m
+SessionAgrees-prune {status} {store} {store'} {history} {sees} {session} {start} s e m removes at made h = record {
   same_failed = h.same_failed;
+  isolation = h.isolation;
   cursor = CursorAgrees-keeps (KeepsSeen-removes removes (λ p v bt past. past_unseen (reader e.own (λ x mine. mine)) v past)) h.cursor;
   levels = Levels-map e.own e.saved m.levels (λ own writes among r. ReaderAgrees-prune removes (reader own among) made r) h.levels;
-  level_traces = LevelTraces-map e.own e.saved m.levels (nested_of status store history (sees e.snapshot) m.start e.own e.saved m.levels h.levels)
+  level_traces = LevelTraces-map e.own e.saved m.levels (nested_of status store history (sees e.snapshot) start e.own e.saved m.levels h.levels)
       (λ P writes within t. Traced-removes removes (λ p v bt past by. past_foreign (reader e.own (λ x mine. mine)) made (Levels-top e.own e.saved m.levels h.levels) p v bt past (by.0, by.1, within by.0 by.2)) t) h.level_traces;
   traces = record {
     late_missed = λ k late. SomeVersion-removes removes (λ p v bt past. past_seen (reader e.own (λ x mine. mine)) made (Levels-top e.own e.saved m.levels h.levels) p v bt past) k (h.traces.late_missed k late);

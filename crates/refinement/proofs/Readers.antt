@@ -107,10 +107,10 @@ pub wrote_still : (writes : List Write) (new : Write) (k : ℕ) → IsSome (writ
 wrote_still writes new k wrote = elim (cases_eq k new.key) [ inl same ↦ wrote_same writes new k same | inr ne ↦ subst (λ o. IsSome o) (sym (written-push_other writes new k ne)) wrote ]
 
 -- the reader itself writes a row
-pub ReaderAgrees-insert : {status : ℕ → Option Status} {store store' : Tid → Option Version} {history : List Transaction} {sees : ℕ → Type 0} {start : ℕ} {own : List ℕ} {writes : List Write} (x : ℕ) (place : Tid) (new : Version)
+pub ReaderAgrees-insert : {status : ℕ → Option Status} {store store' : Tid → Option Version} {history : List Transaction} {sees : ℕ → Type 0} {start : ℕ} {own : List ℕ} {writes : List Write} (since x : ℕ) (place : Tid) (new : Version)
     → AddsVersion store store' place new → IsNew x new → Contains own x → reading history start writes new.row.key ≡ None
-    → ReaderAgrees status store history sees start own writes → ReaderAgrees status store' history sees start own (writes ++ record { start = start; key = new.row.key; row = Some new.row } ∷ [])
-ReaderAgrees-insert {status} {store} {store'} {history} {sees} {start} {own} {writes} x place new adds is_new mine none h = record {
+    → ReaderAgrees status store history sees start own writes → ReaderAgrees status store' history sees start own (writes ++ record { start = since; key = new.row.key; row = Some new.row } ∷ [])
+ReaderAgrees-insert {status} {store} {store'} {history} {sees} {start} {own} {writes} since x place new adds is_new mine none h = record {
   rows = Shows-add_seen adds (λ p v at seen. seen) (λ p v at seen. seen)
       (record { made = λ y is. by_itself (subst (λ z. Contains own z) (same_Some x y (sym is_new.made ∙ is)) mine); kept = λ y is. absurd (none-some y (sym is_new.kept ∙ is)) }) none
       (ap (λ o. own_or o (committed history start new.row.key)) (written-push_same writes write))
@@ -123,13 +123,13 @@ ReaderAgrees-insert {status} {store} {store'} {history} {sees} {start} {own} {wr
 }
   where
     write : Write
-    write = record { start = start; key = new.row.key; row = Some new.row }
+    write = record { start = since; key = new.row.key; row = Some new.row }
 
 -- the reader itself deletes a version that it sees
-pub ReaderAgrees-delete : {status : ℕ → Option Status} {store store' : Tid → Option Version} {history : List Transaction} {sees : ℕ → Type 0} {start : ℕ} {own : List ℕ} {writes : List Write} (x : ℕ) (place : Tid) (old new : Version)
+pub ReaderAgrees-delete : {status : ℕ → Option Status} {store store' : Tid → Option Version} {history : List Transaction} {sees : ℕ → Type 0} {start : ℕ} {own : List ℕ} {writes : List Write} (since x : ℕ) (place : Tid) (old new : Version)
     → Alters store store' place old new → IsDeleted x old new → Contains own x → ReaderSees status sees own old
-    → ReaderAgrees status store history sees start own writes → ReaderAgrees status store' history sees start own (writes ++ record { start = start; key = old.row.key; row = None } ∷ [])
-ReaderAgrees-delete {status} {store} {store'} {history} {sees} {start} {own} {writes} x place old new alters deleted mine seen_old h = record {
+    → ReaderAgrees status store history sees start own writes → ReaderAgrees status store' history sees start own (writes ++ record { start = since; key = old.row.key; row = None } ∷ [])
+ReaderAgrees-delete {status} {store} {store'} {history} {sees} {start} {own} {writes} since x place old new alters deleted mine seen_old h = record {
   rows = Shows-alter_hidden alters seen_old (λ seen. seen.kept x deleted.by (by_itself mine))
       (ap (λ o. own_or o (committed history start old.row.key)) (written-push_same writes write))
       (λ k ne. ap (λ o. own_or o (committed history start k)) (written-push_other writes write k ne))
@@ -141,7 +141,7 @@ ReaderAgrees-delete {status} {store} {store'} {history} {sees} {start} {own} {wr
 }
   where
     write : Write
-    write = record { start = start; key = old.row.key; row = None }
+    write = record { start = since; key = old.row.key; row = None }
 
 -- each reader of a session, one by one
 pub Levels-map : {status status' : ℕ → Option Status} {store store' : Tid → Option Version} {history history' : List Transaction} {sees sees' : ℕ → Type 0} {start : ℕ} (own : List ℕ) (saved : List (List ℕ)) (levels : List (List Write))

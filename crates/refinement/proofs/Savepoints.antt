@@ -9,7 +9,7 @@ use Rattle.commit_status.specs.declared.status.Status.{Status}
 use Rattle.commit_status.specs.declared.status.Status.TheVariants.{InProgress, Aborted}
 use Rattle.snapshot.specs.Snap.{Snap}
 use Rattle.history.specs.History.{Write, Transaction, written}
-use Rattle.history.specs.World.{World, OpenSession, joined, own_write}
+use Rattle.history.specs.World.{World, OpenSession, joined, own_write, start_now}
 use Rattle.history.specs.Moves.{put, change, awaited_no_more, with_savepoint, empty_newest, to_savepoint, rolled_back_to, join_newest, without_savepoint}
 use Rattle.history.specs.Cursors.{kept_where}
 use Rattle.history.proofs.HistoryLemmas.{joined-join_newest}
@@ -36,12 +36,13 @@ joined-empty : (levels : List (List Write)) → joined ([] ∷ levels) ≡ joine
 joined-empty levels = append-nil (joined levels)
 
 -- the session as it is could be returned to
-pub SessionAgrees-save : {status : ℕ → Option Status} {store : Tid → Option Version} {history : List Transaction} {sees : ℕ → Type 0} {e : SeenSession} {m : OpenSession}
-    → SessionAgrees status store history sees m.start sees e m → SessionAgrees status store history sees m.start sees (record e { saved = e.own ∷ e.saved }) (with_savepoint m)
-SessionAgrees-save {status} {store} {history} {sees} {e} {m} h = record {
+pub SessionAgrees-save : {status : ℕ → Option Status} {store : Tid → Option Version} {history : List Transaction} {sees : ℕ → Type 0} {start : ℕ} {e : SeenSession} {m : OpenSession}
+    → SessionAgrees status store history sees start sees e m → SessionAgrees status store history sees start sees (record e { saved = e.own ∷ e.saved }) (with_savepoint m)
+SessionAgrees-save {status} {store} {history} {sees} {start} {e} {m} h = record {
   same_failed = h.same_failed;
+  isolation = h.isolation;
   cursor = h.cursor;
-  levels = (subst (λ writes. ReaderAgrees status store history sees m.start e.own writes) (sym (joined-empty m.levels)) (Levels-top e.own e.saved m.levels h.levels), λ x mine. mine, h.levels);
+  levels = (subst (λ writes. ReaderAgrees status store history sees start e.own writes) (sym (joined-empty m.levels)) (Levels-top e.own e.saved m.levels h.levels), λ x mine. mine, h.levels);
   level_traces = (Traced-none (λ x is. is.1 is.0), h.level_traces);
   traces = h.traces;
   began = h.began;
@@ -56,14 +57,15 @@ emptied _ own before older [] h = absurd h
 emptied _ own before older (ws ∷ levels) h = (Traced-none (λ x is. is.1 is.0), h.1)
 
 -- the ids since the newest savepoint are rolled back, and the writes since forgotten
-pub SessionAgrees-roll_back : {status status' : ℕ → Option Status} {store : Tid → Option Version} {history : List Transaction} {sees sees' : ℕ → Type 0} {e : SeenSession} {m : OpenSession} (before : List ℕ) (older : List (List ℕ))
+pub SessionAgrees-roll_back : {status status' : ℕ → Option Status} {store : Tid → Option Version} {history : List Transaction} {sees sees' : ℕ → Type 0} {start : ℕ} {e : SeenSession} {m : OpenSession} (before : List ℕ) (older : List (List ℕ))
     → e.saved ≡ before ∷ older → e.cursor ≡ None → FinishesIds status status' (λ x. Contains e.own x × (¬ Contains before x)) Aborted → SameSight status sees sees'
-    → SessionAgrees status store history sees m.start sees e m → SessionAgrees status' store history sees' m.start sees' (record e { own = before; failed = false }) (to_savepoint m)
-SessionAgrees-roll_back {status} {status'} {store} {history} {sees} {sees'} {e} {m} before older is bare finishes same h = record {
+    → SessionAgrees status store history sees start sees e m → SessionAgrees status' store history sees' start sees' (record e { own = before; failed = false }) (to_savepoint m)
+SessionAgrees-roll_back {status} {status'} {store} {history} {sees} {sees'} {start} {e} {m} before older is bare finishes same h = record {
   same_failed = refl;
+  isolation = h.isolation;
   cursor = CursorAgrees-bare (h.cursor.closed bare) h.cursor;
-  levels = subst (λ saved. LevelsAgree status' store history sees' m.start before saved (empty_newest m.levels)) (sym is)
-      (back e.own m.levels (subst (λ saved. LevelsAgree status store history sees m.start e.own saved m.levels) is h.levels));
+  levels = subst (λ saved. LevelsAgree status' store history sees' start before saved (empty_newest m.levels)) (sym is)
+      (back e.own m.levels (subst (λ saved. LevelsAgree status store history sees start e.own saved m.levels) is h.levels));
   level_traces = subst (λ saved. LevelTraces store before saved (empty_newest m.levels)) (sym is) (emptied store e.own before older m.levels (subst (λ saved. LevelTraces store e.own saved m.levels) is h.level_traces));
   traces = TracesAgree-same (λ y done. IsCommitted-finish_old finishes y done) (λ y done. IsCommitted-abort finishes y done) same h.traces;
   began = h.began;
@@ -72,11 +74,11 @@ SessionAgrees-roll_back {status} {status'} {store} {history} {sees} {sees'} {e} 
   own_active = λ y mine. IsActive-finish_other finishes y (λ p. p.1 mine) (h.own_active y (saved_within before h (ap (λ saved. slice_get saved 0) is) y mine));
 }
   where
-    back : (own : List ℕ) (levels : List (List Write)) → LevelsAgree status store history sees m.start own (before ∷ older) levels → LevelsAgree status' store history sees' m.start before (before ∷ older) (empty_newest levels)
+    back : (own : List ℕ) (levels : List (List Write)) → LevelsAgree status store history sees start own (before ∷ older) levels → LevelsAgree status' store history sees' start before (before ∷ older) (empty_newest levels)
     back own [] h = absurd h
     back own (ws ∷ levels) h =
         let kept = Levels-map before older levels (λ own' writes among r. same_reader own' writes (λ y done. IsCommitted-finish_old finishes y done) same (reads_before own' (λ y done. IsCommitted-abort finishes y done) same) (λ k. refl) r) h.2 in
-        (subst (λ writes. ReaderAgrees status' store history sees' m.start before writes) (sym (joined-empty levels)) (Levels-top before older levels kept), λ x mine. mine, kept)
+        (subst (λ writes. ReaderAgrees status' store history sees' start before writes) (sym (joined-empty levels)) (Levels-top before older levels kept), λ x mine. mine, kept)
 
 -- the ids of two levels are those of one
 joined_traces : (store : Tid → Option Version) (own before : List ℕ) (older : List (List ℕ)) (levels : List (List Write)) → Nested own (before ∷ older)
@@ -94,13 +96,14 @@ joined_traces _ own before (first ∷ older) (ws ∷ (vs ∷ levels)) nested h =
 )
 
 -- the newest savepoint is forgotten, and its level joins the one below
-pub SessionAgrees-release : {status : ℕ → Option Status} {store : Tid → Option Version} {history : List Transaction} {sees : ℕ → Type 0} {e : SeenSession} {m : OpenSession} (before : List ℕ) (older : List (List ℕ))
-    → e.saved ≡ before ∷ older → SessionAgrees status store history sees m.start sees e m → SessionAgrees status store history sees m.start sees (record e { saved = older }) (without_savepoint m)
-SessionAgrees-release {status} {store} {history} {sees} {e} {m} before older is h = record {
+pub SessionAgrees-release : {status : ℕ → Option Status} {store : Tid → Option Version} {history : List Transaction} {sees : ℕ → Type 0} {start : ℕ} {e : SeenSession} {m : OpenSession} (before : List ℕ) (older : List (List ℕ))
+    → e.saved ≡ before ∷ older → SessionAgrees status store history sees start sees e m → SessionAgrees status store history sees start sees (record e { saved = older }) (without_savepoint m)
+SessionAgrees-release {status} {store} {history} {sees} {start} {e} {m} before older is h = record {
   same_failed = h.same_failed;
+  isolation = h.isolation;
   cursor = h.cursor;
-  levels = joins older m.levels (subst (λ saved. LevelsAgree status store history sees m.start e.own saved m.levels) is h.levels);
-  level_traces = joined_traces store e.own before older m.levels (subst (λ saved. Nested e.own saved) is (nested_of status store history sees m.start e.own e.saved m.levels h.levels)) (subst (λ saved. LevelTraces store e.own saved m.levels) is h.level_traces);
+  levels = joins older m.levels (subst (λ saved. LevelsAgree status store history sees start e.own saved m.levels) is h.levels);
+  level_traces = joined_traces store e.own before older m.levels (subst (λ saved. Nested e.own saved) is (nested_of status store history sees start e.own e.saved m.levels h.levels)) (subst (λ saved. LevelTraces store e.own saved m.levels) is h.level_traces);
   traces = h.traces;
   began = h.began;
   in_time = λ k wrote. h.in_time k (subst (λ writes. IsSome (written writes k)) (joined-join_newest m.levels) wrote);
@@ -108,10 +111,10 @@ SessionAgrees-release {status} {store} {history} {sees} {e} {m} before older is 
   own_active = h.own_active;
 }
   where
-    top : (levels : List (List Write)) → ReaderAgrees status store history sees m.start e.own (joined levels) → ReaderAgrees status store history sees m.start e.own (joined (join_newest levels))
-    top levels r = subst (λ writes. ReaderAgrees status store history sees m.start e.own writes) (sym (joined-join_newest levels)) r
+    top : (levels : List (List Write)) → ReaderAgrees status store history sees start e.own (joined levels) → ReaderAgrees status store history sees start e.own (joined (join_newest levels))
+    top levels r = subst (λ writes. ReaderAgrees status store history sees start e.own writes) (sym (joined-join_newest levels)) r
 
-    joins : (older : List (List ℕ)) (levels : List (List Write)) → LevelsAgree status store history sees m.start e.own (before ∷ older) levels → LevelsAgree status store history sees m.start e.own older (join_newest levels)
+    joins : (older : List (List ℕ)) (levels : List (List Write)) → LevelsAgree status store history sees start e.own (before ∷ older) levels → LevelsAgree status store history sees start e.own older (join_newest levels)
     joins older [] h = absurd h
     joins [] (ws ∷ []) h = absurd h.2
     joins (first ∷ older) (ws ∷ []) h = absurd h.2
@@ -122,9 +125,9 @@ SessionAgrees-release {status} {store} {history} {sees} {e} {m} before older is 
 -- one session alone changes, as the model's does
 pub Agrees-change : (h : Heap) (w : World) (s : ℕ) (e e' : SeenSession) (f : OpenSession → OpenSession) (status' : ℕ → Option Status) (sees' : Snap → ℕ → Type 0) (session' : ℕ → Option SeenSession)
     → OnlyIs h.session session' s (Some e') → h.session s ≡ Some e → FinishesIds h.status status' (λ x. Contains e.own x × (¬ Contains e'.own x)) Aborted → SameSights h sees'
-    → ((m : OpenSession) → SessionAgrees h.status h.version w.history (h.sees e.snapshot) m.start (h.sees e.snapshot) e m → (x : ℕ) → Contains e'.own x → Contains e.own x)
+    → ((m : OpenSession) → SessionAgrees h.status h.version w.history (h.sees e.snapshot) (start_now w.history m) (h.sees e.snapshot) e m → (x : ℕ) → Contains e'.own x → Contains e.own x)
     → ((m : OpenSession) (k : ℕ) → IsSome (own_write (f m) k) → IsSome (own_write m k))
-    → ((m : OpenSession) → SessionAgrees h.status h.version w.history (h.sees e.snapshot) m.start (h.sees e.snapshot) e m → SessionAgrees status' h.version w.history (sees' e'.snapshot) (f m).start (sees' e'.snapshot) e' (f m))
+    → ((m : OpenSession) → SessionAgrees h.status h.version w.history (h.sees e.snapshot) (start_now w.history m) (h.sees e.snapshot) e m → SessionAgrees status' h.version w.history (sees' e'.snapshot) (start_now w.history (f m)) (sees' e'.snapshot) e' (f m))
     → HeapAgrees h w → HeapAgrees (record h { status = status'; sees = sees'; session = session' }) (change w s f)
 Agrees-change h w s e e' f status' sees' session' only at finishes same fewer kept mine agrees =
     let open_ = agrees.opened s e at in

@@ -135,13 +135,14 @@ module _ (h : Heap) where
         whole p y v u bt vs (MakerSettles.stays m) (DeleterSettles.goes z at' none gone) is reads x made = absurd (none-some y (sym none ∙ is))
         whole p y v u bt vs (MakerSettles.settles z at' none done all) d is reads x made = absurd (none-some x (sym none ∙ made))
 
-    SessionAgrees-settles : {history : List Transaction} (s : ℕ) (e : SeenSession) (m : OpenSession) → h.session s ≡ Some e
-        → SessionAgrees h.status h.version history (h.sees e.snapshot) m.start (h.sees e.snapshot) e m → SessionAgrees h.status store' history (h.sees e.snapshot) m.start (h.sees e.snapshot) e m
-    SessionAgrees-settles {history} s e m at a = record {
+    SessionAgrees-settles : {history : List Transaction} {start : ℕ} (s : ℕ) (e : SeenSession) (m : OpenSession) → h.session s ≡ Some e
+        → SessionAgrees h.status h.version history (h.sees e.snapshot) start (h.sees e.snapshot) e m → SessionAgrees h.status store' history (h.sees e.snapshot) start (h.sees e.snapshot) e m
+    SessionAgrees-settles {history} {start} s e m at a = record {
       same_failed = a.same_failed;
+      isolation = a.isolation;
       cursor = CursorAgrees-keeps (KeepsSeen-settles (counts-for s e e.own at a.own_active)) a.cursor;
       levels = Levels-map e.own e.saved m.levels (λ own writes among r. ReaderAgrees-settles s e own at (λ x mine. a.own_active x (among x mine)) r) a.levels;
-      level_traces = LevelTraces-map e.own e.saved m.levels (nested_of h.status h.version history (h.sees e.snapshot) m.start e.own e.saved m.levels a.levels)
+      level_traces = LevelTraces-map e.own e.saved m.levels (nested_of h.status h.version history (h.sees e.snapshot) start e.own e.saved m.levels a.levels)
           (λ P writes within t. Traced-settles (λ x p. a.own_active x (within x p)) t) a.level_traces;
       traces = record {
         late_missed = λ k late. let some = a.traces.late_missed k late in
@@ -149,7 +150,7 @@ module _ (h : Heap) where
             let missed = some.4 in
             (some.0, u.0, u.1, ap (λ (r : Row). r.key) u.2.row ∙ some.3, (missed.0, (touch-forth missed.0 some.1 u.0 u.2 (λ done all. missed.1.2 (all s e at)) (λ gone. aborted_not_committed h.status missed.0 gone missed.1.1) missed.1.0, missed.1.1, missed.1.2)));
         missed_late = λ p u bt missed. let v = settles.back p u bt in
-            subst (λ (r : Row). IsLate history m.start r.key) (sym v.2.row) (a.traces.missed_late p v.0 v.1 (missed.0, (touch-back missed.0 v.0 u v.2 missed.1.0, missed.1.1, missed.1.2)));
+            subst (λ (r : Row). IsLate history start r.key) (sym v.2.row) (a.traces.missed_late p v.0 v.1 (missed.0, (touch-back missed.0 v.0 u v.2 missed.1.0, missed.1.1, missed.1.2)));
       };
       began = a.began;
       in_time = a.in_time;

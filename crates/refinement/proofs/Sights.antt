@@ -16,10 +16,11 @@ use Rattle.refinement.proofs.CursorsLemmas.{CursorAgrees-keeps}
 use Rattle.refinement.proofs.Others.{same_reader, same_seen, reads_before}
 use Rattle.refinement.proofs.Steps.{SameSights}
 
-SessionAgrees-sights : {status : ℕ → Option Status} {store : Tid → Option Version} {history : List Transaction} {sees sees' : ℕ → Type 0} {e : SeenSession} {m : OpenSession}
-    → SameSight status sees sees' → SessionAgrees status store history sees m.start sees e m → SessionAgrees status store history sees' m.start sees' e m
-SessionAgrees-sights {status} {store} {history} {sees} {sees'} {e} {m} same h = record {
+SessionAgrees-sights : {status : ℕ → Option Status} {store : Tid → Option Version} {history : List Transaction} {sees sees' : ℕ → Type 0} {start : ℕ} {e : SeenSession} {m : OpenSession}
+    → SameSight status sees sees' → SessionAgrees status store history sees start sees e m → SessionAgrees status store history sees' start sees' e m
+SessionAgrees-sights {status} {store} {history} {sees} {sees'} {start} {e} {m} same h = record {
   same_failed = h.same_failed;
+  isolation = h.isolation;
   cursor = CursorAgrees-keeps (same_seen e.own (λ y done. done) same (reads_before e.own (λ y done. done) same)) h.cursor;
   levels = Levels-map e.own e.saved m.levels (λ own writes among r. same_reader own writes (λ y done. done) same (reads_before own (λ y done. done) same) (λ k. refl) r) h.levels;
   level_traces = h.level_traces;

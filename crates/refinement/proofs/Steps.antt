@@ -11,7 +11,7 @@ use Rattle.commit_status.specs.declared.status.Status.{Status}
 use Rattle.commit_status.specs.declared.status.Status.TheVariants.{InProgress, Committed, Aborted}
 use Rattle.snapshot.specs.Snap.{Snap}
 use Rattle.history.specs.History.{Write, Transaction, written, reading, IsLate}
-use Rattle.history.specs.World.{World, OpenSession, joined, own_write, Holds, beginning}
+use Rattle.history.specs.World.{World, OpenSession, joined, own_write, Holds, beginning, start_now}
 use Rattle.history.specs.Moves.{put, stepped, begun, with_row, as_failed, aborted}
 use Rattle.history.specs.Cursors.{kept_where}
 use Rattle.std.specs.Prelude.{not, ◌==◌}
@@ -72,10 +72,10 @@ levels_traced store own (before ∷ saved) (ws ∷ levels) nested h =
     Traced-join ws (joined levels) (λ x mine. elim (cases_Contains before x) [ inl old ↦ inr old | inr new ↦ inl (mine, new) ]) (λ x new. new.0) (λ x old. nested.0 x old)
     h.0 (levels_traced store before saved levels nested.1 h.1)
 
-pub own_traced : {status : ℕ → Option Status} {store : Tid → Option Version} {history : List Transaction} {sees : ℕ → Type 0} {e : SeenSession} {m : OpenSession}
-    → SessionAgrees status store history sees m.start sees e m → Traced store (λ x. Contains e.own x) (joined m.levels)
-own_traced {status} {store} {history} {sees} {e} {m} h =
-    levels_traced store e.own e.saved m.levels (nested_of status store history sees m.start e.own e.saved m.levels h.levels) h.level_traces
+pub own_traced : {status : ℕ → Option Status} {store : Tid → Option Version} {history : List Transaction} {sees : ℕ → Type 0} {start : ℕ} {e : SeenSession} {m : OpenSession}
+    → SessionAgrees status store history sees start sees e m → Traced store (λ x. Contains e.own x) (joined m.levels)
+own_traced {status} {store} {history} {sees} {start} {e} {m} h =
+    levels_traced store e.own e.saved m.levels (nested_of status store history sees start e.own e.saved m.levels h.levels) h.level_traces
 
 -- a session begins
 pub Agrees-begin : (h : Heap) (w : World) (s : ℕ) (snapshot : Snap) (session' : ℕ → Option SeenSession)
@@ -110,7 +110,7 @@ pub Agrees-put : (h : Heap) (w : World) (s : ℕ) (e e' : SeenSession) (m m' : O
     → OnlyIs h.session session' s (Some e') → h.session s ≡ Some e → w.session s ≡ Some m
     → FinishesIds h.status status' (λ x. Contains e.own x × (¬ Contains e'.own x)) Aborted → SameSights h sees'
     → ((x : ℕ) → Contains e'.own x → Contains e.own x) → ((k : ℕ) → IsSome (own_write m' k) → IsSome (own_write m k))
-    → SessionAgrees status' h.version w.history (sees' e'.snapshot) m'.start (sees' e'.snapshot) e' m'
+    → SessionAgrees status' h.version w.history (sees' e'.snapshot) (start_now w.history m') (sees' e'.snapshot) e' m'
     → HeapAgrees h w → HeapAgrees (record h { status = status'; sees = sees'; session = session' }) (put w s (Some m'))
 Agrees-put h w s e e' m m' status' sees' session' only at there finishes same fewer kept mine agrees = record {
   opened = opened-change h h' w w' s agrees only.others models
@@ -153,7 +153,7 @@ same_sights h o e at x status is = (λ sees. sees, λ sees. sees)
 -- the session fails
 pub Agrees-fail : (h : Heap) (w : World) (s : ℕ) (e : SeenSession) (m : OpenSession) (session' : ℕ → Option SeenSession)
     → OnlyIs h.session session' s (Some (record e { failed = true })) → h.session s ≡ Some e → w.session s ≡ Some m
-    → SessionAgrees h.status h.version w.history (h.sees e.snapshot) m.start (h.sees e.snapshot) e m
+    → SessionAgrees h.status h.version w.history (h.sees e.snapshot) (start_now w.history m) (h.sees e.snapshot) e m
     → HeapAgrees h w → HeapAgrees (record h { session = session' }) (put w s (Some (as_failed m)))
 Agrees-fail h w s e m session' only at there mine agrees =
     Agrees-put h w s e (record e { failed = true }) m (as_failed m) h.status h.sees session' only at there (Finishes-none h.status e.own) (same_sights h) (λ x ours. ours) (λ k wrote. wrote) (SessionAgrees-fail mine) agrees
@@ -203,15 +203,15 @@ Agrees-give_below h w s e n x status' sees' session' only at gives same unseen a
 -- a session that has an id writes a row
 pub Agrees-insert : (h : Heap) (w : World) (s : ℕ) (e : SeenSession) (m : OpenSession) (x : ℕ) (place : Tid) (new : Version) (store' : Tid → Option Version)
     → AddsVersion h.version store' place new → IsNew x new → h.session s ≡ Some e → IsCurrent e x → w.session s ≡ Some m → m.cursor ≡ None
-    → reading w.history m.start (joined m.levels) new.row.key ≡ None → ¬ IsLate w.history m.start new.row.key → ((o : ℕ) → o ≢ s → ¬ Holds w o new.row.key)
-    → SessionAgrees h.status h.version w.history (h.sees e.snapshot) m.start (h.sees e.snapshot) e m
-    → HeapAgrees h w → HeapAgrees (record h { version = store' }) (put w s (Some (with_row new.row m)))
+    → reading w.history (start_now w.history m) (joined m.levels) new.row.key ≡ None → ¬ IsLate w.history (start_now w.history m) new.row.key → ((o : ℕ) → o ≢ s → ¬ Holds w o new.row.key)
+    → SessionAgrees h.status h.version w.history (h.sees e.snapshot) (start_now w.history m) (h.sees e.snapshot) e m
+    → HeapAgrees h w → HeapAgrees (record h { version = store' }) (put w s (Some (with_row w.history new.row m)))
 Agrees-insert h w s e m x place new store' adds is_new at current there bare none in_time unheld mine agrees = record {
   opened = opened-change h h' w w' s agrees (λ o ne. refl) models
       (λ o f n ne bt there' old. SessionAgrees-add_other x place new adds is_new active (λ foreign. ne (agrees.apart o s f e x bt at foreign current.mine)) old)
       (λ e' at'. let is : e ≡ e' = same_Some e e' (sym at ∙ at') in
       subst (λ e. Matches h' w' s e) is
-      (with_row new.row m, at_same s (Some (with_row new.row m)) (w.session s), SessionAgrees-insert x place new adds is_new current bare none in_time mine));
+      (with_row w.history new.row m, at_same s (Some (with_row w.history new.row m)) (w.session s), SessionAgrees-insert x place new adds is_new current bare none in_time mine));
   idle = idle-change h h' w w' s agrees (λ o ne. refl) models (λ at'. absurd (none-some e (sym at' ∙ at)));
   waits = waits-put w s agrees.waits;
   current = Shows-add_unseen adds (λ p v bt seen. seen) (λ p v bt seen. seen) (λ seen. active_not_committed h.status x active (seen.made x is_new.made)) agrees.current;
@@ -227,7 +227,7 @@ Agrees-insert h w s e m x place new store' adds is_new at current there bare non
   apart = agrees.apart;
   alone = alone-change h h' w w' s agrees (λ o ne. refl) models (λ o k ne p q. elim (cases_eq k new.row.key) [
     | inl same ↦ unheld o ne (subst (λ k. Holds w o k) same q)
-    | inr ne' ↦ (let is : p.0 ≡ with_row new.row m = same_Some p.0 (with_row new.row m) (sym p.1 ∙ at_same s (Some (with_row new.row m)) (w.session s)) in
+    | inr ne' ↦ (let is : p.0 ≡ with_row w.history new.row m = same_Some p.0 (with_row w.history new.row m) (sym p.1 ∙ at_same s (Some (with_row w.history new.row m)) (w.session s)) in
         ne (agrees.alone o s k q (
           m,
           there,
@@ -238,19 +238,19 @@ Agrees-insert h w s e m x place new store' adds is_new at current there bare non
 }
   where
     write : Write
-    write = record { start = m.start; key = new.row.key; row = Some new.row }
+    write = record { start = start_now w.history m; key = new.row.key; row = Some new.row }
 
     h' : Heap
     h' = record h { version = store' }
 
     w' : World
-    w' = put w s (Some (with_row new.row m))
+    w' = put w s (Some (with_row w.history new.row m))
 
     active : IsRunning h.status x
     active = mine.own_active x current.mine
 
     models : (o : ℕ) → o ≢ s → w'.session o ≡ w.session o
-    models o ne = at_other o s (Some (with_row new.row m)) (w.session o) ne
+    models o ne = at_other o s (Some (with_row w.history new.row m)) (w.session o) ne
 
 -- a session is rolled back
 pub Agrees-abort : (h : Heap) (w : World) (s : ℕ) (e : SeenSession) (status' : ℕ → Option Status) (sees' : Snap → ℕ → Type 0) (session' : ℕ → Option SeenSession)

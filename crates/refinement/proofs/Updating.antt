@@ -8,7 +8,7 @@ use Rattle.xid_circle.proofs.Tids.{cases-tid}
 use Rattle.tuple_header.specs.Version.{Version}
 use Rattle.commit_status.specs.declared.status.Status.{Status}
 use Rattle.history.specs.History.{Write, Transaction, committed, written, own_or, IsLate}
-use Rattle.history.specs.World.{World, OpenSession, joined, own_write, view, Holds}
+use Rattle.history.specs.World.{World, OpenSession, joined, own_write, view, Holds, start_now}
 use Rattle.history.specs.Moves.{put, add_write, with_row, without_row}
 use Rattle.history.proofs.HistoryLemmas.{at_same, at_other, joined-add_write}
 use Rattle.refinement.specs.Heap.{SeenSession, Heap}
@@ -61,12 +61,13 @@ traces_forget _ old new own (before ∷ saved) (ws ∷ levels) same h = (level_f
 abbrev adding : Write → OpenSession → OpenSession
 adding write m = record m { levels = add_write write m.levels }
 
-SessionAgrees-forget : {status : ℕ → Option Status} {store : Tid → Option Version} {history : List Transaction} {sees : ℕ → Type 0} {e : SeenSession} (old new : Write) (m : OpenSession) → new.key ≡ old.key
-    → SessionAgrees status store history sees m.start sees e (adding new (adding old m)) → SessionAgrees status store history sees m.start sees e (adding new m)
-SessionAgrees-forget {status} {store} {history} {sees} {e} old new m same h = record {
+SessionAgrees-forget : {status : ℕ → Option Status} {store : Tid → Option Version} {history : List Transaction} {sees : ℕ → Type 0} {start : ℕ} {e : SeenSession} (old new : Write) (m : OpenSession) → new.key ≡ old.key
+    → SessionAgrees status store history sees start sees e (adding new (adding old m)) → SessionAgrees status store history sees start sees e (adding new m)
+SessionAgrees-forget {status} {store} {history} {sees} {start} {e} old new m same h = record {
   same_failed = h.same_failed;
+  isolation = h.isolation;
   cursor = h.cursor;
-  levels = levels_forget status store history sees m.start old new e.own e.saved m.levels same h.levels;
+  levels = levels_forget status store history sees start old new e.own e.saved m.levels same h.levels;
   level_traces = traces_forget store old new e.own e.saved m.levels same h.level_traces;
   traces = h.traces;
   began = h.began;
@@ -84,10 +85,10 @@ Agrees-forget h w w' s old new m same history waits there now others agrees = re
     | inl is ↦ (let model : before.0 ≡ adding new (adding old m) = same_Some before.0 (adding new (adding old m)) (sym before.1 ∙ (ap w.session is ∙ there)) in (
       adding new m,
       ap w'.session is ∙ now,
-      subst (λ history. SessionAgrees h.status h.version history (h.sees e.snapshot) m.start (h.sees e.snapshot) e (adding new m)) (sym history)
-          (SessionAgrees-forget old new m same (subst (λ (n : OpenSession). SessionAgrees h.status h.version w.history (h.sees e.snapshot) n.start (h.sees e.snapshot) e n) model before.2)),
+      subst (λ history. SessionAgrees h.status h.version history (h.sees e.snapshot) (start_now history (adding new m)) (h.sees e.snapshot) e (adding new m)) (sym history)
+          (SessionAgrees-forget old new m same (subst (λ (n : OpenSession). SessionAgrees h.status h.version w.history (h.sees e.snapshot) (start_now w.history n) (h.sees e.snapshot) e n) model before.2)),
     ))
-    | inr ne ↦ (before.0, others o ne ∙ before.1, subst (λ history. SessionAgrees h.status h.version history (h.sees e.snapshot) before.0.start (h.sees e.snapshot) e before.0) (sym history) before.2)
+    | inr ne ↦ (before.0, others o ne ∙ before.1, subst (λ history. SessionAgrees h.status h.version history (h.sees e.snapshot) (start_now history before.0) (h.sees e.snapshot) e before.0) (sym history) before.2)
   ];
   idle = λ o at. elim (cases_eq o s) [
     | inl is ↦ absurd (none-some (adding new (adding old m)) (sym (agrees.idle o at) ∙ (ap w.session is ∙ there)))
@@ -113,23 +114,23 @@ Agrees-forget h w w' s old new m same history waits there now others agrees = re
 pub Agrees-replace : (h : Heap) (w : World) (s : ℕ) (e : SeenSession) (m : OpenSession) (x : ℕ) (place q : Tid) (old old' new : Version) (between store' : Tid → Option Version)
     → Alters h.version between place old old' → IsDeleted x old old' → AddsVersion between store' q new → IsNew x new → new.row.key ≡ old.row.key
     → h.session s ≡ Some e → IsCurrent e x → w.session s ≡ Some m → m.cursor ≡ None
-    → ReaderSees h.status (h.sees e.snapshot) e.own old → ¬ IsLate w.history m.start old.row.key → ((o : ℕ) → o ≢ s → ¬ Holds w o old.row.key)
-    → SessionAgrees h.status h.version w.history (h.sees e.snapshot) m.start (h.sees e.snapshot) e m
-    → HeapAgrees h w → HeapAgrees (record h { version = store' }) (put w s (Some (with_row new.row m)))
+    → ReaderSees h.status (h.sees e.snapshot) e.own old → ¬ IsLate w.history (start_now w.history m) old.row.key → ((o : ℕ) → o ≢ s → ¬ Holds w o old.row.key)
+    → SessionAgrees h.status h.version w.history (h.sees e.snapshot) (start_now w.history m) (h.sees e.snapshot) e m
+    → HeapAgrees h w → HeapAgrees (record h { version = store' }) (put w s (Some (with_row w.history new.row m)))
 Agrees-replace h w s e m x place q old old' new between store' alters deleted adds is_new key at current there bare seen in_time unheld mine agrees =
-    Agrees-forget (record h { version = store' }) w₂ (put w s (Some (with_row new.row m))) s (record { start = m.start; key = old.row.key; row = None }) (record { start = m.start; key = new.row.key; row = Some new.row }) m key
-    refl (waits-put w s agrees.waits) (at_same s (Some (with_row new.row m₁)) (w₁.session s)) (at_same s (Some (with_row new.row m)) (w.session s))
-    (λ o ne. at_other o s (Some (with_row new.row m)) (w.session o) ne ∙ (sym (at_other o s (Some m₁) (w.session o) ne) ∙ sym (at_other o s (Some (with_row new.row m₁)) (w₁.session o) ne)))
+    Agrees-forget (record h { version = store' }) w₂ (put w s (Some (with_row w.history new.row m))) s (record { start = start_now w.history m; key = old.row.key; row = None }) (record { start = start_now w.history m; key = new.row.key; row = Some new.row }) m key
+    refl (waits-put w s agrees.waits) (at_same s (Some (with_row w.history new.row m₁)) (w₁.session s)) (at_same s (Some (with_row w.history new.row m)) (w.session s))
+    (λ o ne. at_other o s (Some (with_row w.history new.row m)) (w.session o) ne ∙ (sym (at_other o s (Some m₁) (w.session o) ne) ∙ sym (at_other o s (Some (with_row w.history new.row m₁)) (w₁.session o) ne)))
     inserted
   where
     m₁ : OpenSession
-    m₁ = without_row old.row.key m
+    m₁ = without_row w.history old.row.key m
 
     w₁ : World
     w₁ = put w s (Some m₁)
 
     w₂ : World
-    w₂ = put w₁ s (Some (with_row new.row m₁))
+    w₂ = put w₁ s (Some (with_row w.history new.row m₁))
 
     gone : HeapAgrees (record h { version = between }) w₁
     gone = Agrees-delete h w s e m x place old old' between alters deleted at current there bare seen in_time unheld mine agrees
@@ -137,20 +138,20 @@ Agrees-replace h w s e m x place q old old' new between store' alters deleted ad
     there₁ : w₁.session s ≡ Some m₁
     there₁ = at_same s (Some m₁) (w.session s)
 
-    mine₁ : SessionAgrees h.status between w.history (h.sees e.snapshot) m₁.start (h.sees e.snapshot) e m₁
-    mine₁ = let open_ = gone.opened s e at in subst (λ (n : OpenSession). SessionAgrees h.status between w.history (h.sees e.snapshot) n.start (h.sees e.snapshot) e n) (same_Some open_.0 m₁ (sym open_.1 ∙ there₁)) open_.2
+    mine₁ : SessionAgrees h.status between w.history (h.sees e.snapshot) (start_now w.history m₁) (h.sees e.snapshot) e m₁
+    mine₁ = let open_ = gone.opened s e at in subst (λ (n : OpenSession). SessionAgrees h.status between w.history (h.sees e.snapshot) (start_now w.history n) (h.sees e.snapshot) e n) (same_Some open_.0 m₁ (sym open_.1 ∙ there₁)) open_.2
 
     deleted_now : own_write m₁ old.row.key ≡ Some None
-    deleted_now = ap (λ ws. written ws old.row.key) (joined-add_write (record { start = m.start; key = old.row.key; row = None }) m.levels) ∙ written-push_same (joined m.levels) (record { start = m.start; key = old.row.key; row = None })
+    deleted_now = ap (λ ws. written ws old.row.key) (joined-add_write (record { start = start_now w.history m; key = old.row.key; row = None }) m.levels) ∙ written-push_same (joined m.levels) (record { start = start_now w.history m; key = old.row.key; row = None })
 
     none : view w.history m₁ new.row.key ≡ None
-    none = subst (λ k. view w.history m₁ k ≡ None) (sym key) (ap (λ o. own_or o (committed w.history m.start old.row.key)) deleted_now)
+    none = subst (λ k. view w.history m₁ k ≡ None) (sym key) (ap (λ o. own_or o (committed w.history (start_now w.history m) old.row.key)) deleted_now)
 
     unheld₁ : (o : ℕ) → o ≢ s → ¬ Holds w₁ o new.row.key
     unheld₁ o ne held = unheld o ne (subst (λ k. Holds w o k) key (held.0, sym (at_other o s (Some m₁) (w.session o) ne) ∙ held.1, held.2))
 
     inserted : HeapAgrees (record h { version = store' }) w₂
-    inserted = Agrees-insert (record h { version = between }) w₁ s e m₁ x q new store' adds is_new at current there₁ bare none (subst (λ k. ¬ IsLate w.history m.start k) (sym key) in_time) unheld₁ mine₁ gone
+    inserted = Agrees-insert (record h { version = between }) w₁ s e m₁ x q new store' adds is_new at current there₁ bare none (subst (λ k. ¬ IsLate w.history (start_now w.history m) k) (sym key) in_time) unheld₁ mine₁ gone
 
 -- of two values, the one for the case that is so
 
@@ -170,9 +171,9 @@ chosen-right (inr q) a b right = refl
 pub Agrees-update : (h : Heap) (w : World) (s : ℕ) (e : SeenSession) (m : OpenSession) (x : ℕ) (place q : Tid) (old old' new : Version) (added altered : Tid → Option Version)
     → At h.version place old → AddsVersion h.version added q new → IsNew x new → new.row.key ≡ old.row.key → Alters added altered place old old' → IsDeleted x old old'
     → h.session s ≡ Some e → IsCurrent e x → w.session s ≡ Some m → m.cursor ≡ None
-    → ReaderSees h.status (h.sees e.snapshot) e.own old → ¬ IsLate w.history m.start old.row.key → ((o : ℕ) → o ≢ s → ¬ Holds w o old.row.key)
-    → SessionAgrees h.status h.version w.history (h.sees e.snapshot) m.start (h.sees e.snapshot) e m
-    → HeapAgrees h w → HeapAgrees (record h { version = altered }) (put w s (Some (with_row new.row m)))
+    → ReaderSees h.status (h.sees e.snapshot) e.own old → ¬ IsLate w.history (start_now w.history m) old.row.key → ((o : ℕ) → o ≢ s → ¬ Holds w o old.row.key)
+    → SessionAgrees h.status h.version w.history (h.sees e.snapshot) (start_now w.history m) (h.sees e.snapshot) e m
+    → HeapAgrees h w → HeapAgrees (record h { version = altered }) (put w s (Some (with_row w.history new.row m)))
 Agrees-update h w s e m x place q old old' new added altered stood adds is_new key alters deleted =
     Agrees-replace h w s e m x place q old old' new between altered alters' deleted adds' is_new key
   where

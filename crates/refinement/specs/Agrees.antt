@@ -6,7 +6,7 @@ use Rattle.tuple_header.specs.declared.version.Row.{Row}
 use Rattle.tuple_header.specs.Version.{Version}
 use Rattle.commit_status.specs.declared.status.Status.{Status}
 use Rattle.history.specs.History.{Write, Transaction, written, committed, reading, IsLate}
-use Rattle.history.specs.World.{World, OpenSession, joined, own_write, Holds}
+use Rattle.history.specs.World.{World, by_snapshot, OpenSession, joined, own_write, start_now, Holds}
 use Rattle.refinement.specs.Heap.{SeenSession, Heap}
 use Rattle.visibility.specs.Seeing.{HasCommitted, IsRunning, Reads, VisibleBy, Touches, inserter, deleter}
 use Rattle.refinement.specs.Visible.{ReaderSees, HasMissed, IsBy, At, SomeVersion}
@@ -56,6 +56,8 @@ pub record TracesAgree (status : ℕ → Option Status) (store : Tid → Option 
 pub record SessionAgrees (status : ℕ → Option Status) (store : Tid → Option Version) (history : List Transaction)
     (sees : ℕ → Type 0) (start : ℕ) (cursor_sees : ℕ → Type 0) (e : SeenSession) (m : OpenSession) : Type 0 where
   pub same_failed : e.failed ≡ m.failed
+  -- it reads by the snapshot of its beginning
+  pub isolation : m.isolation ≡ by_snapshot start
   -- what its cursor has still to hand out is what the model's has
   pub cursor : CursorAgrees store (ReaderSees status cursor_sees e.own) e.cursor m.cursor
   -- it reads its view, and could return to each savepoint
@@ -73,7 +75,7 @@ pub record SessionAgrees (status : ℕ → Option Status) (store : Tid → Optio
 pub record HeapAgrees (h : Heap) (w : World) : Type 0 where
   -- each session reads its view, and has exact traces
   pub opened : (s : ℕ) (e : SeenSession) → h.session s ≡ Some e → (m : OpenSession) × (w.session s ≡ Some m)
-      × SessionAgrees h.status h.version w.history (h.sees e.snapshot) m.start (h.sees e.snapshot) e m
+      × SessionAgrees h.status h.version w.history (h.sees e.snapshot) (start_now w.history m) (h.sees e.snapshot) e m
   -- same sessions
   pub idle : (s : ℕ) → h.session s ≡ None → w.session s ≡ None
   -- no wait is recorded yet

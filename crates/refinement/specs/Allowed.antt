@@ -1,7 +1,7 @@
 -- Which replies the history allows to a step, and what the world is after each.
 use Rattle.std.specs.Prelude.{◌≡◌, ℕ, ◌-◌, ◌<◌, ◌≤◌, List, [], ◌∷◌, length, Option, Some, None, Bool, true, false, IsSome, ◌<ℤ◌, ◌≤ℤ◌}
 use Rattle.history.specs.History.{IsLate}
-use Rattle.history.specs.World.{World, OpenSession, Cursor, beginning, view, IsReady, IsWriter, MayWrite, IsBlocked, world_sessions}
+use Rattle.history.specs.World.{World, OpenSession, Cursor, beginning, start_now, view, IsReady, IsWriter, MayWrite, IsBlocked, world_sessions}
 use Rattle.history.specs.Cursors.{keys_of, IsOver, HandsOutPart}
 use Rattle.history.specs.Moves.{stepped, begun, change, with_row, without_row, as_failed, with_savepoint, rolled_back_to, without_savepoint, aborted, committed_by, with_index_cursor, with_heap_cursor, with_taken, without_cursor}
 use Rattle.history.specs.Laws.{FirstCommitterWins, HeldInTime, HeldOnce}
@@ -36,10 +36,10 @@ AllowsUnsuited w s refusal.NotThere (updates row) = (m : OpenSession) × IsWrite
 AllowsUnsuited w s refusal.NotThere (deletes k) = (m : OpenSession) × IsWriter w s m × (view w.history m k ≡ None)
 AllowsUnsuited w s refusal write = BarsFree (world_sessions w) s refusal
 
--- or it does, but a commit since the session began or another open session has written the key, or there is no id, no
--- room or no memory for it
+-- or it does, but a commit since the snapshot by which it reads or another open session has written the key, or there is no
+-- id, no room or no memory for it
 abbrev pub AllowsHindered : World → ℕ → Refusal → WriteStep → Type 0
-AllowsHindered w s refusal.Conflict write = (m : OpenSession) × Suits w s write m × IsLate w.history m.start (key_of write)
+AllowsHindered w s refusal.Conflict write = (m : OpenSession) × Suits w s write m × IsLate w.history (start_now w.history m) (key_of write)
 AllowsHindered w s (refusal.Busy o) write = (m : OpenSession) × Suits w s write m × IsBlocked w s (key_of write) o m
 AllowsHindered w s refusal.NeedsFreeze write = (m : OpenSession) × Suits w s write m × MayWrite w s (key_of write) m
 AllowsHindered w s refusal.NoRoom write = (m : OpenSession) × Suits w s write m × MayWrite w s (key_of write) m × IsPut write
@@ -125,11 +125,11 @@ after_refused_write w s refusal = stepped w s
 -- the world after the reply. Cleaning leaves it as it is
 abbrev pub next : World → Step → Reply → World
 next w (step.Begin s) reply.Done = begun w s
-next w (step.Insert s row) reply.Done = change w s (with_row (row_of row))
+next w (step.Insert s row) reply.Done = change w s (with_row w.history (row_of row))
 next w (step.Insert s row) (reply.Refused refusal) = after_refused_write w s refusal
-next w (step.Update s row) reply.Done = change w s (with_row (row_of row))
+next w (step.Update s row) reply.Done = change w s (with_row w.history (row_of row))
 next w (step.Update s row) (reply.Refused refusal) = after_refused_write w s refusal
-next w (step.Delete s k) reply.Done = change w s (without_row k)
+next w (step.Delete s k) reply.Done = change w s (without_row w.history k)
 next w (step.Delete s k) (reply.Refused refusal) = after_refused_write w s refusal
 next w (step.Savepoint s) reply.Done = change w s with_savepoint
 next w (step.RollbackTo s) reply.Done = rolled_back_to w s

@@ -17,7 +17,7 @@ use Rattle.heap_write.specs.Heap.{slots_of}
 use Rattle.table_integrity.proofs.InUse.{index-sound}
 use Rattle.tuple_header.specs.IndexValue.{value_in}
 use Rattle.history.specs.History.{Write, committed, reading}
-use Rattle.history.specs.World.{World, OpenSession, joined, view}
+use Rattle.history.specs.World.{World, OpenSession, joined, start_now, view}
 use Rattle.visibility.specs.Seeing.{HasCommitted, VisibleBy, by_itself, by_others}
 use Rattle.refinement.specs.Visible.{ReaderSees}
 use Rattle.refinement.specs.Agrees as relation
@@ -85,10 +85,10 @@ at-each st w n s start own (before ∷ saved) (since ∷ levels) agrees used act
 
 -- an open session
 levels-by-index : (st : State) (w : World) (n : ℕ) (s : ℕ) (e : Session) (m : OpenSession) → Agrees st w → IsInUse st.heap.indexes n
-    → relation.SessionAgrees (state_of st.heap.statuses) (seen st).version w.history (λ x. Sees e.snapshot st.heap.statuses x) m.start (λ x. Sees e.snapshot st.heap.statuses x) (reader_of e) m → FindsLevels st.heap n w.history e m
+    → relation.SessionAgrees (state_of st.heap.statuses) (seen st).version w.history (λ x. Sees e.snapshot st.heap.statuses x) (start_now w.history m) (λ x. Sees e.snapshot st.heap.statuses x) (reader_of e) m → FindsLevels st.heap n w.history e m
 levels-by-index st w n s e m agrees used h = record {
   now = by-index st w n e.snapshot e.own.ids (view w.history m) agrees used active (Levels-top e.own.ids e.own.saved m.levels h.levels).rows;
-  saved = at-each st w n e.snapshot m.start e.own.ids e.own.saved m.levels agrees used active h.levels;
+  saved = at-each st w n e.snapshot (start_now w.history m) e.own.ids e.own.saved m.levels agrees used active h.levels;
 }
   where
     active : (x : ℕ) → Contains e.own.ids x → window.IsActive st.heap.statuses x
@@ -100,6 +100,6 @@ views-by-index st w agrees n used = (
       let open_ = agrees.found.opened s (reader_of e) (reader-is st s e at) in
       let is : open_.0 ≡ m = same_Some open_.0 m (sym open_.1 ∙ there) in
       levels-by-index st w n s e m agrees used
-      (subst (λ (n : OpenSession). relation.SessionAgrees (state_of st.heap.statuses) (seen st).version w.history (λ x. Sees e.snapshot st.heap.statuses x) n.start (λ x. Sees e.snapshot st.heap.statuses x) (reader_of e) n) is open_.2),
+      (subst (λ (n : OpenSession). relation.SessionAgrees (state_of st.heap.statuses) (seen st).version w.history (λ x. Sees e.snapshot st.heap.statuses x) (start_now w.history n) (λ x. Sees e.snapshot st.heap.statuses x) (reader_of e) n) is open_.2),
   by-index st w n (now_taken st) [] (committed w.history (length w.history)) agrees used (λ x mine. absurd (Contains-none x mine)) (fresh st w agrees),
 )

@@ -24,7 +24,7 @@ use Rattle.table_integrity.specs.Table.{StaysSoundTable}
 use Rattle.table_integrity.specs.Laws as laws
 use Rattle.table_integrity.proofs.Keeping.{committed-stays, aborted-stays, later-stays-sound}
 use Rattle.history.specs.History.{Write, Transaction}
-use Rattle.history.specs.World.{World, joined}
+use Rattle.history.specs.World.{World, joined, start_now}
 use Rattle.refinement.specs.Heap as relation
 use Rattle.visibility.specs.Seeing.{HasCommitted, IsRunning, Reads, by_itself, by_others, deleted_by, inserter, deleter}
 use Rattle.refinement.specs.Visible.{At}
@@ -192,7 +192,7 @@ module _ (st : State) (w : World) (agrees : Agrees st w) where
           let active = active-to st.heap.statuses y (o.2.own_active y (subst (λ xs. Contains xs y) (sym ids) (Contains-append_left before since y early))) in
           let gone = is-deleter t.header y (normal-active st.heap.statuses y active) refl in
           elim (read-by (state_of st.heap.statuses) ((seen st).sees e.snapshot) before x
-          ((newest-reader (state_of st.heap.statuses) (seen st).version w.history ((seen st).sees e.snapshot) o.0.start e.own.ids before saved e.own.saved o.0.levels is o.2.levels).1.whole p y t there gone (by_itself early) x made)) [
+          ((newest-reader (state_of st.heap.statuses) (seen st).version w.history ((seen st).sees e.snapshot) (start_now w.history o.0) e.own.ids before saved e.own.saved o.0.levels is o.2.levels).1.whole p y t there gone (by_itself early) x made)) [
             | inl both ↦ distinct-after e.own.ids before since (agrees.sound.sessions s e at).distinct ids x mine both
             | inr done ↦ (let going = o.2.own_active x (subst (λ xs. Contains xs x) (sym ids) (Contains-append_right before since x mine)) in cc)
           ]

@@ -12,7 +12,7 @@ use Rattle.table_indexes.specs.Indexes.{entries_in, IsInUse}
 use Rattle.heap_write.specs.Heap.{HeapView, slots_of}
 use Rattle.tuple_header.specs.IndexValue.{value_in}
 use Rattle.history.specs.History.{Write, Transaction, committed, reading}
-use Rattle.history.specs.World.{World, OpenSession, joined, view}
+use Rattle.history.specs.World.{World, OpenSession, joined, start_now, view}
 use Rattle.session_steps.specs.declared.session.Session.{Session}
 use Rattle.session_steps.specs.State.{State, session_at, owns_of, horizon_of}
 use Rattle.session_steps.specs.Agrees.{Agrees}
@@ -37,7 +37,7 @@ FindsAtEach h s n history start (before ∷ saved) (since ∷ levels) = FindsRow
 -- an open session finds its view, and could return to each savepoint
 pub record FindsLevels (h : HeapView) (n : ℕ) (history : List Transaction) (e : Session) (m : OpenSession) : Type 0 where
   pub now : FindsRows h e.snapshot e.own.ids n (view history m)
-  pub saved : FindsAtEach h e.snapshot n history m.start e.own.saved m.levels
+  pub saved : FindsAtEach h e.snapshot n history (start_now history m) e.own.saved m.levels
 
 -- Each open session finds its view through each index in use, as it is and as it was at each savepoint, and one that would
 -- begin now finds what is committed.

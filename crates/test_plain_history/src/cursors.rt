@@ -5,7 +5,7 @@ use calls::Refusal;
 use plain_history::Outcome;
 use std::test::Fail;
 
-static STORIES: [Story; 3] = [
+static STORIES: [Story; 4] = [
     Story {
         name: "an_index_cursor_keeps_what_it_was_opened_on",
         rows: &[(1, 30), (2, 10), (3, 20)],
@@ -65,6 +65,23 @@ static STORIES: [Story; 3] = [
                 Answer::Refused(Refusal::CursorOpen),
             ),
             (Call::Next(1, 9), Answer::Rows([2, 0, 0])),
+        ],
+    },
+    Story {
+        name: "a_cursor_by_statement_keeps_what_it_was_opened_on",
+        rows: &[(1, 30), (2, 10)],
+        calls: &[
+            (Call::BeginReadCommitted(1), Answer::Done),
+            (Call::OpenIndex(1, 1, 0, 100), Answer::Done),
+            (Call::Begin(0), Answer::Done),
+            (Call::Delete(0, 1), Answer::Done),
+            (Call::Insert(0, 3, 20), Answer::Done),
+            (Call::Commit(0), Answer::Ended(Outcome::Committed)),
+            (Call::Get(1, 1), Answer::NoRow),
+            (Call::Next(1, 5), Answer::Rows([2, 1, 0])),
+            (Call::Close(1), Answer::Done),
+            (Call::OpenIndex(1, 1, 0, 100), Answer::Done),
+            (Call::Next(1, 5), Answer::Rows([2, 3, 0])),
         ],
     },
 ];

@@ -1,7 +1,8 @@
 //! The laws of the history can be called.
 
 use history::laws::{
-    first_committer_wins, held_keys_are_in_time, history_only_grows, keys_are_held_once, views_stay,
+    first_committer_wins, held_keys_are_in_time, history_only_grows, keys_are_held_once,
+    no_write_by_statement_is_late, views_stay,
 };
 
 #[test]
@@ -11,4 +12,5 @@ fn laws_of_every_run() {
     keys_are_held_once();
     history_only_grows();
     views_stay();
+    no_write_by_statement_is_late();
 }

@@ -11,6 +11,7 @@ use tuple_header::Row;
 #[derive(Clone, Copy)]
 pub enum Call {
     Begin(u8),
+    BeginReadCommitted(u8),
     Get(u8, u64),
     Insert(u8, u64, i64),
     Update(u8, u64, i64),
@@ -136,6 +137,7 @@ fn releases(history: &mut PlainHistory, s: u8, count: usize) -> Answer {
 fn answer_to(history: &mut PlainHistory, call: Call) -> Answer {
     match call {
         Call::Begin(s) => answer_done(history.begin(s)),
+        Call::BeginReadCommitted(s) => answer_done(history.begin_read_committed(s)),
         Call::Get(s, key) => answer_found(history.get(s, key)),
         Call::Insert(s, key, value) => answer_write(history.insert(s, row(key, value))),
         Call::Update(s, key, value) => answer_write(history.update(s, row(key, value))),

@@ -2,9 +2,24 @@
 
 use crate::stories::{Answer, Call, Story, go_through};
 use calls::Refusal;
+use plain_history::Outcome;
 use std::test::Fail;
 
-static STORIES: [Story; 3] = [
+static STORIES: [Story; 4] = [
+    Story {
+        name: "a_ring_of_two_waits_by_statement_is_a_deadlock",
+        rows: &[(1, 5), (2, 5)],
+        calls: &[
+            (Call::BeginReadCommitted(0), Answer::Done),
+            (Call::BeginReadCommitted(1), Answer::Done),
+            (Call::Update(0, 1, 6), Answer::Done),
+            (Call::Update(1, 2, 6), Answer::Done),
+            (Call::Update(0, 2, 7), Answer::Refused(Refusal::Busy(1))),
+            (Call::Update(1, 1, 7), Answer::Deadlock),
+            (Call::Commit(1), Answer::Ended(Outcome::RolledBack)),
+            (Call::Update(0, 2, 7), Answer::Done),
+        ],
+    },
     Story {
         name: "a_ring_of_two_waits_is_a_deadlock",
         rows: &[(1, 5), (2, 5)],

@@ -5,7 +5,7 @@ use calls::Refusal;
 use plain_history::Outcome;
 use std::test::Fail;
 
-static STORIES: [Story; 6] = [
+static STORIES: [Story; 9] = [
     Story {
         name: "own_writes_are_read_and_those_of_others_are_not",
         rows: &[],
@@ -80,6 +80,53 @@ static STORIES: [Story; 6] = [
             ),
             (Call::Delete(0, 9), Answer::Refused(Refusal::NotThere)),
             (Call::Get(64, 1), Answer::Refused(Refusal::NoSuchSession)),
+        ],
+    },
+    Story {
+        name: "read_committed_reads_anew",
+        rows: &[(1, 5)],
+        calls: &[
+            (Call::BeginReadCommitted(1), Answer::Done),
+            (Call::Begin(0), Answer::Done),
+            (Call::Update(0, 1, 6), Answer::Done),
+            (Call::Get(1, 1), Answer::Found(1, 5)),
+            (Call::Commit(0), Answer::Ended(Outcome::Committed)),
+            (Call::Get(1, 1), Answer::Found(1, 6)),
+            (Call::Update(1, 1, 8), Answer::Done),
+            (Call::Get(1, 1), Answer::Found(1, 8)),
+        ],
+    },
+    Story {
+        name: "by_statement_the_second_writer_goes_on_after_a_commit",
+        rows: &[(1, 5)],
+        calls: &[
+            (Call::BeginReadCommitted(0), Answer::Done),
+            (Call::BeginReadCommitted(1), Answer::Done),
+            (Call::Begin(2), Answer::Done),
+            (Call::Update(0, 1, 6), Answer::Done),
+            (Call::Update(1, 1, 7), Answer::Refused(Refusal::Busy(0))),
+            (Call::Commit(0), Answer::Ended(Outcome::Committed)),
+            (Call::Update(1, 1, 7), Answer::Done),
+            (Call::Update(2, 1, 8), Answer::Refused(Refusal::Conflict)),
+            (Call::Commit(1), Answer::Ended(Outcome::Committed)),
+            (Call::Begin(0), Answer::Done),
+            (Call::Get(0, 1), Answer::Found(1, 7)),
+        ],
+    },
+    Story {
+        name: "a_session_begins_by_statement_where_it_is_idle",
+        rows: &[],
+        calls: &[
+            (
+                Call::BeginReadCommitted(64),
+                Answer::Refused(Refusal::NoSuchSession),
+            ),
+            (Call::BeginReadCommitted(63), Answer::Done),
+            (
+                Call::BeginReadCommitted(63),
+                Answer::Refused(Refusal::AlreadyOpen),
+            ),
+            (Call::Begin(63), Answer::Refused(Refusal::AlreadyOpen)),
         ],
     },
 ];

@@ -2,13 +2,13 @@ use Rattle.std.proofs.Common.{◌≡◌, ◌∙◌, sym, ap, subst, List, Option
 use Rattle.std.specs.Prelude.{IsSome}
 use Rattle.plain_history.specs.declared.plain.PlainSession.{PlainSession}
 use Rattle.history.specs.History.{Transaction, IsLate}
-use Rattle.history.specs.World.{OpenSession, own_write, ClosesRing}
-use Rattle.plain_history.specs.Plain.{Plain, session_in, wait_in}
+use Rattle.history.specs.World.{OpenSession, own_write, start_now, ClosesRing}
+use Rattle.plain_history.specs.Plain.{Plain, open_of, session_in, wait_in}
 use Rattle.plain_history.proofs.plain.PlainHistory.check_conflicts.Goals as goal
 
 pub returns-then-is_late-clause-err : goal.returns-then-is_late-clause-err
 returns-then-is_late-clause-err c =
-    subst (λ (h : List Transaction). IsLate h c.args.session.now.start c.args.key) (c.deref.ensures.value ∙ ap (λ (p : Plain). p.history) c.self.view_is) (c.is_late.ensures.0 c.if-is_late.true)
+    subst (λ (h : List Transaction). IsLate h (start_now h (open_of c.args.session.now)) c.args.key) (c.deref.ensures.value ∙ ap (λ (p : Plain). p.history) c.self.view_is) (c.is_late.ensures.0 c.if-is_late.true)
 
 pub returns-then-closes_ring-clause-err : goal.returns-then-closes_ring-clause-err
 returns-then-closes_ring-clause-err c = (
@@ -16,7 +16,7 @@ returns-then-closes_ring-clause-err c = (
   record {
     writer = c.requires;
     in_time = λ late. absurd (let yes : c.is_late.result ≡ true =
-        c.is_late.ensures.1 (subst (λ (h : List Transaction). IsLate h c.args.session.now.start c.args.key) (sym (c.deref.ensures.value ∙ ap (λ (p : Plain). p.history) c.self.view_is)) late)
+        c.is_late.ensures.1 (subst (λ (h : List Transaction). IsLate h (start_now h (open_of c.args.session.now)) c.args.key) (sym (c.deref.ensures.value ∙ ap (λ (p : Plain). p.history) c.self.view_is)) late)
         in let never : false ≡ true = sym c.if-is_late.false ∙ yes in cc);
     other = c.in-Some.ensures.0;
     held = subst (λ (l : List (Option PlainSession)). (m : OpenSession) × (session_in l c.in-Some.o ≡ Some m) × IsSome (own_write m c.args.key))
