@@ -6,6 +6,7 @@ use Rattle.calls.specs.declared.step.Step.TheVariants as step
 -- whose step it is; cleaning is nobody's
 abbrev pub session_of : Step → Option ℕ
 session_of (step.Begin s) = Some s
+session_of (step.BeginReadCommitted s) = Some s
 session_of (step.Get s k) = Some s
 session_of (step.Insert s row) = Some s
 session_of (step.Update s row) = Some s

@@ -35,6 +35,8 @@ pub const MOST_SESSIONS: usize = 64;
 pub enum Step {
     /// Opens the session: it reads what was committed by now.
     Begin(u8),
+    /// Opens the session: each of its statements reads what was committed by then.
+    BeginReadCommitted(u8),
     /// Reads the row of a key.
     Get(u8, u64),
     /// Writes a row of a key that has none.
@@ -118,6 +120,7 @@ impl Step {
     {
         match self {
             Step::Begin(s) => Ok(Step::Begin(*s)),
+            Step::BeginReadCommitted(s) => Ok(Step::BeginReadCommitted(*s)),
             Step::Get(s, key) => Ok(Step::Get(*s, *key)),
             Step::Insert(s, row) => Ok(Step::Insert(*s, row.copy(alloc)?)),
             Step::Update(s, row) => Ok(Step::Update(*s, row.copy(alloc)?)),

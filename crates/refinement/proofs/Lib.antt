@@ -17,6 +17,7 @@ pub mod Deleting
 pub mod Updating
 pub mod Pruning
 pub mod Commit
+pub mod ByStatement
 pub mod Runs
 pub mod Follows
 pub mod Hindrances

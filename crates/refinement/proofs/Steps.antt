@@ -63,7 +63,7 @@ cases_Contains (y ∷ ys) x = elim (cases_eq y x) [
 ]
 
 -- what a session has written is what its ids made and deleted
-levels_traced : (store : Tid → Option Version) (own : List ℕ) (saved : List (List ℕ)) (levels : List (List Write)) → Nested own saved → LevelTraces store own saved levels → Traced store (λ x. Contains own x) (joined levels)
+pub levels_traced : (store : Tid → Option Version) (own : List ℕ) (saved : List (List ℕ)) (levels : List (List Write)) → Nested own saved → LevelTraces store own saved levels → Traced store (λ x. Contains own x) (joined levels)
 levels_traced store own [] [] nested h = absurd h
 levels_traced store own [] (ws ∷ []) nested h = h
 levels_traced store own [] (ws ∷ (vs ∷ levels)) nested h = absurd h

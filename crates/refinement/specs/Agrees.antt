@@ -6,8 +6,8 @@ use Rattle.tuple_header.specs.declared.version.Row.{Row}
 use Rattle.tuple_header.specs.Version.{Version}
 use Rattle.commit_status.specs.declared.status.Status.{Status}
 use Rattle.history.specs.History.{Write, Transaction, written, committed, reading, IsLate}
-use Rattle.history.specs.World.{World, by_snapshot, OpenSession, joined, own_write, start_now, Holds}
-use Rattle.refinement.specs.Heap.{SeenSession, Heap}
+use Rattle.history.specs.World.{World, Isolation, by_snapshot, by_statement, OpenSession, joined, own_write, start_now, Holds}
+use Rattle.refinement.specs.Heap.{SeenIsolation, seen_by_snapshot, seen_by_statement, SeenSession, Heap, StatementSees, CursorSees}
 use Rattle.visibility.specs.Seeing.{HasCommitted, IsRunning, Reads, VisibleBy, Touches, inserter, deleter}
 use Rattle.refinement.specs.Visible.{ReaderSees, HasMissed, IsBy, At, SomeVersion}
 use Rattle.refinement.specs.Cursors.{CursorAgrees}
@@ -52,14 +52,28 @@ pub record TracesAgree (status : ℕ → Option Status) (store : Tid → Option 
   pub late_missed : (k : ℕ) → IsLate history start k → SomeVersion store k (HasMissed status sees)
   pub missed_late : (p : Tid) (v : Version) → At store p v → HasMissed status sees v → IsLate history start v.row.key
 
+-- both read by snapshot, or both by statement
+abbrev pub IsSameIsolation : SeenIsolation → Isolation → Type 0
+IsSameIsolation (seen_by_snapshot snap) (by_snapshot start) = Unit {0}
+IsSameIsolation (seen_by_statement kept) by_statement = Unit {0}
+IsSameIsolation seen isolation = ⊥
+
+-- A cursor reads, with these ids of its session's own, as who began when it was opened, and had written this. It sees nothing
+-- that is in progress
+pub record CursorReads (status : ℕ → Option Status) (store : Tid → Option Version) (history : List Transaction) (sees : ℕ → Type 0) (own : List ℕ) (writes : List Write) : Type 0 where
+  pub start : ℕ
+  pub began : start ≤ length history
+  pub reads : ReaderAgrees status store history sees start own writes
+  pub active_unseen : (x : ℕ) → IsRunning status x → ¬ sees x
+
 -- an open session agrees with the model's: it reads by `sees`, as who began at `start`, and its cursor by `cursor_sees`
 pub record SessionAgrees (status : ℕ → Option Status) (store : Tid → Option Version) (history : List Transaction)
     (sees : ℕ → Type 0) (start : ℕ) (cursor_sees : ℕ → Type 0) (e : SeenSession) (m : OpenSession) : Type 0 where
   pub same_failed : e.failed ≡ m.failed
-  -- it reads by the snapshot of its beginning
-  pub isolation : m.isolation ≡ by_snapshot start
+  pub isolation : IsSameIsolation e.isolation m.isolation
   -- what its cursor has still to hand out is what the model's has
   pub cursor : CursorAgrees store (ReaderSees status cursor_sees e.own) e.cursor m.cursor
+  pub cursor_reads : IsSome e.cursor → CursorReads status store history cursor_sees e.own (joined m.levels)
   -- it reads its view, and could return to each savepoint
   pub levels : LevelsAgree status store history sees start e.own e.saved m.levels
   -- what it has written at each level is what the ids of that level made and deleted
@@ -75,7 +89,7 @@ pub record SessionAgrees (status : ℕ → Option Status) (store : Tid → Optio
 pub record HeapAgrees (h : Heap) (w : World) : Type 0 where
   -- each session reads its view, and has exact traces
   pub opened : (s : ℕ) (e : SeenSession) → h.session s ≡ Some e → (m : OpenSession) × (w.session s ≡ Some m)
-      × SessionAgrees h.status h.version w.history (h.sees e.snapshot) (start_now w.history m) (h.sees e.snapshot) e m
+      × SessionAgrees h.status h.version w.history (StatementSees h e.isolation) (start_now w.history m) (CursorSees h e.isolation) e m
   -- same sessions
   pub idle : (s : ℕ) → h.session s ≡ None → w.session s ≡ None
   -- no wait is recorded yet

@@ -3,7 +3,7 @@ use Rattle.std.specs.Prelude.{◌≡◌, ℕ, ◌-◌, ◌<◌, ◌≤◌, List,
 use Rattle.history.specs.History.{IsLate}
 use Rattle.history.specs.World.{World, OpenSession, Cursor, beginning, start_now, view, IsReady, IsWriter, MayWrite, IsBlocked, world_sessions}
 use Rattle.history.specs.Cursors.{keys_of, IsOver, HandsOutPart}
-use Rattle.history.specs.Moves.{stepped, begun, change, with_row, without_row, as_failed, with_savepoint, rolled_back_to, without_savepoint, aborted, committed_by, with_index_cursor, with_heap_cursor, with_taken, without_cursor}
+use Rattle.history.specs.Moves.{stepped, begun, begun_by_statement, change, with_row, without_row, as_failed, with_savepoint, rolled_back_to, without_savepoint, aborted, committed_by, with_index_cursor, with_heap_cursor, with_taken, without_cursor}
 use Rattle.history.specs.Laws.{FirstCommitterWins, HeldInTime, HeldOnce}
 use Rattle.calls.specs.declared.step.Step.{Step}
 use Rattle.calls.specs.declared.step.Step.TheVariants as step
@@ -60,6 +60,9 @@ Allows w (step.Begin s) reply.Done = (s < MOST_SESSIONS) × (w.session s ≡ Non
 Allows w (step.Begin s) (reply.Refused refusal.NoSuchSession) = MOST_SESSIONS ≤ s
 Allows w (step.Begin s) (reply.Refused refusal.AlreadyOpen) = (m : OpenSession) × IsOpen w s m
 Allows w (step.Begin s) (reply.Refused refusal.NoMemory) = (s < MOST_SESSIONS) × (w.session s ≡ None)
+Allows w (step.BeginReadCommitted s) reply.Done = (s < MOST_SESSIONS) × (w.session s ≡ None)
+Allows w (step.BeginReadCommitted s) (reply.Refused refusal.NoSuchSession) = MOST_SESSIONS ≤ s
+Allows w (step.BeginReadCommitted s) (reply.Refused refusal.AlreadyOpen) = (m : OpenSession) × IsOpen w s m
 Allows w (step.Get s k) (reply.Found row) = (m : OpenSession) × IsReady w s m × (row ≡ view w.history m k)
 Allows w (step.Get s k) (reply.Refused refusal) = BarsReady (world_sessions w) s refusal
 Allows w (step.Insert s row) reply.Done = AllowsWrite w s (inserts row)
@@ -125,6 +128,7 @@ after_refused_write w s refusal = stepped w s
 -- the world after the reply. Cleaning leaves it as it is
 abbrev pub next : World → Step → Reply → World
 next w (step.Begin s) reply.Done = begun w s
+next w (step.BeginReadCommitted s) reply.Done = begun_by_statement w s
 next w (step.Insert s row) reply.Done = change w s (with_row w.history (row_of row))
 next w (step.Insert s row) (reply.Refused refusal) = after_refused_write w s refusal
 next w (step.Update s row) reply.Done = change w s (with_row w.history (row_of row))

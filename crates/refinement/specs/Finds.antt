@@ -7,7 +7,7 @@ use Rattle.history.specs.World.{World}
 use Rattle.calls.specs.declared.step.Step.{Step}
 use Rattle.calls.specs.declared.reply.Reply.{Reply}
 use Rattle.refinement.specs.Allowed.{Allows, next}
-use Rattle.refinement.specs.Heap.{SeenSession, Heap}
+use Rattle.refinement.specs.Heap.{SeenSession, Heap, StatementSees}
 use Rattle.visibility.specs.Seeing.{IsOtherWriter}
 use Rattle.refinement.specs.Visible.{ReaderSees, HasMissed, At, SomeVersion}
 use Rattle.refinement.specs.Agrees.{HeapAgrees}
@@ -19,7 +19,7 @@ FindsOfKey store seen k (Some row) = SomeVersion store k (λ v. seen v × (row �
 
 -- what keeps the session from writing the key: a commit that it does not see, or an id of another session
 abbrev pub IsLateFor : Heap → SeenSession → ℕ → Type 0
-IsLateFor h e k = SomeVersion h.version k (HasMissed h.status (h.sees e.snapshot))
+IsLateFor h e k = SomeVersion h.version k (HasMissed h.status (StatementSees h e.isolation))
 
 abbrev pub IsHeldBy : Heap → SeenSession → ℕ → ℕ → Type 0
 IsHeldBy h e k x = SomeVersion h.version k (λ v. IsOtherWriter h.status e.own x v.header)
@@ -29,7 +29,7 @@ pub record BeginsWrite (h : Heap) (s : ℕ) (e : SeenSession) (k : ℕ) (found :
   pub at : h.session s ≡ Some e
   pub sound : e.failed ≡ false
   pub bare : e.cursor ≡ None
-  pub finds : FindsOfKey h.version (ReaderSees h.status (h.sees e.snapshot) e.own) k found
+  pub finds : FindsOfKey h.version (ReaderSees h.status (StatementSees h e.isolation) e.own) k found
 
 -- nor does anything keep it from writing the key
 pub record Free (h : Heap) (s : ℕ) (e : SeenSession) (k : ℕ) (found : Option Row) : Type 0 where

@@ -1,9 +1,10 @@
 -- An engine as its readers see it: what stands where, what became of each id, and who reads.
-use Rattle.std.specs.Prelude.{ℕ, ℤ, Bool, List, Option}
+use Rattle.std.specs.Prelude.{◌≡◌, ℕ, ℤ, Bool, List, Option, Some, None}
 use Rattle.xid_circle.specs.declared.Tid.{Tid}
 use Rattle.tuple_header.specs.Version.{Version}
 use Rattle.commit_status.specs.declared.status.Status.{Status}
 use Rattle.snapshot.specs.Snap.{Snap}
+use Rattle.visibility.specs.Seeing.{HasCommitted}
 use Rattle.calls.specs.Bars.{SessionLooks}
 
 -- a place in the order of an index: that of a row with this value and key
@@ -18,9 +19,15 @@ pub data Position : Type 0 where
   -- in the heap, from this place on
   in_heap : (from : Tid) → Position
 
+-- By which snapshot a session reads: by that of its beginning; or each of its statements by one of its own, which lists nobody and
+-- is not kept. Then it keeps that by which its cursor was opened, until this is closed
+pub data SeenIsolation : Type 0 where
+  seen_by_snapshot : Snap → SeenIsolation
+  seen_by_statement : (kept : Option Snap) → SeenIsolation
+
 -- an open session
 pub record SeenSession : Type 0 where
-  pub snapshot : Snap
+  pub isolation : SeenIsolation
   -- its ids that are not rolled back
   pub own : List ℕ
   -- for each savepoint, the newest first, the ids that it had then
@@ -36,6 +43,26 @@ pub record Heap : Type 1 where
   -- whether a snapshot sees an id
   pub sees : Snap → ℕ → Type 0
   pub session : ℕ → Option SeenSession
+
+-- the snapshot that a session keeps from step to step, if it keeps one
+abbrev pub kept_snapshot : SeenIsolation → Option Snap
+kept_snapshot (seen_by_snapshot snap) = Some snap
+kept_snapshot (seen_by_statement kept) = kept
+
+-- an open session keeps this snapshot
+abbrev pub IsKept : (ℕ → Option SeenSession) → Snap → Type 0
+IsKept session snap = (s : ℕ) × (e : SeenSession) × (session s ≡ Some e) × (kept_snapshot e.isolation ≡ Some snap)
+
+-- whether a statement of a session sees an id: by its snapshot, or where the id has committed
+abbrev pub StatementSees : Heap → SeenIsolation → ℕ → Type 0
+StatementSees h (seen_by_snapshot snap) x = h.sees snap x
+StatementSees h (seen_by_statement kept) x = HasCommitted h.status x
+
+-- whether its cursor does
+abbrev pub CursorSees : Heap → SeenIsolation → ℕ → Type 0
+CursorSees h (seen_by_snapshot snap) x = h.sees snap x
+CursorSees h (seen_by_statement (Some snap)) x = h.sees snap x
+CursorSees h (seen_by_statement None) x = HasCommitted h.status x
 
 -- its sessions, as far as what bars one from a step looks at them
 abbrev pub seen_sessions : Heap → SessionLooks SeenSession Position

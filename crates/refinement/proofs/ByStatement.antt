@@ -1,0 +1,160 @@
+-- A session by statement: it counts its own ids and all that has committed. What another's commit does to it.
+use Rattle.std.proofs.Common.{◌≡◌, ℕ, List, [], ◌∷◌, ◌++◌, length, Option, Some, None, false, true, refl, sym, ap, ◌∙◌, subst, inl, inr, arith}
+use Rattle.std.specs.Prelude.{IsSome, Contains}
+use Rattle.std.specs.Option.{is_some}
+use Rattle.std.proofs.lemmas.Bool.{both_ways}
+use Rattle.std.proofs.lemmas.Option.{slice_get_within}
+use Rattle.xid_circle.specs.declared.Tid.{Tid}
+use Rattle.tuple_header.specs.declared.version.Row.{Row}
+use Rattle.tuple_header.specs.Version.{Version}
+use Rattle.commit_status.specs.declared.status.Status.{Status}
+use Rattle.commit_status.specs.declared.status.Status.TheVariants.{InProgress, Committed, Aborted}
+use Rattle.history.specs.History.{Write, Transaction, committed, written, own_or, IsLate}
+use Rattle.history.specs.World.{OpenSession, joined, own_write}
+use Rattle.refinement.specs.Heap.{SeenSession}
+use Rattle.history.proofs.HistoryLemmas.{written-append, IsSome-or_second}
+use Rattle.visibility.specs.Seeing.{HasCommitted, IsRunning, Reads, by_itself, by_others, VisibleBy, Touches, inserter, deleter}
+use Rattle.refinement.specs.Visible.{ReaderSees, HasMissed, IsFreshSnapshot, At}
+use Rattle.refinement.specs.Changes.{FinishesIds, GivesNext, SameSight}
+use Rattle.refinement.proofs.Readers.{ReaderAgrees-same}
+use Rattle.refinement.specs.Agrees.{Shows, ReaderAgrees, LevelsAgree, Traced, LevelTraces, SessionAgrees}
+use Rattle.refinement.proofs.ShowsLemmas.{Shows-by_key}
+use Rattle.refinement.proofs.Statuses.{keeps-give, IsCommitted-give, IsCommitted-finish_old, IsCommitted-commit_cases, IsCommitted-abort, IsActive-finish_other}
+use Rattle.refinement.proofs.CursorsLemmas.{CursorAgrees-keeps}
+use Rattle.refinement.proofs.Others.{same_seen}
+use Rattle.refinement.proofs.LevelTraces.{Nested, nested_of}
+use Rattle.refinement.proofs.Steps.{levels_traced}
+use Rattle.visibility.proofs.Verdicts.{VisibleBy-same}
+
+or-some : (o : Option (Option Row)) (p q : Option Row) → IsSome o → own_or o p ≡ own_or o q
+or-some None p q some = cc
+or-some (Some r) p q some = refl
+
+or-none : (o : Option (Option Row)) (p : Option Row) → ¬ IsSome o → own_or o p ≡ p
+or-none None p none = refl
+or-none (Some r) p none = absurd (none refl)
+
+-- Of one that reads by statement nothing is late, and nothing is missed.
+pub none_missed : {status : ℕ → Option Status} (v : Version) → ¬ HasMissed status (λ x. HasCommitted status x) v
+none_missed v missed = missed.1.2 missed.1.1
+
+pub none_late : (history : List Transaction) (k : ℕ) → ¬ IsLate history (length history) k
+none_late history k late = let within = slice_get_within history late.0 late.1 late.3 in let from = late.2 in absurd (omega arith)
+
+-- Another session commits, whose ids these are: the reader that has these ids of its own, and has written this, sees what it has
+-- written itself as before, and of every other key what a new session sees.
+module _ (status status' : ℕ → Option Status) (store : Tid → Option Version) (history : List Transaction) (theirs : List ℕ) (t : Transaction)
+    (finishes : FinishesIds status status' (λ x. Contains theirs x) Committed)
+    (carries : Traced store (λ x. Contains theirs x) t)
+    (current : Shows store (λ v. VisibleBy (HasCommitted status') v.header) (committed (history ++ t ∷ []) (length (history ++ t ∷ []))))
+    (made : (p : Tid) (y : ℕ) (v : Version) → At store p v → deleter v.header ≡ Some y → HasCommitted status' y → (x : ℕ) → inserter v.header ≡ Some x → HasCommitted status' x) where
+
+  still : {own : List ℕ} (y : ℕ) → Reads status (λ x. HasCommitted status x) own y → Reads status' (λ x. HasCommitted status' x) own y
+  still y (by_itself mine) = by_itself mine
+  still y (by_others seen done) = let now = IsCommitted-finish_old finishes y done in by_others now now
+
+  pub ReaderAgrees-commit_by_statement : (own : List ℕ) (writes : List Write) → Traced store (λ x. Contains own x) writes
+      → ((k : ℕ) → IsSome (written writes k) → IsSome (written t k) → ⊥)
+      → ReaderAgrees status store history (λ x. HasCommitted status x) (length history) own writes
+      → ReaderAgrees status' store (history ++ t ∷ []) (λ x. HasCommitted status' x) (length (history ++ t ∷ [])) own writes
+  ReaderAgrees-commit_by_statement own writes traced alone h = record {
+    rows = Shows-by_key (λ k. is_some (written writes k))
+        (λ p v at ours. (
+        (λ seen. VisibleBy-same (λ y touch r. still y r) (λ y touch r. before p v at ours y touch r) seen),
+        (λ seen. VisibleBy-same (λ y touch r. before p v at ours y touch r) (λ y touch r. still y r) seen)))
+        (λ k ours. or-some (written writes k) (committed (history ++ t ∷ []) (length (history ++ t ∷ [])) k) (committed history (length history) k) ours)
+        (λ p v at other. (
+        (λ seen. VisibleBy-same (λ y touch done. by_others done done) (λ y touch r. counted p v at other y touch r) seen),
+        (λ seen. VisibleBy-same (λ y touch r. counted p v at other y touch r) (λ y touch done. by_others done done) seen)))
+        (λ k other. or-none (written writes k) (committed (history ++ t ∷ []) (length (history ++ t ∷ [])) k) (both_ways (is_some (written writes k)) other))
+        h.rows current;
+    whole = λ p y v at is reads x maker. whole p y v at is reads x maker;
+  }
+    where
+      -- of a key that it wrote, nothing is theirs
+      before : (p : Tid) (v : Version) → At store p v → IsSome (written writes v.row.key) → (y : ℕ) → Touches y v.header
+          → Reads status' (λ x. HasCommitted status' x) own y → Reads status (λ x. HasCommitted status x) own y
+      before p v at ours y touch (by_itself mine) = by_itself mine
+      before p v at ours y touch (by_others seen done) = elim (IsCommitted-commit_cases finishes y done) [
+        | inl their ↦ absurd (alone v.row.key ours (carries.there_written p v at (y, touch, their)))
+        | inr old ↦ by_others old old
+      ]
+
+      -- of any other, nothing is its own
+      counted : (p : Tid) (v : Version) → At store p v → is_some (written writes v.row.key) ≡ false → (y : ℕ) → Touches y v.header
+          → Reads status' (λ x. HasCommitted status' x) own y → HasCommitted status' y
+      counted p v at other y touch (by_itself mine) = absurd (both_ways (is_some (written writes v.row.key)) other (traced.there_written p v at (y, touch, mine)))
+      counted p v at other y touch (by_others seen done) = done
+
+      whole : (p : Tid) (y : ℕ) (v : Version) → At store p v → deleter v.header ≡ Some y → Reads status' (λ x. HasCommitted status' x) own y
+          → (x : ℕ) → inserter v.header ≡ Some x → Reads status' (λ x. HasCommitted status' x) own x
+      whole p y v at is (by_itself mine) x maker = still x (h.whole p y v at is (by_itself mine) x maker)
+      whole p y v at is (by_others seen done) x maker = let now = made p y v at is done x maker in by_others now now
+
+  fewer : (ws : List Write) (levels : List (List Write)) → ((k : ℕ) → IsSome (written (joined (ws ∷ levels)) k) → IsSome (written t k) → ⊥)
+      → (k : ℕ) → IsSome (written (joined levels) k) → IsSome (written t k) → ⊥
+  fewer ws levels alone k wrote = alone k (subst (λ o. IsSome o) (sym (written-append (joined levels) ws k)) (IsSome-or_second (written ws k) (written (joined levels) k) wrote))
+
+  -- and so it is at each savepoint
+  pub Levels-commit_by_statement : (own : List ℕ) (saved : List (List ℕ)) (levels : List (List Write)) → Nested own saved → LevelTraces store own saved levels
+      → ((k : ℕ) → IsSome (written (joined levels) k) → IsSome (written t k) → ⊥)
+      → LevelsAgree status store history (λ x. HasCommitted status x) (length history) own saved levels
+      → LevelsAgree status' store (history ++ t ∷ []) (λ x. HasCommitted status' x) (length (history ++ t ∷ [])) own saved levels
+  Levels-commit_by_statement own [] [] nested traces alone h = absurd h
+  Levels-commit_by_statement own [] (ws ∷ []) nested traces alone h =
+      ReaderAgrees-commit_by_statement own (joined (ws ∷ [])) (levels_traced store own [] (ws ∷ []) nested traces) alone h
+  Levels-commit_by_statement own [] (ws ∷ (vs ∷ levels)) nested traces alone h = absurd h
+  Levels-commit_by_statement own (earlier ∷ saved) [] nested traces alone h = absurd h
+  Levels-commit_by_statement own (earlier ∷ saved) (ws ∷ levels) nested traces alone h = (
+    ReaderAgrees-commit_by_statement own (joined (ws ∷ levels)) (levels_traced store own (earlier ∷ saved) (ws ∷ levels) nested traces) alone h.0,
+    h.1,
+    Levels-commit_by_statement earlier saved levels nested.1 traces.1 (fewer ws levels alone) h.2,
+  )
+
+  -- The session as a whole, whose cursor, if it has one, sees nothing in progress.
+  pub SessionAgrees-commit_by_statement : {cursor_sees cursor_sees' : ℕ → Type 0} {e : SeenSession} {m : OpenSession} → SameSight status cursor_sees cursor_sees' → ((x : ℕ) → IsRunning status x → ¬ cursor_sees x)
+      → ((x : ℕ) → Contains theirs x → ¬ Contains e.own x) → ((k : ℕ) → IsSome (own_write m k) → IsSome (written t k) → ⊥)
+      → SessionAgrees status store history (λ x. HasCommitted status x) (length history) cursor_sees e m
+      → SessionAgrees status' store (history ++ t ∷ []) (λ x. HasCommitted status' x) (length (history ++ t ∷ [])) cursor_sees' e m
+  SessionAgrees-commit_by_statement {cursor_sees} {cursor_sees'} {e} {m} same unseen foreign alone h = record {
+    same_failed = h.same_failed;
+    cursor = CursorAgrees-keeps (same_seen e.own (λ y done. IsCommitted-finish_old finishes y done) same back) h.cursor;
+    levels = Levels-commit_by_statement e.own e.saved m.levels (nested_of status store history (λ x. HasCommitted status x) (length history) e.own e.saved m.levels h.levels) h.level_traces alone h.levels;
+    level_traces = h.level_traces;
+    traces = record {
+      late_missed = λ k late. absurd (none_late (history ++ t ∷ []) k late);
+      missed_late = λ p v at missed. absurd (none_missed v missed);
+    };
+    began = omega arith;
+    in_time = λ k wrote late. none_late (history ++ t ∷ []) k late;
+    active_unseen = λ y active done. let both : Some InProgress ≡ Some Committed = sym active ∙ done in cc;
+    own_active = λ y mine. IsActive-finish_other finishes y (λ p. foreign y p mine) (h.own_active y mine);
+  }
+    where
+      back : (y : ℕ) → Reads status' cursor_sees' e.own y → Reads status cursor_sees e.own y
+      back y (by_itself mine) = by_itself mine
+      back y (by_others seen done) = elim (IsCommitted-commit_cases finishes y done) [
+        | inl their ↦ (let active = finishes.active y their in absurd (unseen y active ((same y InProgress active).1 seen)))
+        | inr old ↦ by_others ((same y Committed old).1 seen) old
+      ]
+
+-- Of ids given or rolled back, what has committed is seen as before.
+pub committed_sight-give : {status status' : ℕ → Option Status} (x : ℕ) → GivesNext status status' x → SameSight status (λ y. HasCommitted status y) (λ y. HasCommitted status' y)
+committed_sight-give x gives y s is = (λ done. keeps-give gives y Committed done, λ done. IsCommitted-give gives y done)
+
+pub committed_sight-abort : {status status' : ℕ → Option Status} (P : ℕ → Type 0) → FinishesIds status status' P Aborted → SameSight status (λ y. HasCommitted status y) (λ y. HasCommitted status' y)
+committed_sight-abort P finishes y s is = (λ done. IsCommitted-finish_old finishes y done, λ done. IsCommitted-abort finishes y done)
+
+-- A snapshot that is taken now reads the same: so a cursor may be opened.
+pub ReaderAgrees-opens : {status : ℕ → Option Status} {store : Tid → Option Version} {history : List Transaction} {sees : ℕ → Type 0} {start : ℕ} {own : List ℕ} {writes : List Write}
+    → IsFreshSnapshot status sees → ReaderAgrees status store history (λ x. HasCommitted status x) start own writes → ReaderAgrees status store history sees start own writes
+ReaderAgrees-opens {status} {store} {history} {sees} {start} {own} {writes} fresh h =
+    ReaderAgrees-same (λ p x v at touch reads. to x reads) (λ p x v at touch reads. back x reads) (λ k. refl) (λ k. refl) h
+  where
+    to : (x : ℕ) → Reads status (λ x. HasCommitted status x) own x → Reads status sees own x
+    to x (by_itself mine) = by_itself mine
+    to x (by_others seen done) = by_others (fresh.finished x done) done
+
+    back : (x : ℕ) → Reads status sees own x → Reads status (λ x. HasCommitted status x) own x
+    back x (by_itself mine) = by_itself mine
+    back x (by_others seen done) = by_others done done
