@@ -117,6 +117,9 @@ uint32_t sandpiper_close(struct sandpiper *table);
 /* Transactions. A session is one transaction: it reads what was committed when it began, and its own writes over that. A
  * commit answers COMMITTED, or ROLLED_BACK where the transaction had failed. Either way the session is closed after it. */
 uint32_t sandpiper_begin(struct sandpiper *table, uint8_t session);
+/* The same by statement: each get, write and opening of a cursor reads what was committed by then (PostgreSQL's Read Committed). A
+ * write there never answers CONFLICT. Between its calls such a session holds back what its own writes and an open cursor need. */
+uint32_t sandpiper_begin_read_committed(struct sandpiper *table, uint8_t session);
 uint32_t sandpiper_commit(struct sandpiper *table, uint8_t session);
 uint32_t sandpiper_abort(struct sandpiper *table, uint8_t session);
 

@@ -64,6 +64,7 @@ ARGUMENTS: Dict[str, List[Any]] = {
     "open": [POINTER, POINTER],
     "close": [POINTER],
     "begin": [POINTER, SESSION],
+    "begin_read_committed": [POINTER, SESSION],
     "commit": [POINTER, SESSION],
     "abort": [POINTER, SESSION],
     "savepoint": [POINTER, SESSION],

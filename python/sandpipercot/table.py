@@ -139,15 +139,16 @@ class Table:
     def is_open(self) -> bool:
         return self._handle is not None and bool(self._handle.is_open)
 
-    def begin(self, number: Optional[int] = None) -> Session:
-        """Opens a session of this number, from 0 to 63, or of the lowest that is not open. Refusals: NoSuchSession, also where
-        all 64 are open, AlreadyOpen, NoMemory."""
+    def begin(self, number: Optional[int] = None, *, read_committed: bool = False) -> Session:
+        """Opens a session of this number, from 0 to 63, or of the lowest that is not open. It reads what is committed now; with
+        `read_committed` each of its calls reads what is committed by then, and no write of it meets a Conflict. Refusals:
+        NoSuchSession, also where all 64 are open, AlreadyOpen, and NoMemory, not by `read_committed`."""
         self._ready()
         if number is None:
             number = next((it for it in range(_c.SESSIONS) if it not in self._sessions), _c.SESSIONS)
             if number == _c.SESSIONS:
                 raise NoSuchSession("all 64 sessions are open")
-        self._call("begin", fits(number, 8))
+        self._call("begin_read_committed" if read_committed else "begin", fits(number, 8))
         self._sessions.add(number)
         return Session(self, number)
 

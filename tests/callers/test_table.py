@@ -83,6 +83,22 @@ class TableTest(unittest.TestCase):
             with self.assertRaises(sp.Conflict):
                 old.update(row(3))
 
+    def test_read_committed_reads_anew(self) -> None:
+        by_snapshot, by_statement = self.table.begin(), self.table.begin(read_committed=True)
+        with self.table.begin() as new:
+            new.update(row(3, 333))
+            with self.assertRaises(sp.Busy):
+                by_statement.update(row(3))
+        self.assertEqual(by_snapshot.get(3), row(3, 30, b"first"))
+        self.assertEqual(by_statement.get(3), row(3, 333))
+        cursor = by_statement.by_key(3, 3, 1)
+        with self.table.begin(read_committed=True) as newer:
+            newer.update(row(3, 444))
+        self.assertEqual(list(cursor), [row(3, 333)])
+        by_statement.update(row(3, 445))
+        by_statement.commit()
+        self.assertRaises(sp.Conflict, by_snapshot.update, row(3))
+
     def test_savepoints_take_back(self) -> None:
         with self.table.begin() as session:
             session.savepoint()

@@ -49,6 +49,18 @@ pub extern "C" fn sandpiper_begin(alloc: Global, table: &mut Sandpiper, session:
     do_step(alloc, table, Step::Begin(session))
 }
 
+/// Opens the session: each of its statements reads what was committed by then.
+#[unsafe(no_mangle)]
+pub extern "C" fn sandpiper_begin_read_committed(
+    alloc: Global,
+    table: &mut Sandpiper,
+    session: u8,
+) -> u32
+    ensures { Does table.old (step.BeginReadCommitted session) result table.new }
+{
+    do_step(alloc, table, Step::BeginReadCommitted(session))
+}
+
 /// Reads the row of the key, and writes it to `row`, if there is one.
 #[unsafe(no_mangle)]
 pub extern "C" fn sandpiper_get(

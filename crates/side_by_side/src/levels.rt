@@ -5,6 +5,14 @@ use arrayvec::ArrayVec;
 use session_core::Step;
 use xid_circle::{Xid, precedes};
 
+// How a session reads, once it is open.
+#[derive(Clone, Copy, PartialEq, Eq)]
+enum Opened {
+    Not,
+    BySnapshot,
+    ByStatement,
+}
+
 /// The levels of an open session: it has one, and one more for each savepoint.
 #[derive(Drop)]
 pub(crate) struct Levels {
@@ -12,7 +20,8 @@ pub(crate) struct Levels {
     ids: ArrayVec<u32, 33>,
     // The session's first id, once it has one.
     first: Option<Xid>,
-    // While the session is open: its snapshot's xmin.
+    opened: Opened,
+    // The xmin of the snapshot that it keeps, while it keeps one.
     xmin: Option<Xid>,
 }
 
@@ -36,12 +45,15 @@ pub(crate) fn xmin_of(sessions: &[Levels], next: Xid) -> Xid {
     xmin
 }
 
-/// The horizon: the earliest xmin of an open session's snapshot, or else the next id. A session's own ids come after its xmin.
+/// The horizon: the earliest of the next id, the xmin of each snapshot that is kept, and each open session's first id.
 pub(crate) fn horizon_of(sessions: &[Levels], next: Xid) -> Xid {
     let mut horizon = next;
     for levels in sessions {
         if let Some(xmin) = levels.xmin {
             horizon = earlier(horizon, xmin);
+        }
+        if let Some(first) = levels.first {
+            horizon = earlier(horizon, first);
         }
     }
     horizon
@@ -50,7 +62,8 @@ pub(crate) fn horizon_of(sessions: &[Levels], next: Xid) -> Xid {
 /// The session whose levels the step may change, if it may change any.
 pub(crate) fn session_of_levels(step: &Step) -> Option<u8> {
     match step {
-        Step::Begin(s) | Step::Commit(s) | Step::Abort(s) => Some(*s),
+        Step::Begin(s) | Step::BeginReadCommitted(s) => Some(*s),
+        Step::Commit(s) | Step::Abort(s) => Some(*s),
         Step::Savepoint(s) | Step::RollbackTo(s) | Step::Release(s) => Some(*s),
         _ => writer_of(step),
     }
@@ -64,6 +77,7 @@ impl Levels {
         Levels {
             ids,
             first: None,
+            opened: Opened::Not,
             xmin: None,
         }
     }
@@ -88,12 +102,25 @@ impl Levels {
 
     /// The session begins, with a snapshot of this xmin.
     pub(crate) fn begin(&mut self, xmin: Xid) {
+        self.opened = Opened::BySnapshot;
         self.xmin = Some(xmin);
+    }
+
+    /// The session begins, and each of its statements reads by a snapshot of its own.
+    pub(crate) fn begin_by_statement(&mut self) {
+        self.opened = Opened::ByStatement;
+    }
+
+    /// The session has a cursor, or none any more. By statement it keeps the cursor's snapshot, of this xmin, and else none.
+    pub(crate) fn note_cursor(&mut self, xmin: Option<Xid>) {
+        if self.opened == Opened::ByStatement {
+            self.xmin = xmin;
+        }
     }
 
     /// Whether the session is open.
     pub(crate) fn is_open(&self) -> bool {
-        self.xmin.is_some()
+        self.opened != Opened::Not
     }
 
     // A write gives an id to each level that has none, the lowest first: the first id of a session is that of its lowest level.
@@ -119,7 +146,8 @@ impl Levels {
     /// Follows a step of the session that was done, where this was the next id, and says how many ids it gives.
     pub(crate) fn follow(&mut self, step: &Step, next: Xid) -> usize {
         match step {
-            Step::Begin(_) | Step::Commit(_) | Step::Abort(_) => *self = Levels::new(),
+            Step::Begin(_) | Step::BeginReadCommitted(_) => *self = Levels::new(),
+            Step::Commit(_) | Step::Abort(_) => *self = Levels::new(),
             Step::Savepoint(_) => self.push(0),
             Step::RollbackTo(_) => {
                 self.pop();

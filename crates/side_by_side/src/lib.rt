@@ -8,6 +8,7 @@
 
 mod compare;
 mod cursors;
+mod cuts;
 mod levels;
 mod look;
 mod pair;

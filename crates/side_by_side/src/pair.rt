@@ -8,6 +8,7 @@ ghost use Rattle.xid_circle.specs.Circle.{IsNormal, distance_of};
 
 use crate::compare::{same_found, same_reply};
 use crate::cursors::{Cursor, hand_out};
+use crate::cuts::{Chains, chains_of, count_cuts};
 use crate::levels::{Levels, horizon_of, session_of_levels, xmin_of};
 use crate::look::{are_all_visible, count_slots, first_astray, first_misnoted};
 use crate::plain_side::{all_rows, answer, answer_without_writing, refused_or};
@@ -80,6 +81,8 @@ pub struct Pair {
     cursors: Vec<Cursor>,
     // The one that runs, if one does.
     vacuum: Option<RunningVacuum>,
+    // How many versions prunings took before they were dead.
+    cuts: u64,
 }
 
 // What was so before a step.
@@ -151,6 +154,15 @@ fn reading_of(row: &Option<Row>, expected: &Option<Row>) -> Reading {
     }
 }
 
+// The session whose snapshot the step may change, if it may change any.
+fn session_of_snapshot(step: &Step) -> Option<u8> {
+    match step {
+        Step::Begin(s) | Step::BeginReadCommitted(s) => Some(*s),
+        Step::OpenIndex(s, _, _, _) | Step::OpenHeap(s) | Step::Close(s) => Some(*s),
+        _ => None,
+    }
+}
+
 // Whether the step was done. What is read changes nothing, and isn't asked for here.
 fn is_done(reply: &Reply) -> bool {
     matches!(reply, Reply::Done | Reply::Committed | Reply::RolledBack)
@@ -189,6 +201,7 @@ impl Pair {
             levels,
             cursors,
             vacuum: None,
+            cuts: 0,
         })
     }
 
@@ -234,6 +247,12 @@ impl Pair {
         self.levels(s).map_or(false, |levels| levels.is_open())
     }
 
+    /// How many versions were taken so far by prunings of a page, though who deleted them is not before the horizon: each stood in its
+    /// chain before one that is dead.
+    pub fn cuts(&self) -> u64 {
+        self.cuts
+    }
+
     /// Whether a vacuum runs.
     pub fn has_vacuum(&self) -> bool {
         self.vacuum.is_some()
@@ -262,6 +281,29 @@ impl Pair {
         };
         let (next, first) = self.engine.ids();
         is_short(first, next, self.settings.stop_age, self.lacking(s))
+    }
+
+    // The versions of the page that the step prunes, if it is a pruning.
+    fn chains(&self, alloc: Global, step: &Step) -> Result<Option<Chains>, Difference> {
+        let Step::Prune(number) = step else {
+            return Ok(None);
+        };
+        match self.engine.page(*number) {
+            Some(page) => match chains_of(alloc, page, *number) {
+                Ok(chains) => Ok(Some(chains)),
+                Err(_) => Err(Difference::NoMemory),
+            },
+            None => Ok(None),
+        }
+    }
+
+    fn count_cuts(&mut self, chains: Option<Chains>) {
+        let horizon = horizon_of(self.levels.as_slice(), self.engine.ids().0);
+        if let Some(chains) = chains {
+            if let Some(page) = self.engine.page(chains.page) {
+                self.cuts = self.cuts.saturating_add(count_cuts(&chains, page, horizon));
+            }
+        }
     }
 
     fn before(&self, step: &Step) -> Before {
@@ -374,9 +416,8 @@ impl Pair {
         match step {
             Step::OpenIndex(s, _, _, _) => Some((*s, Cursor::Index)),
             Step::OpenHeap(s) => Some((*s, Cursor::Heap(all_rows(alloc, &mut self.plain, *s)))),
-            Step::Begin(s) | Step::Close(s) | Step::Commit(s) | Step::Abort(s) => {
-                Some((*s, Cursor::None))
-            }
+            Step::Begin(s) | Step::BeginReadCommitted(s) => Some((*s, Cursor::None)),
+            Step::Close(s) | Step::Commit(s) | Step::Abort(s) => Some((*s, Cursor::None)),
             _ => None,
         }
     }
@@ -408,12 +449,21 @@ impl Pair {
         (after(before.ids.0, given), first)
     }
 
-    // A session that begins keeps the horizon back to its snapshot's xmin.
+    // A session holds the horizon back to the xmin of the snapshot that it keeps: that of its beginning, or that of its cursor.
     fn note_snapshot(&mut self, step: &Step, reply: &Reply) {
-        if let (Step::Begin(s), Reply::Done) = (step, reply) {
-            let xmin = xmin_of(self.levels.as_slice(), self.engine.ids().0);
-            if let Some(levels) = self.levels.get_mut(*s as usize) {
-                levels.begin(xmin);
+        if !is_done(reply) {
+            return;
+        }
+        let Some(s) = session_of_snapshot(step) else {
+            return;
+        };
+        let xmin = xmin_of(self.levels.as_slice(), self.engine.ids().0);
+        if let Some(levels) = self.levels.get_mut(s as usize) {
+            match step {
+                Step::Begin(_) => levels.begin(xmin),
+                Step::BeginReadCommitted(_) => levels.begin_by_statement(),
+                Step::Close(_) => levels.note_cursor(None),
+                _ => levels.note_cursor(Some(xmin)),
             }
         }
     }
@@ -435,6 +485,7 @@ impl Pair {
     /// Does the step on both sides, and gives the reply, where it is as it has to be. The engine gets a copy.
     pub fn step(&mut self, alloc: Global, step: &Step) -> Result<Reply, Difference> {
         let before = self.before(step);
+        let chains = self.chains(alloc, step)?;
         let Ok(copy) = step.copy(alloc) else {
             return Err(Difference::NoMemory);
         };
@@ -454,6 +505,7 @@ impl Pair {
         if ids != expected_ids {
             return Err(Difference::Ids(ids, expected_ids));
         }
+        self.count_cuts(chains);
         self.note_cursor(alloc, step, &reply);
         self.note_snapshot(step, &reply);
         self.note_vacuum(step, &reply);

@@ -78,6 +78,7 @@ fn answer_of_write(
 pub(crate) fn answer(plain: &mut PlainHistory, step: &Step) -> Option<Reply> {
     match step {
         Step::Begin(s) => reply_done(plain.begin(*s)),
+        Step::BeginReadCommitted(s) => reply_done(plain.begin_read_committed(*s)),
         Step::Get(s, key) => reply_found(plain.get(*s, *key)),
         Step::Insert(s, row) => {
             let answered = plain.insert(*s, table_row(row));

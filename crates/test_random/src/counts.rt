@@ -9,7 +9,7 @@ use std::io;
 use tuple_header::Tuple;
 
 /// How many kinds there are.
-pub(crate) const KINDS: usize = 41;
+pub(crate) const KINDS: usize = 42;
 
 const NAMES: [&str; KINDS] = [
     "Done",
@@ -53,12 +53,15 @@ const NAMES: [&str; KINDS] = [
     "versions put in a slot that was used before",
     "engines whose ids begin near the turn",
     "engines whose ids passed it, after a vacuum had lifted NeedsFreeze",
+    "versions that a pruning took before they were dead",
 ];
 
 const NEAR: usize = 39;
 
 // Of all that begin near the turn.
 const PASSED: usize = 40;
+
+const CUT: usize = 41;
 
 // How many engines have to pass the turn.
 const MANY: u64 = 1000;
@@ -72,7 +75,7 @@ pub(crate) struct Counts {
 }
 
 fn place_of_refusal(refusal: Refusal) -> Option<usize>
-    ensures { IfSome result (λ place. place < 41) }
+    ensures { IfSome result (λ place. place < 42) }
 {
     match refusal {
         Refusal::NotOpen => Some(7),
@@ -100,7 +103,7 @@ fn place_of_refusal(refusal: Refusal) -> Option<usize>
 }
 
 fn place_of_reply(reply: &Reply) -> Option<usize>
-    ensures { IfSome result (λ place. place < 41) }
+    ensures { IfSome result (λ place. place < 42) }
 {
     match reply {
         Reply::Done => Some(0),
@@ -119,7 +122,7 @@ fn place_of_reply(reply: &Reply) -> Option<usize>
 }
 
 fn place_of_version(version: &Tuple, page: u32) -> Option<usize>
-    ensures { IfSome result (λ place. place < 41) }
+    ensures { IfSome result (λ place. place < 42) }
 {
     if version.header.ctid.page != page {
         Some(29)
@@ -131,7 +134,7 @@ fn place_of_version(version: &Tuple, page: u32) -> Option<usize>
 }
 
 fn place_of_slot(slot: &Slot, page: u32) -> Option<usize>
-    ensures { IfSome result (λ place. place < 41) }
+    ensures { IfSome result (λ place. place < 42) }
 {
     match slot {
         Slot::Unused => Some(25),
@@ -167,7 +170,7 @@ impl Counts {
     }
 
     fn add(&mut self, place: Option<usize>)
-        requires { IfSome place (λ place. place < 41) }
+        requires { IfSome place (λ place. place < 42) }
     {
         if let Some(place) = place {
             self.counts[place] = self.counts[place].saturating_add(1);
@@ -194,6 +197,11 @@ impl Counts {
         if passed {
             self.add(Some(PASSED));
         }
+    }
+
+    /// Counts versions that prunings took before they were dead.
+    pub(crate) fn add_cuts(&mut self, cuts: u64) {
+        self.counts[CUT] = self.counts[CUT].saturating_add(cuts);
     }
 
     /// Counts a session that began beside one with so many children: the snapshot names them where they are at most 64.

@@ -178,7 +178,7 @@ fn draw_any(
         78..=80 => Step::Release(s),
         81..=87 => Step::Commit(s),
         88..=90 => Step::Abort(s),
-        91 => Step::Begin(s),
+        91 => draw_begin(generator, s),
         92 => draw_next(generator, s),
         93 => Step::Close(s),
         _ => Step::Prune(generator.below(pages.saturating_add(1))),
@@ -202,6 +202,15 @@ fn draw_with_cursor(
     }
 }
 
+// A session begins: one in two reads by one snapshot, the other by statements.
+fn draw_begin(generator: &mut Generator, s: u8) -> Step {
+    if generator.below(2) == 0 {
+        Step::Begin(s)
+    } else {
+        Step::BeginReadCommitted(s)
+    }
+}
+
 /// A step of the session, or the pruning of a page. A closed session mostly begins, and one that has failed is often ended.
 pub(crate) fn draw_step(
     generator: &mut Generator,
@@ -215,7 +224,7 @@ pub(crate) fn draw_step(
     let choice = generator.below(8);
     let reads = matches!(standing, Standing::Reads);
     match standing {
-        Standing::Closed if choice < 7 => Ok(Step::Begin(s)),
+        Standing::Closed if choice < 7 => Ok(draw_begin(generator, s)),
         Standing::Failed if choice < 2 => Ok(Step::Commit(s)),
         Standing::Failed if choice < 4 => Ok(Step::Abort(s)),
         Standing::Failed if choice < 6 => Ok(Step::RollbackTo(s)),
@@ -259,7 +268,7 @@ pub(crate) fn draw_step_in_levels(
     lacks_id: bool,
 ) -> Result<Step, AllocError> {
     match standing {
-        Standing::Closed => Ok(Step::Begin(s)),
+        Standing::Closed => Ok(draw_begin(generator, s)),
         Standing::Failed if generator.below(8) == 0 => Ok(Step::Abort(s)),
         Standing::Failed => Ok(Step::RollbackTo(s)),
         Standing::Reads => draw_in_level(generator, bodies, s, key, true, lacks_id),

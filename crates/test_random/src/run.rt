@@ -308,6 +308,7 @@ impl Run {
         match self.pair.views() {
             Ok(views) => {
                 counts.add_views(views);
+                counts.add_cuts(self.pair.cuts());
                 Ok(())
             }
             Err(difference) => Err(self.failure(None, difference)),

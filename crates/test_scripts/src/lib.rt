@@ -10,6 +10,8 @@ mod leaves;
 #[cfg(test)]
 mod savepoints;
 #[cfg(test)]
+mod statements;
+#[cfg(test)]
 mod table;
 #[cfg(test)]
 mod updates;

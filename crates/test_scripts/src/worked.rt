@@ -2,6 +2,7 @@
 
 use crate::cursors::CURSORS;
 use crate::savepoints::SAVEPOINTS;
+use crate::statements::STATEMENTS;
 use crate::table::{CASES, Case};
 use crate::updates::{CHAINS, PAGES};
 use crate::vacuums::VACUUMS;
@@ -90,6 +91,11 @@ fn worked_chains(rt: HostRuntime) -> Result<(), Fail> {
 #[test]
 fn worked_savepoints(rt: HostRuntime) -> Result<(), Fail> {
     run_all(rt.alloc(), &SAVEPOINTS)
+}
+
+#[test]
+fn worked_statements(rt: HostRuntime) -> Result<(), Fail> {
+    run_all(rt.alloc(), &STATEMENTS)
 }
 
 #[test]
