@@ -27,13 +27,15 @@ use Rattle.refinement.proofs.LevelTraces.{Nested, nested_of}
 use Rattle.refinement.proofs.Steps.{levels_traced}
 use Rattle.visibility.proofs.Verdicts.{VisibleBy-same}
 
-or-some : (o : Option (Option Row)) (p q : Option Row) → IsSome o → own_or o p ≡ own_or o q
-or-some None p q some = cc
-or-some (Some r) p q some = refl
+-- what was written counts before what has committed
 
-or-none : (o : Option (Option Row)) (p : Option Row) → ¬ IsSome o → own_or o p ≡ p
-or-none None p none = refl
-or-none (Some r) p none = absurd (none refl)
+pub own_or-some : (o : Option (Option Row)) (p q : Option Row) → IsSome o → own_or o p ≡ own_or o q
+own_or-some None p q some = cc
+own_or-some (Some r) p q some = refl
+
+pub own_or-none : (o : Option (Option Row)) (p : Option Row) → ¬ IsSome o → own_or o p ≡ p
+own_or-none None p none = refl
+own_or-none (Some r) p none = absurd (none refl)
 
 -- Of one that reads by statement nothing is late, and nothing is missed.
 pub none_missed : {status : ℕ → Option Status} (v : Version) → ¬ HasMissed status (λ x. HasCommitted status x) v
@@ -63,12 +65,12 @@ module _ (status status' : ℕ → Option Status) (store : Tid → Option Versio
           (λ seen. VisibleBy-same (λ y touch r. still y r) (λ y touch r. before p v at ours y touch r) seen),
           (λ seen. VisibleBy-same (λ y touch r. before p v at ours y touch r) (λ y touch r. still y r) seen),
         ))
-        (λ k ours. or-some (written writes k) (committed (history ++ t ∷ []) (length (history ++ t ∷ [])) k) (committed history (length history) k) ours)
+        (λ k ours. own_or-some (written writes k) (committed (history ++ t ∷ []) (length (history ++ t ∷ [])) k) (committed history (length history) k) ours)
         (λ p v at other. (
           (λ seen. VisibleBy-same (λ y touch done. by_others done done) (λ y touch r. counted p v at other y touch r) seen),
           (λ seen. VisibleBy-same (λ y touch r. counted p v at other y touch r) (λ y touch done. by_others done done) seen),
         ))
-        (λ k other. or-none (written writes k) (committed (history ++ t ∷ []) (length (history ++ t ∷ [])) k) (both_ways (is_some (written writes k)) other))
+        (λ k other. own_or-none (written writes k) (committed (history ++ t ∷ []) (length (history ++ t ∷ [])) k) (both_ways (is_some (written writes k)) other))
         h.rows current;
     whole = λ p y v at is reads x maker. whole p y v at is reads x maker;
   }
