@@ -1,5 +1,5 @@
 -- A session by statement: it counts its own ids and all that has committed. What another's commit does to it.
-use Rattle.std.proofs.Common.{◌≡◌, ℕ, List, [], ◌∷◌, ◌++◌, length, Option, Some, None, false, true, refl, sym, ap, ◌∙◌, subst, inl, inr, arith}
+use Rattle.std.proofs.Common.{◌≡◌, ℕ, List, [], ◌∷◌, ◌++◌, length, Option, Some, None, false, refl, sym, subst, inl, inr, arith}
 use Rattle.std.specs.Prelude.{IsSome, Contains}
 use Rattle.std.specs.Option.{is_some}
 use Rattle.std.proofs.lemmas.Bool.{both_ways}
@@ -14,7 +14,7 @@ use Rattle.history.specs.World.{OpenSession, joined, own_write}
 use Rattle.refinement.specs.Heap.{SeenSession}
 use Rattle.history.proofs.HistoryLemmas.{written-append, IsSome-or_second}
 use Rattle.visibility.specs.Seeing.{HasCommitted, Reads, by_itself, by_others, VisibleBy, Touches, inserter, deleter}
-use Rattle.refinement.specs.Visible.{ReaderSees, HasMissed, IsFreshSnapshot, At}
+use Rattle.refinement.specs.Visible.{HasMissed, IsFreshSnapshot, At}
 use Rattle.refinement.specs.Changes.{FinishesIds, SameSight}
 use Rattle.refinement.proofs.Readers.{ReaderAgrees-same}
 use Rattle.refinement.specs.Agrees.{Shows, ReaderAgrees, LevelsAgree, Traced, LevelTraces, SessionAgrees}
@@ -27,13 +27,15 @@ use Rattle.refinement.proofs.LevelTraces.{Nested, nested_of}
 use Rattle.refinement.proofs.Steps.{levels_traced}
 use Rattle.visibility.proofs.Verdicts.{VisibleBy-same}
 
-or-some : (o : Option (Option Row)) (p q : Option Row) → IsSome o → own_or o p ≡ own_or o q
-or-some None p q some = cc
-or-some (Some r) p q some = refl
+-- what was written counts before what has committed
 
-or-none : (o : Option (Option Row)) (p : Option Row) → ¬ IsSome o → own_or o p ≡ p
-or-none None p none = refl
-or-none (Some r) p none = absurd (none refl)
+pub own_or-some : (o : Option (Option Row)) (p q : Option Row) → IsSome o → own_or o p ≡ own_or o q
+own_or-some None p q some = cc
+own_or-some (Some r) p q some = refl
+
+pub own_or-none : (o : Option (Option Row)) (p : Option Row) → ¬ IsSome o → own_or o p ≡ p
+own_or-none None p none = refl
+own_or-none (Some r) p none = absurd (none refl)
 
 -- Of one that reads by statement nothing is late, and nothing is missed.
 pub none_missed : {status : ℕ → Option Status} (v : Version) → ¬ HasMissed status (λ x. HasCommitted status x) v
@@ -63,12 +65,12 @@ module _ (status status' : ℕ → Option Status) (store : Tid → Option Versio
           (λ seen. VisibleBy-same (λ y touch r. still y r) (λ y touch r. before p v at ours y touch r) seen),
           (λ seen. VisibleBy-same (λ y touch r. before p v at ours y touch r) (λ y touch r. still y r) seen),
         ))
-        (λ k ours. or-some (written writes k) (committed (history ++ t ∷ []) (length (history ++ t ∷ [])) k) (committed history (length history) k) ours)
+        (λ k ours. own_or-some (written writes k) (committed (history ++ t ∷ []) (length (history ++ t ∷ [])) k) (committed history (length history) k) ours)
         (λ p v at other. (
           (λ seen. VisibleBy-same (λ y touch done. by_others done done) (λ y touch r. counted p v at other y touch r) seen),
           (λ seen. VisibleBy-same (λ y touch r. counted p v at other y touch r) (λ y touch done. by_others done done) seen),
         ))
-        (λ k other. or-none (written writes k) (committed (history ++ t ∷ []) (length (history ++ t ∷ [])) k) (both_ways (is_some (written writes k)) other))
+        (λ k other. own_or-none (written writes k) (committed (history ++ t ∷ []) (length (history ++ t ∷ [])) k) (both_ways (is_some (written writes k)) other))
         h.rows current;
     whole = λ p y v at is reads x maker. whole p y v at is reads x maker;
   }

@@ -5,7 +5,6 @@ use Rattle.std.proofs.lemmas.Bool.{both_ways}
 use Rattle.std.specs.Option.{is_some}
 use Rattle.std.proofs.lemmas.Option.{same_Some, none-some}
 use Rattle.xid_circle.specs.declared.Tid.{Tid}
-use Rattle.tuple_header.specs.declared.version.Row.{Row}
 use Rattle.tuple_header.specs.Version.{Version}
 use Rattle.commit_status.specs.declared.status.Status.{Status}
 use Rattle.commit_status.specs.declared.status.Status.TheVariants.{Committed}
@@ -25,21 +24,13 @@ use Rattle.visibility.proofs.Verdicts.{VisibleBy-same}
 use Rattle.refinement.proofs.Readers.{Levels-top}
 use Rattle.refinement.proofs.Isolations.{SameSights, cursor_same, statement_decided}
 use Rattle.refinement.proofs.Others.{SessionAgrees-commit_other}
-use Rattle.refinement.proofs.ByStatement.{SessionAgrees-commit_by_statement}
+use Rattle.refinement.proofs.ByStatement.{own_or-some, own_or-none, SessionAgrees-commit_by_statement}
 use Rattle.refinement.proofs.SessionsLemmas.{opened-change, idle-change, owned-change, apart-change, alone-change}
 use Rattle.refinement.proofs.Steps.{OnlyIs, waits-aborted, own_traced}
 
 -- to be seen is decided: what cannot be unseen is seen
 seen_or_not : (P : Type 0) → P ⊎ (¬ P) → ¬ (¬ P) → P
 seen_or_not P decided h = elim decided [ inl seen ↦ seen | inr unseen ↦ absurd (h unseen) ]
-
-own_or-some : (o : Option (Option Row)) (p q : Option Row) → IsSome o → own_or o p ≡ own_or o q
-own_or-some None p q some = cc
-own_or-some (Some r) p q some = refl
-
-own_or-none : (o : Option (Option Row)) (p : Option Row) → ¬ IsSome o → own_or o p ≡ p
-own_or-none None p none = refl
-own_or-none (Some r) p none = absurd (none refl)
 
 -- the world after the commit of the session, whose model is m
 abbrev pub with_transaction : World → ℕ → OpenSession → World

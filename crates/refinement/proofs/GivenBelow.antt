@@ -11,7 +11,7 @@ use Rattle.commit_status.specs.declared.status.Status.TheVariants.{Committed}
 use Rattle.snapshot.specs.Snap.{Snap}
 use Rattle.history.specs.World.{World}
 use Rattle.history.proofs.HistoryLemmas.{at_same, at_other}
-use Rattle.refinement.specs.Heap.{SeenSession, Heap, kept_snapshot, IsKept, SightOfStatement, StatementSees}
+use Rattle.refinement.specs.Heap.{SeenSession, Heap, kept_snapshot, IsKeptSnapshot, SightOfStatement, StatementSees}
 use Rattle.refinement.specs.Visible.{ReaderSees, At}
 use Rattle.refinement.specs.Changes.{GivesNext, GivesEach, SameSight, with_id, with_ids}
 use Rattle.refinement.specs.Agrees.{HeapAgrees}
@@ -47,7 +47,7 @@ module _ (h : Heap) (w : World) (s : ℕ) (e : SeenSession) (x : ℕ) (xs : List
       (unseen x (Contains-append_left (x ∷ []) xs x (Contains-push [] x))) agrees
 
   -- no other snapshot is kept
-  kept_first : (snap : Snap) → IsKept (after_first h s e x xs between sees').session snap → IsKept h.session snap
+  kept_first : (snap : Snap) → IsKeptSnapshot (after_first h s e x xs between sees').session snap → IsKeptSnapshot h.session snap
   kept_first snap kept = elim (cases_eq kept.0 s) [
     | inl same ↦ (
       s,

@@ -8,7 +8,7 @@ use Rattle.commit_status.specs.declared.status.Status.TheVariants.{InProgress, C
 use Rattle.snapshot.specs.Snap.{Snap}
 use Rattle.history.specs.History.{Write, Transaction}
 use Rattle.visibility.specs.Seeing.{HasCommitted, IsRunning}
-use Rattle.refinement.specs.Heap.{SeenIsolation, seen_by_snapshot, seen_by_statement, SeenSession, Heap, kept_snapshot, IsKept, SightOfStatement, SightOfCursor}
+use Rattle.refinement.specs.Heap.{SeenIsolation, seen_by_snapshot, seen_by_statement, SeenSession, Heap, kept_snapshot, IsKeptSnapshot, SightOfStatement, SightOfCursor}
 use Rattle.refinement.specs.Visible.{IsFreshSnapshot}
 use Rattle.refinement.specs.Changes.{GivesNext, FinishesIds, SameSight}
 use Rattle.refinement.specs.Agrees.{ReaderAgrees, CursorReads}
@@ -35,11 +35,11 @@ of_cursor P status status' sees sees' (seen_by_statement None) some kept = absur
 
 -- the sight of each snapshot that is kept is as it was
 abbrev pub SameSights : Heap → (Snap → ℕ → Type 0) → Type 0
-SameSights h sees' = (snap : Snap) → IsKept h.session snap → SameSight h.status (h.sees snap) (sees' snap)
+SameSights h sees' = (snap : Snap) → IsKeptSnapshot h.session snap → SameSight h.status (h.sees snap) (sees' snap)
 
 -- no snapshot that is kept sees the id
 abbrev pub IsUnseen : Heap → (Snap → ℕ → Type 0) → ℕ → Type 0
-IsUnseen h sees' x = (snap : Snap) → IsKept h.session snap → ¬ sees' snap x
+IsUnseen h sees' x = (snap : Snap) → IsKeptSnapshot h.session snap → ¬ sees' snap x
 
 -- so it is with a session's statements
 pub statement_same : (h : Heap) (status' : ℕ → Option Status) (sees' : Snap → ℕ → Type 0) (s : ℕ) (e : SeenSession) → h.session s ≡ Some e → SameSights h sees'

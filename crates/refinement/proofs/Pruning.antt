@@ -1,5 +1,5 @@
 -- Cleaning is seen by no reader: versions go that nobody reads, and that are nobody's trace.
-use Rattle.std.proofs.Common.{◌≡◌, ℕ, List, Option, Some, refl, sym, ◌∙◌, subst, inl, inr}
+use Rattle.std.proofs.Common.{◌≡◌, ℕ, List, Option, Some, sym, ◌∙◌, subst, inl, inr}
 use Rattle.std.specs.Prelude.{IsSome, Contains}
 use Rattle.std.proofs.lemmas.Option.{same_Some}
 use Rattle.xid_circle.specs.declared.Tid.{Tid}
@@ -9,7 +9,7 @@ use Rattle.commit_status.specs.declared.status.Status.{Status}
 use Rattle.snapshot.specs.Snap.{Snap}
 use Rattle.history.specs.History.{Write, Transaction}
 use Rattle.history.specs.World.{World, OpenSession}
-use Rattle.refinement.specs.Heap.{SeenSession, Heap, kept_snapshot, IsKept, StatementSees, CursorSees}
+use Rattle.refinement.specs.Heap.{SeenSession, Heap, kept_snapshot, IsKeptSnapshot, StatementSees, CursorSees}
 use Rattle.visibility.specs.Seeing.{HasCommitted, HasAborted, IsRunning, Reads, by_itself, by_others, VisibleBy, made_by, deleted_by, inserter, deleter}
 use Rattle.refinement.specs.Visible.{ReaderSees, HasMissed, IsOwn, IsBy, At, SomeVersion}
 use Rattle.refinement.specs.Changes.{MayRemove, IsPast, never_was, is_over}
@@ -52,7 +52,7 @@ aborted_not_active status x aborted active = cc
 -- A reader of this sight: its own ids are in progress, and it sees what has committed and is seen by every snapshot that is kept
 pub record IsReaderOf (status : ℕ → Option Status) (sees : Snap → ℕ → Type 0) (session : ℕ → Option SeenSession) (sight : ℕ → Type 0) (own : List ℕ) : Type 0 where
   pub active : (x : ℕ) → Contains own x → IsRunning status x
-  pub over : (y : ℕ) → HasCommitted status y → ((snap : Snap) → IsKept session snap → sees snap y) → sight y
+  pub over : (y : ℕ) → HasCommitted status y → ((snap : Snap) → IsKeptSnapshot session snap → sees snap y) → sight y
 
 -- what was rolled back is not read
 aborted_unread : {status : ℕ → Option Status} {sees : Snap → ℕ → Type 0} {session : ℕ → Option SeenSession} {sight : ℕ → Type 0} {own : List ℕ} → IsReaderOf status sees session sight own

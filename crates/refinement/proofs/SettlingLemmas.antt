@@ -9,7 +9,7 @@ use Rattle.commit_status.specs.declared.status.Status.{Status}
 use Rattle.snapshot.specs.Snap.{Snap}
 use Rattle.history.specs.History.{Write, Transaction, written, IsLate}
 use Rattle.history.specs.World.{World, OpenSession}
-use Rattle.refinement.specs.Heap.{SeenSession, Heap, kept_snapshot, IsKept, StatementSees, CursorSees}
+use Rattle.refinement.specs.Heap.{SeenSession, Heap, kept_snapshot, IsKeptSnapshot, StatementSees, CursorSees}
 use Rattle.visibility.specs.Seeing.{HasCommitted, HasAborted, IsRunning, Reads, by_itself, by_others, VisibleBy, Touches, made_by, deleted_by, inserter, deleter}
 use Rattle.refinement.specs.Visible.{At}
 use Rattle.refinement.specs.Agrees.{Shows, ReaderAgrees, Traced, SessionAgrees, HeapAgrees}
@@ -31,7 +31,7 @@ committed_not_active status x done active = cc
 module _ (h : Heap) where
   -- every snapshot that is kept sees the id
   abbrev IsSeenByAll : ℕ → Type 0
-  IsSeenByAll x = (snap : Snap) → IsKept h.session snap → h.sees snap x
+  IsSeenByAll x = (snap : Snap) → IsKeptSnapshot h.session snap → h.sees snap x
 
   -- what is read settles, and what was rolled back isn't read: so for a set of ids that is read or counted
   pub record Counts (R : ℕ → Type 0) : Type 0 where

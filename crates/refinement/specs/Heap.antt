@@ -50,8 +50,8 @@ kept_snapshot (seen_by_snapshot snap) = Some snap
 kept_snapshot (seen_by_statement kept) = kept
 
 -- an open session keeps this snapshot
-abbrev pub IsKept : (ℕ → Option SeenSession) → Snap → Type 0
-IsKept session snap = (s : ℕ) × (e : SeenSession) × (session s ≡ Some e) × (kept_snapshot e.isolation ≡ Some snap)
+abbrev pub IsKeptSnapshot : (ℕ → Option SeenSession) → Snap → Type 0
+IsKeptSnapshot session snap = (s : ℕ) × (e : SeenSession) × (session s ≡ Some e) × (kept_snapshot e.isolation ≡ Some snap)
 
 -- whether a statement sees an id: by the snapshot of its session, or where the id has committed
 abbrev pub SightOfStatement : (status : ℕ → Option Status) → (sees : Snap → ℕ → Type 0) → SeenIsolation → ℕ → Type 0
