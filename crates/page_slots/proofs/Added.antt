@@ -1,5 +1,5 @@
 -- What a page keeps when a version is added to it.
-use Rattle.std.proofs.Common.{◌≡◌, ◌≢◌, ⊎_elim, inl, inr, ◌⊎◌, ℕ, ◌+◌, ◌*◌, ◌-◌, ◌%◌, ◌<◌, ◌≤◌, List, ◌++◌, length, take, drop, set, get_or, sum_by, sym, ap, ◌∙◌, subst, refl, arith, None}
+use Rattle.std.proofs.Common.{◌≡◌, ◌≢◌, ⊎_elim, inl, inr, ◌⊎◌, ℕ, ◌+◌, ◌*◌, ◌%◌, ◌<◌, ◌≤◌, List, length, take, drop, set, get_or, sum_by, sym, ap, ◌∙◌, subst, refl, arith, None}
 use Rattle.std.specs.Int.{next_multiple_of}
 use Rattle.std.proofs.lemmas.List.Sums.{sum_by_more_le}
 use Rattle.page_slots.specs.Slots.{bytes_taken}
@@ -10,7 +10,7 @@ use Rattle.tuple_header.specs.Version.{Version, size_of, rounded_size_of}
 use Rattle.tuple_header.proofs.Headers.{encoded-faultless, encoded-value, length-encoding}
 use Rattle.page_slots.specs.declared.pointer.Pointer.{Pointer}
 use Rattle.page_slots.specs.declared.pointer.Extent.{Extent}
-use Rattle.page_slots.specs.Layout.{pointer_of, word_of, IsPointed, pointer_in, part_of, slot_in, slots_in, upper_in, flags_in, change_in}
+use Rattle.page_slots.specs.Layout.{pointer_of, word_of, IsPointed, pointer_in, part_of, slots_in, upper_in, flags_in, change_in}
 use Rattle.page_slots.specs.Sound.{IsSound, IsExtent, IsPointer, AreApart, IsWritten, AreAbove, end_of}
 use Rattle.page_slots.proofs.Shown.{rounded-up, shown, part-long, taken-shown}
 use Rattle.page_slots.specs.declared.slot.Slot.{Slot}
@@ -39,7 +39,7 @@ written-below a b count from v sound gap room fits written =
     let others : (j : ℕ) (d : Extent) → j < count → pointer_in a j ≡ Pointer.Normal d → part_of b d ≡ part_of a d = λ j d k is.
     let over : upper_in a ≤ d.from = (extent-in a count j d sound k is).over in
     part-kept a b count from hi j d sound agrees k is (inr (omega arith)) in
-    let pointers : (j : ℕ) → 28 + 4 * j ≤ from → pointer_in b j ≡ pointer_in a j = λ j k. pointer-outside from hi j a b agrees (inl (omega arith)) in
+    let pointers : (j : ℕ) → 24 + 4 * (j + 1) ≤ from → pointer_in b j ≡ pointer_in a j = λ j k. pointer-outside from hi j a b agrees (inl (omega arith)) in
     record {
       sound = sound-behind a b count from hi sound agrees gap (λ j d k is. ap first_fault (others j d k is) ∙ (extent-in a count j d sound k is).faultless);
       slots = slots-kept count a b (λ j k. slot-kept a b j (pointers j (omega arith)) (λ d is. others j d k is));

@@ -1,10 +1,10 @@
 -- The bytes of a page with no slot.
-use Rattle.std.proofs.Common.{◌≡◌, ⊎_elim, inl, inr, ◌⊎◌, ℕ, zero, suc, ◌+◌, ◌-◌, ◌<◌, ◌≤◌, List, length, slice_index, sym, ap, ◌∙◌, subst, refl, arith}
+use Rattle.std.proofs.Common.{◌≡◌, ⊎_elim, inl, inr, ◌⊎◌, ℕ, zero, suc, ◌+◌, ◌-◌, ◌≤◌, List, length, slice_index, sym, ap, ◌∙◌, subst, refl, arith}
 use Rattle.std.specs.Prelude.{replicate}
 use Rattle.std.proofs.lemmas.List.{length-replicate, drop-replicate}
 use Rattle.byteorder.specs.Endian.{little_from, little_number}
 use Rattle.tuple_header.specs.Layout.{number_at, with_number}
-use Rattle.page_slots.specs.Layout.{change_in, flags_in, lower_in, upper_in}
+use Rattle.page_slots.specs.Layout.{change_in, flags_in, upper_in}
 use Rattle.page_slots.specs.Sound.{IsSound}
 use Rattle.page_slots.proofs.Frames.{Agrees, agrees-with_number, number-written, number-outside}
 

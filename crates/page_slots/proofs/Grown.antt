@@ -1,5 +1,5 @@
 -- What a page keeps when it gets one more slot, which is unused.
-use Rattle.std.proofs.Common.{◌≡◌, ◌≢◌, ⊎_elim, inl, inr, ◌⊎◌, ℕ, ◌+◌, ◌*◌, ◌%◌, ◌<◌, ◌≤◌, List, [], ◌∷◌, ◌++◌, sym, ap, ◌∙◌, subst, refl, arith, None}
+use Rattle.std.proofs.Common.{◌≡◌, ◌≢◌, ⊎_elim, inl, inr, ◌⊎◌, ℕ, ◌+◌, ◌*◌, ◌%◌, ◌<◌, ◌≤◌, List, [], ◌∷◌, ◌++◌, sym, ap, ◌∙◌, subst, refl, arith}
 use Rattle.std.proofs.lemmas.List.FromFn.{map-range_with_len_more}
 use Rattle.tuple_header.specs.Layout.{number_at, with_number}
 use Rattle.tuple_header.specs.Faults.{first_fault}
@@ -12,7 +12,7 @@ use Rattle.page_slots.proofs.Shown.{shown, part-long}
 use Rattle.page_slots.proofs.SlotLemmas.{same_or_other}
 use Rattle.page_slots.proofs.Frames.{Agrees, agrees-with_number, number-written, number-outside, pointer-outside, part-outside}
 use Rattle.page_slots.proofs.PointerSet.{pointer-read, word-small}
-use Rattle.page_slots.proofs.Sounds.{extent-in, part-kept, slot-kept, slots-kept, headed-kept}
+use Rattle.page_slots.proofs.Sounds.{extent-in, part-kept, slot-kept, slots-kept}
 
 pub record IsGrown (a b : List ℕ) (count : ℕ) : Type 0 where
   pub sound : IsSound b (count + 1)

@@ -1,10 +1,9 @@
 -- What a page keeps when the header of a version is written where it stands.
-use Rattle.std.proofs.Common.{◌≡◌, ◌≢◌, ⊎_elim, inl, inr, ◌⊎◌, ℕ, ◌+◌, ◌*◌, ◌-◌, ◌<◌, ◌≤◌, List, ◌++◌, length, take, drop, set, sym, ap, ◌∙◌, subst, refl, arith, None, length-take, length-drop}
-use Rattle.std.specs.Int.{next_multiple_of}
+use Rattle.std.proofs.Common.{◌≡◌, ◌≢◌, ⊎_elim, inl, inr, ◌⊎◌, ℕ, ◌+◌, ◌*◌, ◌<◌, ◌≤◌, List, ◌++◌, length, take, drop, set, sym, ap, ◌∙◌, subst, refl, arith, None, length-take, length-drop}
 use Rattle.std.proofs.lemmas.List.{drop-drop, set-get_or}
 use borrow.Rule.Slice.PartMut.{put_mid}
 use Rattle.tuple_header.specs.declared.version.Header.{Header}
-use Rattle.tuple_header.specs.Layout.{number_at, with_bytes, decoded_version, decoded_header, header_bytes}
+use Rattle.tuple_header.specs.Layout.{with_bytes, decoded_version, header_bytes}
 use Rattle.tuple_header.specs.Faults.{HeaderFits, header_fault, first_fault}
 use Rattle.tuple_header.specs.Version.{Version}
 use Rattle.tuple_header.specs.declared.version.Row.{Row}
@@ -14,7 +13,7 @@ use Rattle.page_slots.specs.declared.pointer.Extent.{Extent}
 use Rattle.page_slots.specs.declared.slot.Slot.{Slot}
 use Rattle.page_slots.specs.Slots.{with_header}
 use Rattle.page_slots.specs.Layout.{pointer_in, part_of, slot_in, slots_in, upper_in, flags_in, change_in}
-use Rattle.page_slots.specs.Sound.{IsSound, IsExtent, AreApart, end_of}
+use Rattle.page_slots.specs.Sound.{IsSound, AreApart}
 use Rattle.page_slots.proofs.Shown.{rounded-up, shown, part-long}
 use Rattle.page_slots.proofs.SlotLemmas.{same_or_other}
 use Rattle.page_slots.proofs.Frames.{Agrees, agrees-with_bytes, part-written, number-outside, pointer-outside}

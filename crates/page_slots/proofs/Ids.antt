@@ -1,7 +1,7 @@
 -- Inserter and deleter of a version, read as one number.
-use Rattle.std.proofs.Common.{◌≡◌, Some, None, get_or, Bool, true, false, ◌==◌, ◌&&◌, ℕ, zero, suc, ◌+◌, ◌*◌, ◌^◌, ◌<◌, ◌≤◌, List, drop, slice_index, sym, ap, ◌∙◌, refl, arith, get_or-drop, add-zero}
+use Rattle.std.proofs.Common.{◌≡◌, Some, None, get_or, false, ◌==◌, ◌&&◌, ℕ, zero, suc, ◌+◌, ◌*◌, ◌^◌, ◌<◌, List, drop, slice_index, sym, ap, ◌∙◌, refl, arith, get_or-drop}
 use Rattle.std.proofs.lemmas.Bool.Decides.{nat_tests}
-use Rattle.byteorder.specs.Endian.{little_from, little_number}
+use Rattle.byteorder.specs.Endian.{little_from}
 use Rattle.byteorder.specs.Numbers.{little_from-lt}
 use Rattle.std.specs.Prelude.{Option, unwrap_or}
 use Rattle.tuple_header.specs.Layout.{number_at, decoded_version}

@@ -14,14 +14,14 @@ use Rattle.page_slots.specs.Hints.{same_but_hints}
 use Rattle.tuple_header.specs.declared.version.Header.{Header}
 use Rattle.tuple_header.specs.Version.{Version}
 use Rattle.page_slots.specs.declared.sheet.TheConstants.{MOST_BYTES}
-use Rattle.page_slots.specs.View.{IsKept}
+use Rattle.page_slots.specs.View.{AreTallied}
 use Rattle.page_slots.specs.Slots.{is_unused, bytes_taken, version_of, with_header, has_unused, free_number, with_added, free_bytes, room_of, differs_in_hints_alone}
 use Rattle.page_slots.proofs.SlotLemmas.{first_within, free_number-new, length-with_added}
 use Rattle.page_slots.proofs.FreeLemmas.{taken-after_added}
 
 -- a slot that takes as many bytes as the one that was there, and is unused where that was
 pub kept_as_before : (slots : List Slot) (free bytes i : ℕ) (old new : Slot) → i < length slots → get_or slots i Unused ≡ old
-    → bytes_taken new ≡ bytes_taken old → is_unused new ≡ is_unused old → IsKept slots free bytes → IsKept (set slots i new) free bytes
+    → bytes_taken new ≡ bytes_taken old → is_unused new ≡ is_unused old → AreTallied slots free bytes → AreTallied (set slots i new) free bytes
 kept_as_before slots free bytes i old new within there same kind kept =
     let sum = sum_by-set bytes_taken slots i new Unused within in
     let size : bytes_taken (get_or slots i Unused) ≡ bytes_taken old = ap bytes_taken there in
@@ -35,7 +35,7 @@ kept_as_before slots free bytes i old new within there same kind kept =
 
 -- a slot at the free number, that takes some bytes and for which there is room
 pub kept_added : (slots : List Slot) (free bytes next : ℕ) (s : Slot) → 0 < bytes_taken s → bytes_taken s ≤ room_of slots → free_number slots ≤ 291
-    → next ≡ position_or_len is_unused (with_added slots s) → IsKept slots free bytes → IsKept (with_added slots s) next (bytes + bytes_taken s)
+    → next ≡ position_or_len is_unused (with_added slots s) → AreTallied slots free bytes → AreTallied (with_added slots s) next (bytes + bytes_taken s)
 kept_added slots free bytes next s some fits place first kept =
     let few = kept.few in
     let most = kept.fits in
@@ -66,8 +66,8 @@ header-same_kind (Redirect target) h = refl
 header-same_kind Dead h = refl
 
 -- another header changes none of this
-pub kept_header : (slots : List Slot) (free bytes i : ℕ) (h : Header) → i < length slots → IsKept slots free bytes
-    → IsKept (set slots i (with_header (get_or slots i Unused) h)) free bytes
+pub kept_header : (slots : List Slot) (free bytes i : ℕ) (h : Header) → i < length slots → AreTallied slots free bytes
+    → AreTallied (set slots i (with_header (get_or slots i Unused) h)) free bytes
 kept_header slots free bytes i h within kept =
     let old = get_or slots i Unused in
     kept_as_before slots free bytes i old (with_header old h) within refl (header-same_size old h) (header-same_kind old h) kept
@@ -104,7 +104,7 @@ hints-of_none s h e = hints-slot_none s h (sym e)
 
 -- a slot that takes no bytes, in the place of another
 pub kept_bare : (slots : List Slot) (free bytes next i : ℕ) (s : Slot) → i < length slots → bytes_taken s ≡ 0 → next ≡ position_or_len is_unused (set slots i s)
-    → IsKept slots free bytes → IsKept (set slots i s) next (bytes - bytes_taken (get_or slots i Unused))
+    → AreTallied slots free bytes → AreTallied (set slots i s) next (bytes - bytes_taken (get_or slots i Unused))
 kept_bare slots free bytes next i s within none first kept =
     let few = kept.few in
     let most = kept.fits in
@@ -114,7 +114,7 @@ kept_bare slots free bytes next i s within none first kept =
     let long = length-set slots i s in
     record { few = omega arith; fits = omega arith; first = first; sum = omega arith }
 
-pub taken-within : (slots : List Slot) (free bytes i : ℕ) → i < length slots → IsKept slots free bytes → bytes_taken (get_or slots i Unused) ≤ bytes
+pub taken-within : (slots : List Slot) (free bytes i : ℕ) → i < length slots → AreTallied slots free bytes → bytes_taken (get_or slots i Unused) ≤ bytes
 taken-within slots free bytes i within kept =
     let all = kept.sum in
     let sum = sum_by-set bytes_taken slots i Unused Unused within in
@@ -122,7 +122,7 @@ taken-within slots free bytes i within kept =
 
 -- Room for a version, by the index of the first unused slot.
 
-pub room-reused : (slots : List Slot) (free bytes size : ℕ) → IsKept slots free bytes → free < length slots → size ≤ room_of slots
+pub room-reused : (slots : List Slot) (free bytes size : ℕ) → AreTallied slots free bytes → free < length slots → size ≤ room_of slots
     → 4 * length slots + sum_by bytes_taken slots + size ≤ MOST_BYTES
 room-reused slots free bytes size kept within fits =
     let first = kept.first in
@@ -137,7 +137,7 @@ room-of_new slots new few =
     ap (λ (b : Bool). if b then free_bytes slots else (if nat_lt (length slots) 291 then free_bytes slots - 4 else 0)) new
     ∙ ap (λ (b : Bool). if b then free_bytes slots - 4 else 0) below
 
-pub room-new : (slots : List Slot) (free bytes size : ℕ) → IsKept slots free bytes → length slots ≤ free → free_number slots ≤ 291 → size ≤ room_of slots → 0 < size
+pub room-new : (slots : List Slot) (free bytes size : ℕ) → AreTallied slots free bytes → length slots ≤ free → free_number slots ≤ 291 → size ≤ room_of slots → 0 < size
     → 4 * length slots + sum_by bytes_taken slots + (size + 4) ≤ MOST_BYTES
 room-new slots free bytes size kept past place fits some =
     let first = kept.first in
@@ -159,7 +159,7 @@ with_added-behind slots s i is past =
     (λ new. rw new refl) (cases_Bool (has_unused slots))
 
 -- what the versions take once a slot without one is in the place of another
-pub sum-bare : (slots : List Slot) (free bytes i : ℕ) (s : Slot) → i < length slots → bytes_taken s ≡ 0 → IsKept slots free bytes
+pub sum-bare : (slots : List Slot) (free bytes i : ℕ) (s : Slot) → i < length slots → bytes_taken s ≡ 0 → AreTallied slots free bytes
     → sum_by bytes_taken (set slots i s) ≡ bytes - bytes_taken (get_or slots i Unused)
 sum-bare slots free bytes i s within none kept =
     let sum = sum_by-set bytes_taken slots i s Unused within in

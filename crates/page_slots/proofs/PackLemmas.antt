@@ -1,5 +1,5 @@
 -- One version more is moved to where it goes, or a slot without one is passed.
-use Rattle.std.proofs.Common.{◌≡◌, ◌≢◌, ⊎_elim, inl, inr, ◌⊎◌, ℕ, ◌+◌, ◌*◌, ◌-◌, ◌%◌, ◌<◌, ◌≤◌, List, length, take, drop, get_or, sum_by, sym, ap, ◌∙◌, subst, refl, arith, None, length-take, length-drop}
+use Rattle.std.proofs.Common.{◌≡◌, ⊎_elim, inl, inr, ◌⊎◌, ℕ, ◌+◌, ◌*◌, ◌-◌, ◌%◌, ◌<◌, ◌≤◌, List, length, take, drop, sum_by, sym, ap, ◌∙◌, subst, refl, arith, length-take, length-drop}
 use Rattle.std.specs.Int.{next_multiple_of}
 use Rattle.std.proofs.lemmas.List.{take_all}
 use Rattle.std.proofs.lemmas.List.Sums.{sum_by_more, sum_by-take-le}
@@ -9,10 +9,10 @@ use Rattle.page_slots.specs.declared.pointer.Pointer.{Pointer}
 use Rattle.page_slots.specs.declared.pointer.Extent.{Extent}
 use Rattle.page_slots.specs.declared.slot.Slot.{Slot}
 use Rattle.page_slots.specs.Slots.{bytes_taken}
-use Rattle.page_slots.specs.Layout.{pointer_of, word_of, IsPointed, pointer_in, part_of, slot_in, slots_in, change_in, flags_in, lower_in, upper_in}
-use Rattle.page_slots.specs.Sound.{IsSound, IsExtent, IsPointer, AreApart, end_of}
-use Rattle.page_slots.specs.Packing.{LiesOver, AreInOrder, IsPacked, IsMoved}
-use Rattle.page_slots.proofs.Shown.{rounded-up, shown, part-long, taken-shown}
+use Rattle.page_slots.specs.Layout.{pointer_of, word_of, IsPointed, pointer_in, part_of, slot_in, slots_in, change_in, flags_in, upper_in}
+use Rattle.page_slots.specs.Sound.{IsSound, IsExtent, IsPointer, AreApart}
+use Rattle.page_slots.specs.Packing.{LiesOver, LieInOrder, IsPacked, IsMoved}
+use Rattle.page_slots.proofs.Shown.{rounded-up, shown, taken-shown}
 use Rattle.page_slots.proofs.SlotLemmas.{same_or_other}
 use Rattle.page_slots.proofs.Frames.{Agrees, agrees-with_bytes, agrees-with_number, part-written, number-written, number-outside, pointer-outside, part-outside}
 use Rattle.page_slots.proofs.PointerSet.{word-back, word-small, pointer-read, beside}
@@ -224,7 +224,7 @@ pub record IsCompacted (old b : List ℕ) (count top : ℕ) : Type 0 where
   pub change : change_in b ≡ change_in old
   pub flags : flags_in b ≡ flags_in old
   pub upper : upper_in b + sum_by bytes_taken (slots_in count old) ≡ 8192
-  pub order : AreInOrder b (slots_in count old) count
+  pub order : LieInOrder b (slots_in count old) count
 
 extent-packed : (new b : List ℕ) (top : ℕ) (d : Extent) → upper_in b ≡ top → part_of b d ≡ part_of new d → LiesOver new top d → IsExtent b d
 extent-packed new b top d is same o = record {

@@ -1,15 +1,13 @@
 -- What a page keeps when a pointer without a version is written.
-use Rattle.std.proofs.Common.{◌≡◌, ◌≢◌, ⊎_elim, inl, inr, ◌⊎◌, ℕ, ◌+◌, ◌*◌, ◌%◌, ◌/◌, ◌^◌, ◌<◌, ◌≤◌, nat_lt, false, List, [], length, set, sym, ap, ◌∙◌, subst, refl, arith, None}
+use Rattle.std.proofs.Common.{◌≡◌, ◌≢◌, ⊎_elim, inl, inr, ◌⊎◌, ℕ, ◌+◌, ◌*◌, ◌%◌, ◌/◌, ◌^◌, ◌<◌, ◌≤◌, nat_lt, false, List, [], length, set, sym, ap, ◌∙◌, subst, refl, arith}
 use Rattle.std.proofs.lemmas.Bool.{cases_Bool, ltb-true, ltb-false}
-use Rattle.std.proofs.lemmas.Bool.Decides.{nat_tests}
 use Rattle.tuple_header.specs.Layout.{number_at, with_number}
 use Rattle.tuple_header.specs.Faults.{first_fault}
 use Rattle.page_slots.specs.declared.pointer.Pointer.{Pointer}
 use Rattle.page_slots.specs.declared.pointer.Extent.{Extent}
-use Rattle.page_slots.specs.declared.slot.Slot.{Slot}
-use Rattle.page_slots.specs.Layout.{pointer_of, word_of, IsPointed, pointer_in, part_of, shown_by, slot_in, slots_in, lower_in, upper_in, flags_in, change_in}
+use Rattle.page_slots.specs.Layout.{pointer_of, word_of, IsPointed, pointer_in, part_of, shown_by, slots_in, lower_in, upper_in, flags_in, change_in}
 use Rattle.page_slots.specs.Slots.{is_unused, bytes_taken}
-use Rattle.page_slots.specs.Sound.{IsSound, IsExtent, IsPointer, AreApart, HoldsNoVersion}
+use Rattle.page_slots.specs.Sound.{IsSound, IsPointer, AreApart, HoldsNoVersion}
 use Rattle.page_slots.proofs.Shown.{shown}
 use Rattle.page_slots.proofs.SlotLemmas.{same_or_other}
 use Rattle.page_slots.proofs.Frames.{Agrees, agrees-with_number, number-written, number-outside, pointer-outside}

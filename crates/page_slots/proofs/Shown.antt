@@ -1,15 +1,13 @@
 -- What a pointer shows of the bytes.
-use Rattle.std.proofs.Common.{◌≡◌, ℕ, ◌+◌, ◌-◌, ◌<◌, ◌≤◌, List, length, take, drop, sym, ap, ◌∙◌, refl, subst, arith, Some, None, length-take, length-drop}
+use Rattle.std.proofs.Common.{◌≡◌, ℕ, ◌+◌, ◌-◌, ◌≤◌, List, length, drop, sym, ap, ◌∙◌, refl, subst, arith, None, length-take, length-drop}
 use Rattle.std.specs.Int.{next_multiple_of}
 use Rattle.std.proofs.lemmas.Bool.Decides.{nat_tests}
-use Rattle.std.specs.Option.{option_map}
 use Rattle.tuple_header.specs.declared.version.Header.{Header}
-use Rattle.tuple_header.specs.Layout.{decoded_header, decoded_row, decoded_version}
+use Rattle.tuple_header.specs.Layout.{decoded_header}
 use Rattle.tuple_header.specs.Faults.{first_fault, header_fault}
 use Rattle.tuple_header.proofs.Faults.{first_fault-none, laid_out-from_none}
 use Rattle.page_slots.specs.declared.pointer.Pointer.{Pointer}
 use Rattle.page_slots.specs.declared.pointer.Extent.{Extent}
-use Rattle.page_slots.specs.declared.slot.Slot.{Slot}
 use Rattle.page_slots.specs.declared.slot.SlotHead.{SlotHead}
 use Rattle.page_slots.specs.Slots.{version_of, head_of, bytes_taken}
 use Rattle.page_slots.specs.Sound.{IsPointer, IsExtent, IsVersionAt}

@@ -1,16 +1,15 @@
 -- What a page keeps when some of its bytes are written.
-use Rattle.std.proofs.Common.{◌≡◌, ◌≢◌, ⊎_elim, inl, inr, ◌⊎◌, ℕ, ◌+◌, ◌*◌, ◌%◌, ◌^◌, ◌<◌, ◌≤◌, List, ◌∷◌, ◌++◌, [], length, take, drop, map, set, get_or, sym, ap, ◌∙◌, subst, refl, arith, Some, None}
+use Rattle.std.proofs.Common.{◌≡◌, ◌≢◌, ⊎_elim, inl, inr, ◌⊎◌, ℕ, ◌+◌, ◌*◌, ◌%◌, ◌^◌, ◌<◌, ◌≤◌, List, length, set, get_or, sym, ap, ◌∙◌, subst, refl, arith, None}
 use Rattle.std.proofs.lemmas.List.{ext_get_or, length-set, get_or-set_same, get_or-set_other}
 use Rattle.std.proofs.lemmas.List.FromFn.{length-map-range_with_len, get_or-map-range_with_len}
-use Rattle.std.specs.List.{range_with_len}
 use Rattle.std.specs.Int.{next_multiple_of}
 use Rattle.tuple_header.specs.Layout.{number_at, with_number, decoded_version}
 use Rattle.tuple_header.specs.Faults.{first_fault}
 use Rattle.page_slots.specs.declared.pointer.Pointer.{Pointer}
 use Rattle.page_slots.specs.declared.pointer.Extent.{Extent}
 use Rattle.page_slots.specs.declared.slot.Slot.{Slot}
-use Rattle.page_slots.specs.Layout.{pointer_in, part_of, shown_by, slot_in, slots_in, lower_in, upper_in, flags_in, change_in}
-use Rattle.page_slots.specs.Sound.{IsSound, IsExtent, IsPointer, IsHeaded, AreApart, end_of}
+use Rattle.page_slots.specs.Layout.{pointer_in, part_of, slot_in, slots_in, lower_in, upper_in, flags_in}
+use Rattle.page_slots.specs.Sound.{IsSound, IsExtent, IsPointer, IsHeaded, AreApart}
 use Rattle.page_slots.proofs.Shown.{rounded-up, shown}
 use Rattle.page_slots.proofs.Frames.{Agrees, agrees-with_number, number-written, number-outside, pointer-outside, part-outside}
 use Rattle.page_slots.proofs.SlotLemmas.{same_or_other}

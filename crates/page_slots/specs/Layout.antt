@@ -1,12 +1,13 @@
--- Where the parts of a page stand in its 8192 bytes (PostgreSQL manual, Database Page Layout). Every number is little endian.
+-- Where the parts of a page stand among its bytes (PostgreSQL manual, Database Page Layout). Every number is little endian.
 use Rattle.std.specs.Prelude.{⊤, ◌<◌, ℕ, ◌+◌, ◌-◌, ◌*◌, ◌/◌, ◌%◌, ◌==◌, Bool, not, List, map, take, drop, if◌then◌else◌}
 use Rattle.std.specs.List.{range_with_len}
 use Rattle.tuple_header.specs.Layout.{number_at, decoded_version}
 use Rattle.page_slots.specs.declared.pointer.Pointer.{Pointer}
 use Rattle.page_slots.specs.declared.pointer.Extent.{Extent}
 use Rattle.page_slots.specs.declared.slot.Slot.{Slot}
+use Rattle.page_slots.specs.declared.sheet.TheConstants.{PAGE_HEADER_BYTES}
 
--- The header, of 24 bytes.
+-- The header.
 
 abbrev pub change_in : List ℕ → ℕ
 change_in bytes = number_at 0 8 bytes
@@ -24,10 +25,10 @@ lower_in bytes = number_at 12 2 bytes
 abbrev pub upper_in : List ℕ → ℕ
 upper_in bytes = number_at 14 2 bytes
 
--- The line pointers, of 4 bytes each, the first at 24.
+-- The line pointers, of 4 bytes each, right behind the header.
 
 abbrev pub slot_count_in : List ℕ → ℕ
-slot_count_in bytes = (lower_in bytes - 24) / 4
+slot_count_in bytes = (lower_in bytes - PAGE_HEADER_BYTES) / 4
 
 -- what a pointer's word says: 15 bits of offset, 2 of kind and 15 of length
 abbrev pub pointer_of : ℕ → Pointer
@@ -38,7 +39,7 @@ pointer_of word =
 
 -- the pointer of index i, the first being 0
 unfoldable pub pointer_in : List ℕ → ℕ → Pointer
-pointer_in bytes i = pointer_of (number_at (24 + 4 * i) 4 bytes)
+pointer_in bytes i = pointer_of (number_at (PAGE_HEADER_BYTES + 4 * i) 4 bytes)
 
 -- The slots.
 

@@ -9,6 +9,7 @@ use Rattle.xid_circle.specs.Numbers.{Count}
 use Rattle.page_slots.specs.Slots.{version_of}
 use Rattle.page_slots.specs.declared.pointer.Pointer.{Pointer}
 use Rattle.page_slots.specs.declared.pointer.Extent.{Extent}
+use Rattle.page_slots.specs.declared.sheet.TheConstants.{PAGE_BYTES, PAGE_HEADER_BYTES}
 use Rattle.page_slots.specs.Layout.{pointer_in, slot_in, part_of, change_in, flags_in, lower_in, upper_in}
 
 -- the bytes that a version takes, rounded up
@@ -20,7 +21,7 @@ pub record IsExtent (bytes : List ℕ) (e : Extent) : Type 0 where
   pub over : upper_in bytes ≤ e.from
   pub aligned : e.from % 8 ≡ 0
   pub least : 66 ≤ e.len
-  pub within : end_of e ≤ 8192
+  pub within : end_of e ≤ PAGE_BYTES
   pub faultless : first_fault (part_of bytes e) ≡ None
 
 -- a pointer of a page with so many slots: its version is good, its target is there
@@ -47,9 +48,9 @@ pub record IsHeaded (bytes : List ℕ) : Type 0 where
   pub checksum : number_at 8 2 bytes ≡ 0
   pub flags : (flags_in bytes ≡ 0) ⊎ (flags_in bytes ≡ 4)
   -- the special space begins where the page ends
-  pub special : number_at 16 2 bytes ≡ 8192
+  pub special : number_at 16 2 bytes ≡ PAGE_BYTES
   -- the page's size, and 4 for the version of the layout
-  pub version : number_at 18 2 bytes ≡ 8196
+  pub version : number_at 18 2 bytes ≡ PAGE_BYTES + 4
   pub prune_id : number_at 20 4 bytes ≡ 0
 
 -- these are the bytes of the version at an index: they have no fault
@@ -61,11 +62,11 @@ pub record IsVersionAt (bytes : List ℕ) (i : ℕ) (part : List ℕ) : Type 0 w
 
 -- the bytes of a page with so many slots
 pub record IsSound (bytes : List ℕ) (count : Count) : Type 0 where
-  pub long : length bytes ≡ 8192
+  pub long : length bytes ≡ PAGE_BYTES
   pub few : count ≤ MOST_SLOTS
-  pub lower : lower_in bytes ≡ 24 + 4 * count
-  pub gap : 24 + 4 * count ≤ upper_in bytes
-  pub upper : upper_in bytes ≤ 8192
+  pub lower : lower_in bytes ≡ PAGE_HEADER_BYTES + 4 * count
+  pub gap : PAGE_HEADER_BYTES + 4 * count ≤ upper_in bytes
+  pub upper : upper_in bytes ≤ PAGE_BYTES
   pub aligned : upper_in bytes % 8 ≡ 0
   pub headed : IsHeaded bytes
   pub pointers : (i : ℕ) → i < count → IsPointer bytes count (pointer_in bytes i)
@@ -78,7 +79,7 @@ pub record IsWritten (old new : List ℕ) (from len : ℕ) (v : Version) : Type 
   pub change : change_in new ≡ change_in old
   pub flags : flags_in new ≡ flags_in old
   pub upper : upper_in new ≡ upper_in old
-  pub pointers : (i : ℕ) → 28 + 4 * i ≤ from → pointer_in new i ≡ pointer_in old i
+  pub pointers : (i : ℕ) → PAGE_HEADER_BYTES + 4 * (i + 1) ≤ from → pointer_in new i ≡ pointer_in old i
 
 -- all other versions lie above this one
 abbrev pub AreAbove : List ℕ → Count → ℕ → Extent → Type 0

@@ -5,6 +5,7 @@ use Rattle.std.specs.Int.{next_multiple_of}
 use Rattle.xid_circle.specs.Numbers.{SlotNo}
 use Rattle.tuple_header.specs.Version.{size_of}
 use Rattle.page_slots.specs.declared.pointer.Extent.{Extent}
+use Rattle.page_slots.specs.declared.sheet.TheConstants.{PAGE_BYTES, PAGE_HEADER_BYTES}
 use Rattle.page_slots.specs.declared.slot.Slot.{Slot}
 use Rattle.page_slots.specs.Slots.{version_of, version_at}
 use Rattle.page_slots.specs.Layout.{slot_in}
@@ -18,7 +19,7 @@ length_at slots n = option_map (λ t. size_of t.row) (version_at slots n)
 
 -- so many bytes from a place on lie behind the header and within the page, rounded up
 abbrev pub LiesWithin : ℕ → ℕ → Type 0
-LiesWithin from len = (24 ≤ from) × (from + next_multiple_of len 8 ≤ 8192)
+LiesWithin from len = (PAGE_HEADER_BYTES ≤ from) × (from + next_multiple_of len 8 ≤ PAGE_BYTES)
 
 -- the version at an index stands there
 pub record StandsAt (bytes : List ℕ) (i : ℕ) (e : Extent) : Type 0 where

@@ -2,14 +2,14 @@
 
 ghost use Rattle.std.specs.Prelude.{◌≡◌, ◌≤◌, ◌<◌, ◌+◌, ◌*◌, length, sum_by};
 ghost use Rattle.tuple_header.specs.Layout.{with_bytes};
-ghost use Rattle.page_slots.specs.declared.sheet.TheConstants.{MOST_BYTES};
+ghost use Rattle.page_slots.specs.declared.sheet.TheConstants.{MOST_BYTES, PAGE_BYTES, PAGE_HEADER_BYTES};
 ghost use Rattle.page_slots.specs.Slots.{bytes_taken};
 ghost use Rattle.page_slots.specs.Layout.{slots_in};
 ghost use Rattle.page_slots.specs.Sound.{IsSound};
 ghost use Rattle.page_slots.specs.Packing.{IsMoved, IsPacked};
 
 use crate::pointer::{Extent, Pointer, pointer_at, put_pointer};
-use crate::sheet::part;
+use crate::sheet::{PAGE_BYTES, part};
 
 /// Writes some bytes from a place on.
 #[tactic(auto, unfolding(tuple_header::specs::Layout::with_bytes))]
@@ -22,10 +22,10 @@ fn put_bytes(out: &mut [u8], at: usize, bytes: &[u8])
 
 /// Moves a version of the old bytes to a place below those that were moved, and lets the slot at an index lead there.
 fn move_version(old: &[u8], extent: Extent, bytes: &mut [u8], index: usize, top: usize)
-    requires whole { length bytes.old ≡ 8192 }
+    requires whole { length bytes.old ≡ PAGE_BYTES }
     requires from { extent.from + extent.len ≤ length old.now }
-    requires low { 28 + 4 * index ≤ top }
-    requires high { top + extent.len ≤ 8192 }
+    requires low { PAGE_HEADER_BYTES + 4 * (index + 1) ≤ top }
+    requires high { top + extent.len ≤ PAGE_BYTES }
     ensures { IsMoved bytes.old bytes.new index top extent old.now }
 {
     put_bytes(bytes, top, part(old, extent));
@@ -63,7 +63,7 @@ pub(crate) fn pack(old: &[u8], count: usize, bytes: &mut [u8]) -> usize
     requires same { bytes.old ≡ old.now }
     ensures { IsPacked old.now bytes.new count count result }
 {
-    let mut upper = 8192;
+    let mut upper = PAGE_BYTES;
     for index in 0..count {
         upper = pack_one(old, count, bytes, index, upper);
     }

@@ -44,7 +44,7 @@ pub struct Page {
 
 impl Model for Page {
     ghost use Rattle.std.specs.Prelude.{◌==◌, not};
-    ghost use Rattle.page_slots.specs.View.{PageView, IsKept, all_spare};
+    ghost use Rattle.page_slots.specs.View.{PageView, AreTallied, all_spare};
     ghost use Rattle.page_slots.specs.Layout.{change_in, flags_in, slots_in};
 
     ghost Value = { PageView };
@@ -57,7 +57,7 @@ impl Model for Page {
     } };
 
     ghost invariant = { λ p.
-        IsKept (slots_in p.sheet.count p.sheet.bytes) p.free p.taken_bytes };
+        AreTallied (slots_in p.sheet.count p.sheet.bytes) p.free p.taken_bytes };
 }
 
 /// The index in the list of slots that this number stands for, unless it is 0.

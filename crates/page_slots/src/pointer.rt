@@ -2,8 +2,10 @@
 
 ghost use Rattle.std.specs.Prelude.{◌≡◌, ◌≤◌, ◌<◌, ◌+◌, ◌*◌, ◌^◌, length};
 ghost use Rattle.tuple_header.specs.Layout.{number_at, with_number};
+ghost use Rattle.page_slots.specs.declared.sheet.TheConstants.{PAGE_HEADER_BYTES};
 ghost use Rattle.page_slots.specs.Layout.{pointer_of, pointer_in, word_of, IsPointed};
 
+use crate::sheet::PAGE_HEADER_BYTES;
 use byteorder::{ByteOrder, LittleEndian};
 
 /// Where a version stands among the bytes of its page.
@@ -63,17 +65,18 @@ impl Pointer {
 /// The pointer at an index, the first being 0.
 #[inline(always)]
 pub(crate) fn pointer_at(bytes: &[u8], index: usize) -> Pointer
-    requires { 28 + 4 * index ≤ length bytes.now }
+    requires { PAGE_HEADER_BYTES + 4 * (index + 1) ≤ length bytes.now }
     ensures { result ≡ pointer_in bytes.now index }
 {
-    Pointer::of(LittleEndian::read_u32(&bytes[24 + 4 * index..]))
+    Pointer::of(LittleEndian::read_u32(&bytes[PAGE_HEADER_BYTES + 4 * index..]))
 }
 
 /// Writes the pointer at an index.
 pub(crate) fn put_pointer(bytes: &mut [u8], index: usize, pointer: Pointer)
-    requires room { 28 + 4 * index ≤ length bytes.old }
+    requires room { PAGE_HEADER_BYTES + 4 * (index + 1) ≤ length bytes.old }
     requires pointed { IsPointed pointer }
-    ensures { bytes.new ≡ with_number (24 + 4 * index) 4 (word_of pointer) bytes.old }
+    ensures { bytes.new
+        ≡ with_number (PAGE_HEADER_BYTES + 4 * index) 4 (word_of pointer) bytes.old }
 {
-    LittleEndian::write_u32(&mut bytes[24 + 4 * index..], pointer.word());
+    LittleEndian::write_u32(&mut bytes[PAGE_HEADER_BYTES + 4 * index..], pointer.word());
 }

@@ -7,9 +7,10 @@ ghost use Rattle.tuple_header.specs.Layout.{number_at, with_bytes, header_bytes,
 ghost use Rattle.tuple_header.specs.declared.version.TheConstants.{MOST_SLOTS};
 ghost use Rattle.tuple_header.specs.Version.{size_of, rounded_size_of};
 ghost use Rattle.tuple_header.specs.Faults.{HeaderFits, IsVersion, header_fault, first_fault};
+ghost use Rattle.page_slots.specs.declared.sheet.TheConstants.{MOST_BYTES, PAGE_BYTES, PAGE_HEADER_BYTES};
 ghost use Rattle.page_slots.specs.Slots.{is_unused, is_dead, is_undeleted_by, redirects_to, with_header, version_of, target_of, head_of, bytes_taken};
 ghost use Rattle.page_slots.specs.Layout.{pointer_in, part_of, shown_by, slot_in, slots_in, slot_count_in, change_in, flags_in, upper_in};
-ghost use Rattle.page_slots.specs.Packing.{AreInOrder};
+ghost use Rattle.page_slots.specs.Packing.{LieInOrder};
 ghost use Rattle.page_slots.specs.Standing.{StandsAt};
 ghost use Rattle.page_slots.specs.declared.pointer.Extent.{Extent as SpecExtent};
 ghost use Rattle.page_slots.specs.Sound.{AreAbove, IsExtent, HoldsNoVersion, IsWritten, IsPointer, IsVersionAt};
@@ -24,13 +25,21 @@ use tuple_header::{
 };
 use xid_circle::Xid;
 
-/// What pointers and versions may take of a page: its header has 24 bytes.
+/// The bytes of a page.
+pub const PAGE_BYTES: usize = 8192;
+
+/// The bytes of a page's header, which come first. The line pointers are right behind them.
+pub(crate) const PAGE_HEADER_BYTES: usize = 24;
+
+/// What pointers and versions may take of a page.
 pub(crate) const MOST_BYTES: usize = 8168;
+
+const _: () = prove!(MOST_BYTES == PAGE_BYTES - PAGE_HEADER_BYTES);
 
 /// The bytes of a page.
 #[derive(Debug, Drop)]
 pub(crate) struct Sheet {
-    bytes: [u8; 8192],
+    bytes: [u8; PAGE_BYTES],
     count: usize,
 }
 
@@ -58,7 +67,7 @@ pub(crate) fn part(bytes: &[u8], extent: Extent) -> &[u8]
 /// Writes a header over that of the version in these bytes.
 fn write_header(bytes: &mut [u8], extent: Extent, header: Header)
     requires within { extent.from + extent.len ≤ length bytes.old }
-    requires least { 24 ≤ extent.len }
+    requires least { 66 ≤ extent.len }
     ensures bytes { bytes.new
         ≡ with_bytes extent.from (header_bytes header ++ drop 24 (part_of bytes.old extent))
         bytes.old }
@@ -95,13 +104,13 @@ impl Sheet {
         ensures count { result.count ≡ 0 }
         ensures change { change_in result.bytes ≡ 0 }
         ensures flags { flags_in result.bytes ≡ 0 }
-        ensures upper { upper_in result.bytes ≡ 8192 }
+        ensures upper { upper_in result.bytes ≡ PAGE_BYTES }
     {
-        let mut bytes = [0; 8192];
-        put_u16(&mut bytes, 12, 24);
-        put_u16(&mut bytes, 14, 8192);
-        put_u16(&mut bytes, 16, 8192);
-        put_u16(&mut bytes, 18, 8196);
+        let mut bytes = [0; PAGE_BYTES];
+        put_u16(&mut bytes, 12, PAGE_HEADER_BYTES as u16);
+        put_u16(&mut bytes, 14, PAGE_BYTES as u16);
+        put_u16(&mut bytes, 16, PAGE_BYTES as u16);
+        put_u16(&mut bytes, 18, PAGE_BYTES as u16 + 4);
         Sheet { bytes, count: 0 }
     }
 
@@ -448,7 +457,7 @@ impl Sheet {
         ensures change { change_in self.new.bytes ≡ change_in self.old.bytes }
         ensures flags { flags_in self.new.bytes ≡ flags_in self.old.bytes }
         ensures upper { upper_in self.new.bytes
-            ≡ (if last then 8192 else upper_in self.old.bytes) }
+            ≡ (if last then PAGE_BYTES else upper_in self.old.bytes) }
     {
         self.set_pointer(index, pointer);
         if last {
@@ -458,7 +467,7 @@ impl Sheet {
 
     /// Writes the bytes of a version below all others, where no pointer leads yet.
     fn write_version(&mut self, from: usize, header: &Header, row: &Row)
-        requires gap { 24 + 4 * self.old.count ≤ from }
+        requires gap { PAGE_HEADER_BYTES + 4 * self.old.count ≤ from }
         requires room { from + rounded_size_of row.now ≤ upper_in self.old.bytes }
         requires faultless { header_fault header.now ≡ None }
         ensures count { self.new.count ≡ self.old.count }
@@ -481,7 +490,7 @@ impl Sheet {
 
     /// Lets the versions begin further down, behind the pointers.
     fn lower_upper(&mut self, upper: usize)
-        requires gap { 24 + 4 * self.old.count ≤ upper }
+        requires gap { PAGE_HEADER_BYTES + 4 * self.old.count ≤ upper }
         requires down { upper ≤ upper_in self.old.bytes }
         requires aligned { upper % 8 ≡ 0 }
         ensures count { self.new.count ≡ self.old.count }
@@ -490,7 +499,7 @@ impl Sheet {
         ensures change { change_in self.new.bytes ≡ change_in self.old.bytes }
         ensures flags { flags_in self.new.bytes ≡ flags_in self.old.bytes }
         ensures upper { upper_in self.new.bytes ≡ upper }
-        ensures parts { (e : SpecExtent) → 24 ≤ e.from → e.from + e.len ≤ 8192
+        ensures parts { (e : SpecExtent) → PAGE_HEADER_BYTES ≤ e.from → e.from + e.len ≤ PAGE_BYTES
             → part_of self.new.bytes e ≡ part_of self.old.bytes e }
         ensures pointers { (i : ℕ) → pointer_in self.new.bytes i ≡ pointer_in self.old.bytes i }
     {
@@ -517,7 +526,7 @@ impl Sheet {
     /// Puts a version at an index, below all others, where the gap has room for it.
     fn put_below(&mut self, index: usize, header: &Header, row: &Row)
         requires there { index < self.old.count }
-        requires room { 24 + 4 * self.old.count + rounded_size_of row.now
+        requires room { PAGE_HEADER_BYTES + 4 * self.old.count + rounded_size_of row.now
             ≤ upper_in self.old.bytes }
         requires faultless { header_fault header.now ≡ None }
         ensures count { self.new.count ≡ self.old.count }
@@ -541,7 +550,7 @@ impl Sheet {
     /// Adds a last slot, which is unused. There are fewer than a page may have, and the gap has room for its pointer.
     fn grow(&mut self)
         requires few { self.old.count < MOST_SLOTS }
-        requires room { 28 + 4 * self.old.count ≤ upper_in self.old.bytes }
+        requires room { PAGE_HEADER_BYTES + 4 * (self.old.count + 1) ≤ upper_in self.old.bytes }
         ensures count { self.new.count ≡ self.old.count + 1 }
         ensures slots { slots_in self.new.count self.new.bytes
             ≡ slots_in self.old.count self.old.bytes ++ Slot.Unused ∷ [] }
@@ -551,7 +560,11 @@ impl Sheet {
     {
         put_pointer(&mut self.bytes, self.count, Pointer::Unused);
         self.count += 1;
-        put_u16(&mut self.bytes, 12, 24 + 4 * self.count as u16);
+        put_u16(
+            &mut self.bytes,
+            12,
+            (PAGE_HEADER_BYTES + 4 * self.count) as u16,
+        );
     }
 
     /// Moves the versions together at the end of the page, in the order of their slots from the end downward. No slot changes.
@@ -565,8 +578,8 @@ impl Sheet {
         ensures change { change_in self.new.bytes ≡ change_in self.old.bytes }
         ensures flags { flags_in self.new.bytes ≡ flags_in self.old.bytes }
         ensures upper { upper_in self.new.bytes
-            + sum_by bytes_taken (slots_in self.old.count self.old.bytes) ≡ 8192 }
-        ensures order { AreInOrder self.new.bytes (slots_in self.old.count self.old.bytes)
+            + sum_by bytes_taken (slots_in self.old.count self.old.bytes) ≡ PAGE_BYTES }
+        ensures order { LieInOrder self.new.bytes (slots_in self.old.count self.old.bytes)
             self.new.count }
     {
         let old = self.bytes;
@@ -583,11 +596,11 @@ impl Sheet {
             ≡ slots_in self.old.count self.old.bytes }
         ensures change { change_in self.new.bytes ≡ change_in self.old.bytes }
         ensures flags { flags_in self.new.bytes ≡ flags_in self.old.bytes }
-        ensures gap { 24 + 4 * self.new.count + size ≤ upper_in self.new.bytes }
-        ensures stays { 24 + 4 * self.old.count + size ≤ upper_in self.old.bytes
+        ensures gap { PAGE_HEADER_BYTES + 4 * self.new.count + size ≤ upper_in self.new.bytes }
+        ensures stays { PAGE_HEADER_BYTES + 4 * self.old.count + size ≤ upper_in self.old.bytes
             → self.new ≡ self.old }
     {
-        if self.upper() < 24 + 4 * self.len() + size {
+        if self.upper() < PAGE_HEADER_BYTES + 4 * self.len() + size {
             self.compact();
         }
     }
@@ -638,9 +651,9 @@ impl Sheet {
             ≡ slots_in self.old.count self.old.bytes }
         ensures change { change_in self.new.bytes ≡ change_in self.old.bytes }
         ensures flags { flags_in self.new.bytes ≡ flags_in self.old.bytes }
-        ensures upper { upper_in self.new.bytes ≡ 8192 }
+        ensures upper { upper_in self.new.bytes ≡ PAGE_BYTES }
     {
         let _count = self.count;
-        put_u16(&mut self.bytes, 14, 8192);
+        put_u16(&mut self.bytes, 14, PAGE_BYTES as u16);
     }
 }

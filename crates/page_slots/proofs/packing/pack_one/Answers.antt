@@ -1,6 +1,5 @@
-use Rattle.std.proofs.Common.{◌≡◌, ◌∙◌, ◌-◌, sym, ap, subst, arith, length, sum_by, take}
+use Rattle.std.proofs.Common.{◌≡◌, ◌∙◌, ◌-◌, sym, ap, arith}
 use Rattle.std.specs.Int.{next_multiple_of}
-use Rattle.page_slots.specs.Packing.{IsMoved, IsPacked}
 use Rattle.page_slots.proofs.PackLemmas.{packed-normal, packed-none, version-fits}
 use Rattle.page_slots.proofs.packing.pack_one.Goals as goal
 

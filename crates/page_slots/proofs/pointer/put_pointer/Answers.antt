@@ -2,8 +2,6 @@ use Rattle.std.proofs.Common.{◌+◌, ◌*◌, arith}
 use Rattle.byteorder.specs.Endian.{little_bytes}
 use Rattle.byteorder.specs.Numbers.{length-bytes_low_first}
 use Rattle.tuple_header.proofs.Writes.{with_bytes-put}
-use Rattle.page_slots.specs.Layout.{word_of}
-use Rattle.page_slots.proofs.Frames.{number-written, part-written}
 use Rattle.page_slots.proofs.pointer.put_pointer.Goals as goal
 
 pub returns : goal.returns

@@ -1,11 +1,11 @@
-use Rattle.std.proofs.Common.{◌≡◌, ◌≤◌, ◌<◌, ◌+◌, ◌*◌, ◌∙◌, ℕ, List, length, sum_by, sym, ap, subst, refl, arith}
+use Rattle.std.proofs.Common.{◌≡◌, ◌≤◌, ◌<◌, ◌+◌, ◌∙◌, ℕ, List, sym, ap, subst, refl, arith}
 use Rattle.std.specs.List.{position_or_len}
 use Rattle.tuple_header.specs.Version.{rounded_size_of}
-use Rattle.page_slots.specs.View.{PageView, IsKept}
+use Rattle.page_slots.specs.View.{PageView, AreTallied}
 use Rattle.page_slots.specs.declared.slot.Slot.{Slot}
 use Rattle.page_slots.specs.declared.slot.Slot.TheVariants.{Normal}
 use Rattle.page_slots.specs.Layout.{slots_in}
-use Rattle.page_slots.specs.Slots.{is_unused, bytes_taken, free_number, room_of, with_added}
+use Rattle.page_slots.specs.Slots.{is_unused, free_number, room_of, with_added}
 use Rattle.page_slots.proofs.FreeLemmas.{first-after_added}
 use Rattle.page_slots.proofs.Kept.{kept_added, room-reused, room-new, with_added-at, with_added-behind}
 use Rattle.page_slots.proofs.Sounds.{length-slots_in}
@@ -17,7 +17,7 @@ add-requires-clause-room c =
     let count = c.self.inside.sheet.count in
     let slots = slots_in count c.self.inside.sheet.bytes in
     let long = length-slots_in count c.self.inside.sheet.bytes in
-    let kept : IsKept slots c.self.inside.free c.self.inside.taken_bytes = c.self.invariant in
+    let kept : AreTallied slots c.self.inside.free c.self.inside.taken_bytes = c.self.invariant in
     let seen = ap (λ (p : PageView). p.slots) (sym c.self.view_is) in
     let room = c.room-room.ensures.value ∙ ap room_of seen in
     let fits : rounded_size_of c.args.row.now ≤ room_of slots = rw seen at c.requires.room in
@@ -31,7 +31,7 @@ push-requires-clause-room c =
     let count = c.self.inside.sheet.count in
     let slots = slots_in count c.self.inside.sheet.bytes in
     let long = length-slots_in count c.self.inside.sheet.bytes in
-    let kept : IsKept slots c.self.inside.free c.self.inside.taken_bytes = c.self.invariant in
+    let kept : AreTallied slots c.self.inside.free c.self.inside.taken_bytes = c.self.invariant in
     let seen = ap (λ (p : PageView). p.slots) (sym c.self.view_is) in
     let room = c.room-room.ensures.value ∙ ap room_of seen in
     let fits : rounded_size_of c.args.row.now ≤ room_of slots = rw seen at c.requires.room in
@@ -45,7 +45,7 @@ first_unused_from-self-inside-requires c =
     let count = c.self.inside.sheet.count in
     let slots = slots_in count c.self.inside.sheet.bytes in
     let long = length-slots_in count c.self.inside.sheet.bytes in
-    let kept : IsKept slots c.self.inside.free c.self.inside.taken_bytes = c.self.invariant in
+    let kept : AreTallied slots c.self.inside.free c.self.inside.taken_bytes = c.self.invariant in
     let seen = ap (λ (p : PageView). p.slots) (sym c.self.view_is) in
     let room = c.room-room.ensures.value ∙ ap room_of seen in
     let fits : rounded_size_of c.args.row.now ≤ room_of slots = rw seen at c.requires.room in
@@ -65,7 +65,7 @@ invariant_of-self c =
     let count = c.self.inside.sheet.count in
     let slots = slots_in count c.self.inside.sheet.bytes in
     let long = length-slots_in count c.self.inside.sheet.bytes in
-    let kept : IsKept slots c.self.inside.free c.self.inside.taken_bytes = c.self.invariant in
+    let kept : AreTallied slots c.self.inside.free c.self.inside.taken_bytes = c.self.invariant in
     let seen = ap (λ (p : PageView). p.slots) (sym c.self.view_is) in
     let room = c.room-room.ensures.value ∙ ap room_of seen in
     let fits : rounded_size_of c.args.row.now ≤ room_of slots = rw seen at c.requires.room in
@@ -89,7 +89,7 @@ returns-clause-slots c =
     let count = c.self.inside.sheet.count in
     let slots = slots_in count c.self.inside.sheet.bytes in
     let long = length-slots_in count c.self.inside.sheet.bytes in
-    let kept : IsKept slots c.self.inside.free c.self.inside.taken_bytes = c.self.invariant in
+    let kept : AreTallied slots c.self.inside.free c.self.inside.taken_bytes = c.self.invariant in
     let seen = ap (λ (p : PageView). p.slots) (sym c.self.view_is) in
     let room = c.room-room.ensures.value ∙ ap room_of seen in
     let fits : rounded_size_of c.args.row.now ≤ room_of slots = rw seen at c.requires.room in

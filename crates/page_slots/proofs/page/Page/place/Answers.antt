@@ -1,4 +1,4 @@
-use Rattle.std.proofs.Common.{◌≡◌, ◌∙◌, refl, ap, arith}
+use Rattle.std.proofs.Common.{◌∙◌, refl, ap, arith}
 use Rattle.std.specs.Option.{option_map}
 use Rattle.tuple_header.specs.Version.{Version, size_of}
 use Rattle.page_slots.specs.Layout.{slot_in}

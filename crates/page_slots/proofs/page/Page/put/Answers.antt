@@ -1,13 +1,13 @@
-use Rattle.std.proofs.Common.{◌≡◌, ◌-◌, ◌<◌, ◌≤◌, ℕ, [], true, false, length, get_or, set, sym, ap, ◌∙◌, subst, arith, refl, List}
+use Rattle.std.proofs.Common.{◌≡◌, ◌-◌, ◌<◌, ◌≤◌, ℕ, [], true, length, get_or, set, sym, ap, ◌∙◌, subst, arith, List}
 use Rattle.std.proofs.lemmas.Bool.{true≢false}
 use Rattle.std.proofs.lemmas.Bool.Decides.{nat_tests}
 use Rattle.std.specs.List.{position_or_len}
-use Rattle.page_slots.specs.View.{PageView, IsKept}
+use Rattle.page_slots.specs.View.{PageView, AreTallied}
 use Rattle.page_slots.specs.declared.slot.Slot.{Slot}
 use Rattle.page_slots.specs.declared.slot.Slot.TheVariants.{Unused}
-use Rattle.page_slots.specs.Layout.{shown_by, slot_in, slots_in}
+use Rattle.page_slots.specs.Layout.{shown_by, slots_in}
 use Rattle.page_slots.specs.Sound.{HoldsNoVersion}
-use Rattle.page_slots.specs.Slots.{SlotIsThere, is_unused, bytes_taken, next_change, with_slot, change_unless}
+use Rattle.page_slots.specs.Slots.{SlotIsThere, is_unused, bytes_taken}
 use Rattle.page_slots.proofs.Kept.{kept_bare, taken-within, sum-bare}
 use Rattle.page_slots.proofs.FreeLemmas.{first-after_set}
 use Rattle.page_slots.proofs.PointerSet.{bare-takes_none, bare-used}
@@ -80,7 +80,7 @@ first_unused_from-self-inside-requires c =
     let within : index < count = omega (arith, there.0, there.1, c.from-index.ensures) in
     let inside : index < length slots = omega arith in
     let bare : HoldsNoVersion count c.args.pointer = subst (λ (n : ℕ). HoldsNoVersion n c.args.pointer) long (subst (λ (p : PageView). HoldsNoVersion (length p.slots) c.args.pointer) (sym c.self.view_is) c.requires.bare) in
-    let kept : IsKept slots c.self.inside.free c.self.inside.taken_bytes = c.self.invariant in
+    let kept : AreTallied slots c.self.inside.free c.self.inside.taken_bytes = c.self.invariant in
     let before : c.match-pointer.from ≤ position_or_len is_unused slots =
     elim c.match-pointer.branch [ in-Unused w ↦ omega (arith, w.from-is, w.min-from.ensures, kept.first) | in_default w ↦ omega (arith, w.from-is, kept.first) ] in
     let first : is_unused (shown_by [] c.args.pointer) ≡ true → c.match-pointer.from ≤ index = λ unused.
@@ -100,8 +100,8 @@ invariant_of-self c =
     let bare : HoldsNoVersion count c.args.pointer = subst (λ (n : ℕ). HoldsNoVersion n c.args.pointer) long (subst (λ (p : PageView). HoldsNoVersion (length p.slots) c.args.pointer) (sym c.self.view_is) c.requires.bare) in
     let old : bytes_taken (get_or slots index Unused) ≡ c.version_size-taken.result = ap bytes_taken (slots_in-at count bytes index Unused within) ∙ sym c.version_size-taken.ensures in
     let first : c.first_unused_from-self-inside.result ≡ position_or_len is_unused (set slots index (shown_by [] c.args.pointer)) = c.first_unused_from-self-inside.ensures.index ∙ ap (position_or_len is_unused) c.clear.ensures.slots in
-    subst (λ (s : List Slot). IsKept s c.first_unused_from-self-inside.result (c.self.inside.taken_bytes - c.version_size-taken.result)) (sym c.clear.ensures.slots)
-    (subst (λ (t : ℕ). IsKept (set slots index (shown_by [] c.args.pointer)) c.first_unused_from-self-inside.result (c.self.inside.taken_bytes - t)) old
+    subst (λ (s : List Slot). AreTallied s c.first_unused_from-self-inside.result (c.self.inside.taken_bytes - c.version_size-taken.result)) (sym c.clear.ensures.slots)
+    (subst (λ (t : ℕ). AreTallied (set slots index (shown_by [] c.args.pointer)) c.first_unused_from-self-inside.result (c.self.inside.taken_bytes - t)) old
     (kept_bare slots c.self.inside.free c.self.inside.taken_bytes c.first_unused_from-self-inside.result index (shown_by [] c.args.pointer) inside (bare-takes_none count c.args.pointer bare) first c.self.invariant))
 
 pub invariant_of-self-else-not-same : goal.invariant_of-self-else-not-same
@@ -117,8 +117,8 @@ invariant_of-self-else-not-same c =
     let bare : HoldsNoVersion count c.args.pointer = subst (λ (n : ℕ). HoldsNoVersion n c.args.pointer) long (subst (λ (p : PageView). HoldsNoVersion (length p.slots) c.args.pointer) (sym c.self.view_is) c.requires.bare) in
     let old : bytes_taken (get_or slots index Unused) ≡ c.version_size-taken.result = ap bytes_taken (slots_in-at count bytes index Unused within) ∙ sym c.version_size-taken.ensures in
     let first : c.first_unused_from-self-inside.result ≡ position_or_len is_unused (set slots index (shown_by [] c.args.pointer)) = c.first_unused_from-self-inside.ensures.index ∙ ap (position_or_len is_unused) c.clear.ensures.slots in
-    subst (λ (s : List Slot). IsKept s c.first_unused_from-self-inside.result (c.self.inside.taken_bytes - c.version_size-taken.result)) (sym c.clear.ensures.slots)
-    (subst (λ (t : ℕ). IsKept (set slots index (shown_by [] c.args.pointer)) c.first_unused_from-self-inside.result (c.self.inside.taken_bytes - t)) old
+    subst (λ (s : List Slot). AreTallied s c.first_unused_from-self-inside.result (c.self.inside.taken_bytes - c.version_size-taken.result)) (sym c.clear.ensures.slots)
+    (subst (λ (t : ℕ). AreTallied (set slots index (shown_by [] c.args.pointer)) c.first_unused_from-self-inside.result (c.self.inside.taken_bytes - t)) old
     (kept_bare slots c.self.inside.free c.self.inside.taken_bytes c.first_unused_from-self-inside.result index (shown_by [] c.args.pointer) inside (bare-takes_none count c.args.pointer bare) first c.self.invariant))
 
 pub clear-requires-clause-last : goal.clear-requires-clause-last

@@ -1,4 +1,4 @@
-use Rattle.std.proofs.Common.{◌≡◌, ◌∙◌, sym, ap, arith}
+use Rattle.std.proofs.Common.{◌∙◌, sym, ap, arith}
 use Rattle.std.specs.Option.{option_and_then}
 use Rattle.page_slots.specs.Slots.{target_of}
 use Rattle.page_slots.proofs.Found.{found, missing, is-there}

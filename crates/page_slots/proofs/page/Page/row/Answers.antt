@@ -1,7 +1,6 @@
-use Rattle.std.proofs.Common.{◌≡◌, ◌∙◌, ◌≤◌, ◌<◌, sym, ap, subst, length, arith, rules}
+use Rattle.std.proofs.Common.{◌∙◌, sym, ap, arith}
 use Rattle.std.specs.Option.{option_map}
 use Rattle.tuple_header.specs.Version.{Version}
-use Rattle.std.specs.Prelude.{Option}
 use Rattle.page_slots.specs.Slots.{version_of}
 use Rattle.page_slots.specs.Layout.{slot_in}
 use Rattle.page_slots.proofs.Found.{version_at-found, version_at-missing, is-there, some-mapped}

@@ -1,8 +1,8 @@
-use Rattle.std.proofs.Common.{◌≡◌, ◌-◌, ◌<◌, ℕ, length, get_or, sym, ap, ◌∙◌, subst, arith}
+use Rattle.std.proofs.Common.{◌≡◌, ◌-◌, ◌<◌, ℕ, get_or, sym, ap, ◌∙◌, subst, arith}
 use Rattle.page_slots.specs.View.{PageView}
 use Rattle.page_slots.specs.declared.slot.Slot.TheVariants.{Unused}
-use Rattle.page_slots.specs.Layout.{slot_in, slots_in}
-use Rattle.page_slots.specs.Slots.{SlotIsThere, is_unused, is_dead, the_slot}
+use Rattle.page_slots.specs.Layout.{slots_in}
+use Rattle.page_slots.specs.Slots.{SlotIsThere, is_dead, the_slot}
 use Rattle.page_slots.proofs.Sounds.{slots_in-at, length-slots_in}
 use Rattle.page_slots.proofs.page.Page.set_dead.Goals as goal
 

@@ -1,14 +1,12 @@
-use Rattle.std.proofs.Common.{◌≡◌, ◌-◌, ◌<◌, ℕ, length, get_or, set, sym, ap, ◌∙◌, subst, arith, refl, List}
-use Rattle.std.specs.Option.{option_map}
-use Rattle.page_slots.specs.View.{PageView, IsKept}
+use Rattle.std.proofs.Common.{◌≡◌, ◌-◌, ◌<◌, ℕ, get_or, set, sym, ap, ◌∙◌, subst, arith, List}
+use Rattle.page_slots.specs.View.{PageView, AreTallied}
 use Rattle.page_slots.specs.declared.slot.Slot.{Slot}
 use Rattle.page_slots.specs.declared.slot.Slot.TheVariants.{Unused}
-use Rattle.page_slots.specs.Layout.{slot_in, slots_in, change_in}
-use Rattle.page_slots.specs.Slots.{IsNormalAt, SlotIsThere, differs_in_hints_alone, next_change, the_slot, with_header, with_header_at}
+use Rattle.page_slots.specs.Layout.{slot_in, slots_in}
+use Rattle.page_slots.specs.Slots.{IsNormalAt, differs_in_hints_alone, next_change, the_slot, with_header, with_header_at}
 use Rattle.page_slots.proofs.Kept.{kept_header, hints-of_some, hints-of_none}
 use Rattle.page_slots.proofs.SlotLemmas.{there-from_normal}
 use Rattle.page_slots.proofs.Sounds.{slots_in-at, length-slots_in}
-use Rattle.page_slots.proofs.Found.{the_slot-in}
 use Rattle.page_slots.proofs.page.Page.set_header.Goals as goal
 use Rattle.page_slots.proofs.page.Page.set_header.Goals.{in-Some, in-None}
 
@@ -45,7 +43,7 @@ invariant_of-self c =
     let within : index < count = omega (arith, there.0, there.1, c.from-index.ensures) in
     let is : slots_in c.set_header.new.self.count c.set_header.new.self.bytes ≡ set slots index (with_header (get_or slots index Unused) c.args.header) =
     c.set_header.ensures.slots ∙ ap (λ (s : Slot). set slots index (with_header s c.args.header)) (sym (slots_in-at count bytes index Unused within)) in
-    subst (λ (s : List Slot). IsKept s c.self.inside.free c.self.inside.taken_bytes) (sym is)
+    subst (λ (s : List Slot). AreTallied s c.self.inside.free c.self.inside.taken_bytes) (sym is)
     (kept_header slots c.self.inside.free c.self.inside.taken_bytes index c.args.header (omega arith) c.self.invariant)
 
 pub invariant_of-self-else-not-hints_alone : goal.invariant_of-self-else-not-hints_alone
@@ -59,7 +57,7 @@ invariant_of-self-else-not-hints_alone c =
     let within : index < count = omega (arith, there.0, there.1, c.from-index.ensures) in
     let is : slots_in c.set_header.new.self.count c.set_header.new.self.bytes ≡ set slots index (with_header (get_or slots index Unused) c.args.header) =
     c.set_header.ensures.slots ∙ ap (λ (s : Slot). set slots index (with_header s c.args.header)) (sym (slots_in-at count bytes index Unused within)) in
-    subst (λ (s : List Slot). IsKept s c.self.inside.free c.self.inside.taken_bytes) (sym is)
+    subst (λ (s : List Slot). AreTallied s c.self.inside.free c.self.inside.taken_bytes) (sym is)
     (kept_header slots c.self.inside.free c.self.inside.taken_bytes index c.args.header (omega arith) c.self.invariant)
 
 pub returns-then-not-hints_alone-clause-slots : goal.returns-then-not-hints_alone-clause-slots

@@ -1,7 +1,5 @@
-use Rattle.std.proofs.Common.{◌≡◌, ◌∙◌, ◌≤◌, ◌<◌, refl, sym, ap, subst, length, arith, rules}
+use Rattle.std.proofs.Common.{refl, sym, arith}
 use Rattle.std.proofs.lemmas.Bool.{true≢false}
-use Rattle.page_slots.specs.View.{PageView}
-use Rattle.page_slots.specs.Slots.{slot_at, SlotIsThere}
 use Rattle.page_slots.proofs.Found.{found, missing, is-there, not-there}
 use Rattle.page_slots.proofs.page.Page.slot.Goals as goal
 

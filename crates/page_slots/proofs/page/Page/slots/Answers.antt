@@ -1,5 +1,4 @@
-use Rattle.std.proofs.Common.{◌≡◌, ◌∙◌, sym, ap, length}
-use Rattle.page_slots.specs.View.{PageView}
+use Rattle.std.proofs.Common.{◌∙◌, sym}
 use Rattle.page_slots.proofs.Sounds.{length-slots_in}
 use Rattle.page_slots.proofs.page.Page.slots.Goals as goal
 

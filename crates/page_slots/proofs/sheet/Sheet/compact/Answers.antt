@@ -1,4 +1,4 @@
-use Rattle.std.proofs.Common.{◌≡◌, ◌≤◌, ◌+◌, ◌*◌, ◌∙◌, sum_by, sym, ap, subst, arith}
+use Rattle.std.proofs.Common.{◌≤◌, ◌+◌, ◌*◌, sum_by, sym, subst}
 use Rattle.page_slots.specs.Sheet.{SheetView}
 use Rattle.page_slots.specs.Slots.{bytes_taken}
 use Rattle.page_slots.specs.Layout.{slots_in}

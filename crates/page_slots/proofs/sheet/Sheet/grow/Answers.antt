@@ -1,4 +1,4 @@
-use Rattle.std.proofs.Common.{◌≡◌, ◌≤◌, ◌<◌, ◌+◌, ◌*◌, sym, ap, ◌∙◌, subst, ℕ, List, arith}
+use Rattle.std.proofs.Common.{◌≡◌, ◌≤◌, ◌<◌, ◌+◌, ◌*◌, sym, ap, subst, ℕ, List, arith}
 use Rattle.page_slots.specs.Sheet.{SheetView}
 use Rattle.page_slots.specs.Layout.{upper_in}
 use Rattle.page_slots.proofs.Grown.{IsGrown, grown}
@@ -8,8 +8,9 @@ whole : (c : goal.After-put_u16) → IsGrown c.self.inside.bytes c.put_u16.new.b
 whole c =
     let seen : c.args.self.now.bytes ≡ c.self.inside.bytes = ap (λ (s : SheetView). s.bytes) (sym c.self.view_is) in
     let counted : c.args.self.now.count ≡ c.self.inside.count = ap (λ (s : SheetView). s.count) (sym c.self.view_is) in
+    let room = subst (λ (n : ℕ). 24 + 4 * (n + 1) ≤ upper_in c.self.inside.bytes) counted (subst (λ (b : List ℕ). 24 + 4 * (c.args.self.now.count + 1) ≤ upper_in b) seen c.requires.room) in
     grown c.self.inside.bytes c.put_pointer.new.bytes c.put_u16.new.bytes c.self.inside.count c.self.invariant
-    (subst (λ (n : ℕ). n < 291) counted c.requires.few) (subst (λ (n : ℕ). 28 + 4 * n ≤ upper_in c.self.inside.bytes) counted (subst (λ (b : List ℕ). 28 + 4 * c.args.self.now.count ≤ upper_in b) seen c.requires.room))
+    (subst (λ (n : ℕ). n < 291) counted c.requires.few) (omega arith)
     c.put_pointer.ensures c.put_u16.ensures
 
 pub invariant_of-self : goal.invariant_of-self

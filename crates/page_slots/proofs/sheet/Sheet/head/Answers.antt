@@ -1,4 +1,4 @@
-use Rattle.std.proofs.Common.{◌≡◌, sym, ap, ◌∙◌, refl}
+use Rattle.std.proofs.Common.{◌≡◌, sym, ap, ◌∙◌}
 use Rattle.page_slots.specs.Sheet.{SheetView}
 use Rattle.page_slots.specs.declared.pointer.Pointer.TheVariants as pointer
 use Rattle.page_slots.specs.Slots.{head_of}

@@ -1,5 +1,4 @@
-use Rattle.std.proofs.Common.{◌≡◌, ◌≤◌, ◌+◌, ◌*◌, sym, ap, ◌∙◌, subst, ℕ, List, arith, refl}
-use Rattle.tuple_header.specs.Layout.{with_number}
+use Rattle.std.proofs.Common.{◌≡◌, ◌≤◌, ◌+◌, ◌*◌, sym, ap, subst, ℕ, List}
 use Rattle.page_slots.specs.Sheet.{SheetView}
 use Rattle.page_slots.specs.Layout.{upper_in}
 use Rattle.page_slots.proofs.Added.{IsLowered, upper-lowered}

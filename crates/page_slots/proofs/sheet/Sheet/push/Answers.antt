@@ -1,4 +1,4 @@
-use Rattle.std.proofs.Common.{◌≡◌, ◌∙◌, ◌++◌, ◌∷◌, [], List, length, set, sym, ap, arith}
+use Rattle.std.proofs.Common.{◌≡◌, ◌∙◌, ◌++◌, ◌∷◌, [], List, length, set, sym, ap}
 use Rattle.std.proofs.lemmas.List.{set_at}
 use Rattle.tuple_header.specs.Version.{Version}
 use Rattle.page_slots.specs.Sheet.{SheetView}

@@ -1,4 +1,4 @@
-use Rattle.std.proofs.Common.{◌≡◌, ◌≤◌, ◌<◌, ◌+◌, ◌-◌, ◌*◌, None, List, ℕ, length, take, drop, set, sym, ap, ◌∙◌, subst, arith}
+use Rattle.std.proofs.Common.{◌≡◌, ◌≤◌, ◌+◌, ◌-◌, ◌*◌, None, List, ℕ, take, drop, set, sym, ap, ◌∙◌, subst, arith}
 use Rattle.tuple_header.specs.Layout.{decoded_version}
 use Rattle.tuple_header.specs.Faults.{first_fault}
 use Rattle.tuple_header.specs.Version.{Version, size_of, rounded_size_of}

@@ -1,9 +1,7 @@
-use Rattle.std.proofs.Common.{◌≡◌, sym, ap, ◌∙◌, List, ℕ, length, arith}
-use Rattle.page_slots.specs.Sheet.{SheetView}
+use Rattle.std.proofs.Common.{sym, ap, ◌∙◌}
 use Rattle.page_slots.specs.declared.pointer.Pointer.TheVariants as pointer
 use Rattle.page_slots.specs.Slots.{redirects_to}
-use Rattle.page_slots.specs.Layout.{pointer_in}
-use Rattle.page_slots.proofs.Shown.{shown, extent-good, taken-shown}
+use Rattle.page_slots.proofs.Shown.{shown}
 use Rattle.page_slots.proofs.sheet.Sheet.redirects_to.Goals as goal
 
 pub returns-in-Unused : goal.returns-in-Unused

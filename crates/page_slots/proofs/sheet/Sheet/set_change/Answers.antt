@@ -1,5 +1,4 @@
-use Rattle.std.proofs.Common.{◌≡◌, sym, ap, ◌∙◌, arith, inl, inr, rules, length}
-use Rattle.page_slots.specs.Sheet.{SheetView}
+use Rattle.std.proofs.Common.{arith, inr, rules}
 use Rattle.page_slots.proofs.Sounds.{change-noted, fields-apart, field-written}
 use Rattle.page_slots.proofs.sheet.Sheet.set_change.Goals as goal
 

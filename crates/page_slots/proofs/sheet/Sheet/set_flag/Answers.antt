@@ -1,5 +1,4 @@
-use Rattle.std.proofs.Common.{◌≡◌, ◌⊎◌, ◌<◌, ◌^◌, ⊎_elim, if◌then◌else◌, sym, ap, ◌∙◌, arith, inl, inr, rules, length}
-use Rattle.page_slots.specs.Sheet.{SheetView}
+use Rattle.std.proofs.Common.{◌≡◌, ◌⊎◌, ◌<◌, ◌^◌, ⊎_elim, if◌then◌else◌, ◌∙◌, arith, inl, inr}
 use Rattle.page_slots.proofs.Sounds.{flags-noted, fields-apart, field-written}
 use Rattle.page_slots.proofs.sheet.Sheet.set_flag.Goals as goal
 use Rattle.page_slots.proofs.sheet.Sheet.set_flag.Goals.{then-flag, else-flag}

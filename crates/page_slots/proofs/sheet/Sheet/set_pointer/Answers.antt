@@ -1,4 +1,4 @@
-use Rattle.std.proofs.Common.{◌≡◌, ◌<◌, sym, ap, ◌∙◌, subst, List, ℕ}
+use Rattle.std.proofs.Common.{◌≡◌, ◌<◌, sym, ap, subst, ℕ}
 use Rattle.page_slots.specs.Sheet.{SheetView}
 use Rattle.page_slots.specs.Sound.{HoldsNoVersion}
 use Rattle.page_slots.proofs.PointerSet.{IsRepointed, pointer-set, bare-pointed}

@@ -1,15 +1,7 @@
-use Rattle.std.proofs.Common.{◌≡◌, sym, ap, ◌∙◌, refl, Some, None, arith}
-use Rattle.std.specs.Option.{option_map}
-use Rattle.tuple_header.specs.declared.version.Header.{Header}
-use Rattle.tuple_header.specs.declared.version.Row.{Row}
-use Rattle.tuple_header.specs.Version.{Version}
+use Rattle.std.proofs.Common.{◌≡◌, sym, ap, ◌∙◌}
 use Rattle.page_slots.specs.Sheet.{SheetView}
 use Rattle.page_slots.specs.declared.pointer.Pointer.TheVariants as pointer
-use Rattle.page_slots.specs.declared.slot.Slot.{Slot}
-use Rattle.page_slots.specs.declared.slot.SlotHead.{SlotHead}
-use Rattle.page_slots.specs.Slots.{version_of, head_of}
-use Rattle.page_slots.specs.Layout.{slot_in}
-use Rattle.page_slots.proofs.Shown.{shown, part-faultless, part-short}
+use Rattle.page_slots.proofs.Shown.{shown}
 use Rattle.page_slots.proofs.sheet.Sheet.slot.Goals as goal
 
 pub returns-in-Unused : goal.returns-in-Unused

@@ -1,4 +1,4 @@
-use Rattle.std.proofs.Common.{◌≡◌, ◌≤◌, ◌+◌, ◌*◌, sym, ap, ◌∙◌, subst, ℕ, List, arith, length}
+use Rattle.std.proofs.Common.{◌≡◌, ◌≤◌, ◌+◌, ◌*◌, sym, ap, subst, ℕ, List, arith}
 use Rattle.tuple_header.specs.Version.{size_of, rounded_size_of}
 use Rattle.page_slots.specs.Sheet.{SheetView}
 use Rattle.page_slots.specs.Layout.{upper_in}
