@@ -11,12 +11,12 @@ use Rattle.tuple_header.proofs.Headers.{encoded-faultless, encoded-value, length
 use Rattle.page_slots.specs.declared.pointer.Pointer.{Pointer}
 use Rattle.page_slots.specs.declared.pointer.Extent.{Extent}
 use Rattle.page_slots.specs.Layout.{pointer_of, word_of, IsPointed, pointer_in, part_of, slots_in, upper_in, flags_in, change_in}
-use Rattle.page_slots.specs.Sound.{IsSound, IsExtent, IsPointer, AreApart, IsWritten, AreAbove, end_of}
+use Rattle.page_slots.specs.Sound.{IsSound, IsExtent, IsPointer, AreApart, HasPlainWord, IsWritten, AreAbove, end_of}
 use Rattle.page_slots.proofs.Shown.{rounded-up, shown, part-long, taken-shown}
 use Rattle.page_slots.specs.declared.slot.Slot.{Slot}
 use Rattle.page_slots.proofs.SlotLemmas.{same_or_other}
 use Rattle.page_slots.proofs.PointerSet.{word-back, word-small, pointer-read, beside}
-use Rattle.page_slots.proofs.Frames.{Agrees, agrees-with_bytes, agrees-with_number, part-written, number-written, number-outside, pointer-outside, part-outside}
+use Rattle.page_slots.proofs.Frames.{Agrees, agrees-with_bytes, agrees-with_number, part-written, number-written, number-outside, pointer-outside, plain-outside, plain-written, part-outside}
 use Rattle.page_slots.proofs.Sounds.{slots_in-at, length-slots_in, extent-in, part-kept, slot-kept, slots-kept, slots-set, pointer-kept, headed-kept, sound-behind}
 
 pub record IsBelow (a b : List ℕ) (count from : ℕ) (v : Version) : Type 0 where
@@ -103,6 +103,7 @@ upper-lowered a b count upper sound gap down aligned written =
           prune_id = at 20 4 (inr (omega arith)) ∙ headed.prune_id;
         };
         pointers = λ j h. subst (IsPointer b count) (sym (pointers j)) (pointer-lowered a b count (pointer_in a j) (subst (λ (u : ℕ). u ≤ upper_in a) (sym is) down) (sound.pointers j h) (λ e there. kept j e h there));
+        plain = λ j h. plain-outside 14 16 j a b agrees (inr (omega arith)) (sound.plain j h);
         apart = λ i j h k. ⊎_elim inl (λ far. inr (subst (λ (p : Pointer). AreApart p (pointer_in b j)) (sym (pointers i)) (subst (λ (p : Pointer). AreApart (pointer_in a i) p) (sym (pointers j)) far))) (sound.apart i j h k);
       };
       slots = slots-kept count a b (λ j k. slot-kept a b j (pointers j) (λ d there. kept j d k there));
@@ -148,7 +149,8 @@ pointer-placed a b count i e sound within good above written =
     let hi = 24 + 4 * i + 4 in
     let agrees : Agrees lo hi a b = subst (Agrees lo hi a) (sym written) (agrees-with_number lo 4 (word_of p) a (omega arith)) in
     let at : (m n : ℕ) → m + n ≤ 24 → number_at m n b ≡ number_at m n a = λ m n h. number-outside lo hi m n a b agrees (inl (omega arith)) in
-    let here : pointer_in b i ≡ p = pointer-read b i ∙ ap pointer_of (ap (number_at lo 4) written ∙ number-written lo 4 (word_of p) a (omega arith) (word-small p fits)) ∙ word-back p fits in
+    let word : number_at lo 4 b ≡ word_of p = ap (number_at lo 4) written ∙ number-written lo 4 (word_of p) a (omega arith) (word-small p fits) in
+    let here : pointer_in b i ≡ p = pointer-read b i ∙ ap pointer_of word ∙ word-back p fits in
     let pointers : (j : ℕ) → j ≢ i → pointer_in b j ≡ pointer_in a j = λ j other. pointer-outside lo hi j a b agrees (beside i j other) in
     let parts : (j : ℕ) (d : Extent) → j < count → pointer_in a j ≡ Pointer.Normal d → part_of b d ≡ part_of a d = λ j d h is.
     let high : upper_in a ≤ d.from = (extent-in a count j d sound h is).over in
@@ -169,6 +171,10 @@ pointer-placed a b count i e sound within good above written =
             (λ same. subst (IsPointer b count) (sym (ap (pointer_in b) same ∙ here)) new)
             (λ other. subst (IsPointer b count) (sym (pointers j other)) (pointer-kept a b count (pointer_in a j) upper (sound.pointers j h)
             (λ d is. ap first_fault (parts j d h is) ∙ (extent-in a count j d sound h is).faultless)))
+            (same_or_other j i);
+        plain = λ j h. ⊎_elim
+            (λ same. subst (HasPlainWord b) (sym same) (plain-written b i p word here))
+            (λ other. plain-outside lo hi j a b agrees (beside i j other) (sound.plain j h))
             (same_or_other j i);
         apart = λ j k h g. ⊎_elim
             (λ same. ⊎_elim
@@ -269,6 +275,7 @@ upper-lifted a b count sound none written =
           prune_id = at 20 4 (inr (omega arith)) ∙ headed.prune_id;
         };
         pointers = λ j h. subst (IsPointer b count) (sym (pointers j)) (pointer-bare a b count (pointer_in a j) (λ e there. none j e h there) (sound.pointers j h));
+        plain = λ j h. plain-outside 14 16 j a b agrees (inr (omega arith)) (sound.plain j h);
         apart = λ i j h k. ⊎_elim inl (λ far. inr (subst (λ (p : Pointer). AreApart p (pointer_in b j)) (sym (pointers i)) (subst (λ (p : Pointer). AreApart (pointer_in a i) p) (sym (pointers j)) far))) (sound.apart i j h k);
       };
       slots = slots-kept count a b (λ j k. slot-kept a b j (pointers j) (λ d there. absurd (none j d k there)));

@@ -74,6 +74,7 @@ blank z a b c d zeros first second third fourth =
           prune_id = none 20 4 (inr (omega arith));
         };
         pointers = λ i h. absurd (omega arith);
+        plain = λ i h. absurd (omega arith);
         apart = λ i j h k. absurd (omega arith);
       };
       change = none 0 8 (inl (omega arith));

@@ -5,7 +5,9 @@ use Rattle.byteorder.specs.Endian.{little_from, little_number, little_bytes}
 use Rattle.byteorder.specs.Numbers.{little_number-reads_back, length-bytes_low_first}
 use Rattle.tuple_header.specs.Layout.{number_at, with_bytes, with_number}
 use Rattle.page_slots.specs.declared.pointer.Extent.{Extent}
-use Rattle.page_slots.specs.Layout.{pointer_of, pointer_in, part_of}
+use Rattle.page_slots.specs.Layout.{pointer_of, word_of, pointer_in, part_of}
+use Rattle.page_slots.specs.declared.pointer.Pointer.{Pointer}
+use Rattle.page_slots.specs.Sound.{HasPlainWord}
 
 -- the same bytes stand from two places on
 abbrev pub AreSame : ℕ → ℕ → ℕ → List ℕ → List ℕ → Type 0
@@ -116,6 +118,14 @@ number-outside lo hi i n a b agrees where_ = number-same i i n a b (same-outside
 pub pointer-outside : (lo hi i : ℕ) (a b : List ℕ) → Agrees lo hi a b → (24 + 4 * i + 4 ≤ lo) ⊎ (hi ≤ 24 + 4 * i) → pointer_in b i ≡ pointer_in a i
 unfolding pointer_in
 pointer-outside lo hi i a b agrees where_ = ap pointer_of (number-outside lo hi (24 + 4 * i) 4 a b agrees where_)
+
+-- so a plain word stays, and one that is written is plain
+pub plain-outside : (lo hi i : ℕ) (a b : List ℕ) → Agrees lo hi a b → (24 + 4 * i + 4 ≤ lo) ⊎ (hi ≤ 24 + 4 * i) → HasPlainWord a i → HasPlainWord b i
+plain-outside lo hi i a b agrees where_ plain =
+    number-outside lo hi (24 + 4 * i) 4 a b agrees where_ ∙ plain ∙ sym (ap word_of (pointer-outside lo hi i a b agrees where_))
+
+pub plain-written : (b : List ℕ) (i : ℕ) (p : Pointer) → number_at (24 + 4 * i) 4 b ≡ word_of p → pointer_in b i ≡ p → HasPlainWord b i
+plain-written b i p word is = word ∙ sym (ap word_of is)
 
 pub part-outside : (lo hi : ℕ) (e : Extent) (a b : List ℕ) → Agrees lo hi a b → e.from + e.len ≤ length a → (e.from + e.len ≤ lo) ⊎ (hi ≤ e.from) → part_of b e ≡ part_of a e
 part-outside lo hi e a b agrees within where_ =

@@ -7,10 +7,10 @@ use Rattle.page_slots.specs.declared.pointer.Pointer.{Pointer}
 use Rattle.page_slots.specs.declared.pointer.Extent.{Extent}
 use Rattle.page_slots.specs.declared.slot.Slot.{Slot}
 use Rattle.page_slots.specs.Layout.{pointer_of, pointer_in, part_of, slot_in, slots_in, lower_in, upper_in, flags_in, change_in}
-use Rattle.page_slots.specs.Sound.{IsSound, IsPointer, AreApart}
+use Rattle.page_slots.specs.Sound.{IsSound, IsPointer, AreApart, HasPlainWord}
 use Rattle.page_slots.proofs.Shown.{shown, part-long}
 use Rattle.page_slots.proofs.SlotLemmas.{same_or_other}
-use Rattle.page_slots.proofs.Frames.{Agrees, agrees-with_number, number-written, number-outside, pointer-outside, part-outside}
+use Rattle.page_slots.proofs.Frames.{Agrees, agrees-with_number, number-written, number-outside, pointer-outside, plain-outside, plain-written, part-outside}
 use Rattle.page_slots.proofs.PointerSet.{pointer-read, word-small}
 use Rattle.page_slots.proofs.Sounds.{extent-in, part-kept, slot-kept, slots-kept}
 
@@ -86,6 +86,11 @@ grown a m b count sound few room first second =
             (λ same. subst (IsPointer b (count + 1)) (sym (ap (pointer_in b) same ∙ last)) tt)
             (λ other. let below = below_or_last j count h other in
             subst (IsPointer b (count + 1)) (sym (pointers j below)) (pointer-grown a b count (pointer_in a j) upper (sound.pointers j below) (λ e is. parts j e below is)))
+            (same_or_other j count);
+        plain = λ j h. ⊎_elim
+            (λ same. subst (HasPlainWord b) (sym same) (plain-written b count Pointer.Unused (number-outside 12 14 lo 4 m b agrees_2 (inr (omega arith)) ∙ zero_read) last))
+            (λ other. let below = below_or_last j count h other in
+            plain-outside 12 14 j m b agrees_2 (inr (omega arith)) (plain-outside lo hi j a m agrees_1 (inl (omega arith)) (sound.plain j below)))
             (same_or_other j count);
         apart = λ j k h g. ⊎_elim
             (λ same. inr (subst (λ (q : Pointer). AreApart q (pointer_in b k)) (sym (ap (pointer_in b) same ∙ last)) tt))

@@ -10,11 +10,11 @@ use Rattle.page_slots.specs.declared.pointer.Extent.{Extent}
 use Rattle.page_slots.specs.declared.slot.Slot.{Slot}
 use Rattle.page_slots.specs.Slots.{bytes_taken}
 use Rattle.page_slots.specs.Layout.{pointer_of, word_of, IsPointed, pointer_in, part_of, slot_in, slots_in, change_in, flags_in, upper_in}
-use Rattle.page_slots.specs.Sound.{IsSound, IsExtent, IsPointer, AreApart}
+use Rattle.page_slots.specs.Sound.{IsSound, IsExtent, IsPointer, AreApart, HasPlainWord}
 use Rattle.page_slots.specs.Packing.{LiesOver, LieInOrder, IsPacked, IsMoved}
 use Rattle.page_slots.proofs.Shown.{rounded-up, shown, taken-shown}
 use Rattle.page_slots.proofs.SlotLemmas.{same_or_other}
-use Rattle.page_slots.proofs.Frames.{Agrees, agrees-with_bytes, agrees-with_number, part-written, number-written, number-outside, pointer-outside, part-outside}
+use Rattle.page_slots.proofs.Frames.{Agrees, agrees-with_bytes, agrees-with_number, part-written, number-written, number-outside, pointer-outside, plain-outside, plain-written, part-outside}
 use Rattle.page_slots.proofs.PointerSet.{word-back, word-small, pointer-read, beside}
 use Rattle.page_slots.proofs.Sounds.{extent-in, slot-kept, slots-kept, slots_in-at, length-slots_in}
 use Rattle.page_slots.proofs.Added.{below-aligned, above-apart, apart-above}
@@ -32,13 +32,17 @@ version-moved old new m b i top e whole size low high first second =
     let hi = 24 + 4 * i + 4 in
     let agrees_2 : Agrees lo hi m b = subst (Agrees lo hi m) (sym second) (agrees-with_number lo 4 (word_of p) m (omega arith)) in
     let fits : IsPointed p = (omega arith, omega arith) in
+    let word : number_at lo 4 b ≡ word_of p = ap (number_at lo 4) second ∙ number-written lo 4 (word_of p) m (omega arith) (word-small p fits) in
+    let here : pointer_in b i ≡ p = pointer-read b i ∙ ap pointer_of word ∙ word-back p fits in
     let written : part_of m to ≡ part_of old e = ap (λ (bytes : List ℕ). take e.len (drop top bytes)) first
     ∙ ap (λ (n : ℕ). take n (drop top (with_bytes top (part_of old e) new))) (sym size) ∙ part-written top (part_of old e) new (omega arith) in
     record {
       long = agrees_2.long ∙ agrees_1.long ∙ whole;
       header = λ a n h. number-outside lo hi a n m b agrees_2 (inl (omega arith)) ∙ number-outside top (top + e.len) a n new m agrees_1 (inl (omega arith));
       others = λ j other h. pointer-outside lo hi j m b agrees_2 (beside i j other) ∙ pointer-outside top (top + e.len) j new m agrees_1 (inl (omega arith));
-      here = pointer-read b i ∙ ap pointer_of (ap (number_at lo 4) second ∙ number-written lo 4 (word_of p) m (omega arith) (word-small p fits)) ∙ word-back p fits;
+      here = here;
+      plain = plain-written b i p word here;
+      plain_others = λ j other h was. plain-outside lo hi j m b agrees_2 (beside i j other) (plain-outside top (top + e.len) j new m agrees_1 (inl (omega arith)) was);
       part = part-outside lo hi to m b agrees_2 (omega arith) (inr (omega arith)) ∙ written;
       above = λ d h k. part-outside lo hi d m b agrees_2 (omega arith) (inr (omega arith)) ∙ part-outside top (top + e.len) d new m agrees_1 (omega arith) (inr (omega arith));
     }
@@ -74,6 +78,10 @@ packed-normal old new b count i upper top e sound within is packed room low tota
       even = below-aligned upper top e.len even room;
       header = λ m n h. moved.header m n h ∙ packed.header m n h;
       later = λ j h k. moved.others j (λ same. absurd (omega arith)) (omega arith) ∙ packed.later j (omega arith) k;
+      plain = λ j h. ⊎_elim
+          (λ same. subst (HasPlainWord b) (sym same) moved.plain)
+          (λ other. moved.plain_others j other (omega arith) (packed.plain j h))
+          (same_or_other j i);
       slots = λ j h. ⊎_elim
           (λ same. ap (slot_in b) same ∙ shown b i (Pointer.Normal to) (sym moved.here) ∙ ap (λ (x : List ℕ). Slot.Normal (decoded_version x)) moved.part
           ∙ sym (shown old i (Pointer.Normal e) (sym is)) ∙ ap (slot_in old) (sym same))
@@ -164,6 +172,7 @@ packed-none old new count i upper p within is none packed =
       even = packed.even;
       header = packed.header;
       later = λ j h k. packed.later j (omega arith) k;
+      plain = packed.plain;
       slots = λ j h. ⊎_elim
           (λ same. ap (slot_in new) same ∙ slot-kept old new i same_pointer (λ e there. absurd (none e (is ∙ there))) ∙ ap (slot_in old) (sym same))
           (λ other. packed.slots j (below_or_last j i h other)) (same_or_other j i);
@@ -190,6 +199,7 @@ packed-start old count sound = record {
   even = refl;
   header = λ i n h. refl;
   later = λ j h k. refl;
+  plain = sound.plain;
   slots = λ j h. absurd (omega arith);
   bare = λ j h none. absurd (omega arith);
   over = λ j e h there. absurd (omega arith);
@@ -272,6 +282,7 @@ compacted old new b count top sound packed room written =
           prune_id = at 20 4 (omega arith) (inr (omega arith)) ∙ headed.prune_id;
         };
         pointers = λ j h. good j h (pointer_in old j) refl (pointers j) (extents j);
+        plain = λ j h. plain-outside 14 16 j new b agrees (inr (omega arith)) (packed.plain j h);
         apart = λ i j h k. ⊎_elim inl (λ far. inr (subst (λ (p : Pointer). AreApart p (pointer_in b j)) (sym (pointers i)) (subst (λ (p : Pointer). AreApart (pointer_in new i) p) (sym (pointers j)) far))) (packed.apart i j h k);
       };
       slots = slots-kept count old b (λ j h. slot-kept new b j (pointers j) (λ d there. parts j d h there) ∙ packed.slots j h);

@@ -7,10 +7,10 @@ use Rattle.page_slots.specs.declared.pointer.Pointer.{Pointer}
 use Rattle.page_slots.specs.declared.pointer.Extent.{Extent}
 use Rattle.page_slots.specs.Layout.{pointer_of, word_of, IsPointed, pointer_in, part_of, shown_by, slots_in, lower_in, upper_in, flags_in, change_in}
 use Rattle.page_slots.specs.Slots.{is_unused, bytes_taken}
-use Rattle.page_slots.specs.Sound.{IsSound, IsPointer, AreApart, HoldsNoVersion}
+use Rattle.page_slots.specs.Sound.{IsSound, IsPointer, AreApart, HasPlainWord, HoldsNoVersion}
 use Rattle.page_slots.proofs.Shown.{shown}
 use Rattle.page_slots.proofs.SlotLemmas.{same_or_other}
-use Rattle.page_slots.proofs.Frames.{Agrees, agrees-with_number, number-written, number-outside, pointer-outside}
+use Rattle.page_slots.proofs.Frames.{Agrees, agrees-with_number, number-written, number-outside, pointer-outside, plain-outside, plain-written}
 use Rattle.page_slots.proofs.Sounds.{extent-in, part-kept, slot-kept, slots-set, pointer-kept, headed-kept}
 
 -- A pointer is read from its word.
@@ -114,7 +114,8 @@ pointer-set a b count i p sound within bare written =
     let hi = 24 + 4 * i + 4 in
     let agrees : Agrees lo hi a b = subst (Agrees lo hi a) (sym written) (agrees-with_number lo 4 (word_of p) a (omega arith)) in
     let at : (m n : ℕ) → m + n ≤ 24 → number_at m n b ≡ number_at m n a = λ m n h. number-outside lo hi m n a b agrees (inl (omega arith)) in
-    let here : pointer_in b i ≡ p = read a b i p fits written (omega arith) in
+    let word : number_at lo 4 b ≡ word_of p = ap (number_at lo 4) written ∙ number-written lo 4 (word_of p) a (omega arith) (word-small p fits) in
+    let here : pointer_in b i ≡ p = pointer-read b i ∙ ap pointer_of word ∙ word-back p fits in
     let pointers : (j : ℕ) → j ≢ i → pointer_in b j ≡ pointer_in a j = λ j other. pointer-outside lo hi j a b agrees (beside i j other) in
     let parts : (j : ℕ) (e : Extent) → j < count → pointer_in a j ≡ Pointer.Normal e → part_of b e ≡ part_of a e = λ j e h is.
     let over : upper_in a ≤ e.from = (extent-in a count j e sound h is).over in
@@ -135,6 +136,10 @@ pointer-set a b count i p sound within bare written =
             (λ other. subst (IsPointer b count) (sym (pointers j other)) (pointer-kept a b count (pointer_in a j) upper (sound.pointers j h)
             (λ e is. ap first_fault (parts j e h is) ∙ (extent-in a count j e sound h is).faultless)))
             (same_or_other j i);
+        plain = λ j h. ⊎_elim
+            (λ same. subst (HasPlainWord b) (sym same) (plain-written b i p word here))
+            (λ other. plain-outside lo hi j a b agrees (beside i j other) (sound.plain j h))
+            (same_or_other j i);
         apart = λ j k h g. ⊎_elim
             (λ same. inr (subst (λ (q : Pointer). AreApart q (pointer_in b k)) (sym (ap (pointer_in b) same ∙ here)) (bare-apart count p (pointer_in b k) bare)))
             (λ other. ⊎_elim
@@ -150,10 +155,6 @@ pointer-set a b count i p sound within bare written =
       flags = at 10 2 (omega arith);
       upper = upper;
     }
-  where
-    read : (a b : List ℕ) (i : ℕ) (p : Pointer) → IsPointed p → b ≡ with_number (24 + 4 * i) 4 (word_of p) a → 24 + 4 * i + 4 ≤ length a → pointer_in b i ≡ p
-    read a b i p fits written room =
-        pointer-read b i ∙ ap pointer_of (ap (number_at (24 + 4 * i) 4) written ∙ number-written (24 + 4 * i) 4 (word_of p) a room (word-small p fits)) ∙ word-back p fits
 
 pub bare-takes_none : (count : ℕ) (p : Pointer) → HoldsNoVersion count p → bytes_taken (shown_by [] p) ≡ 0
 bare-takes_none count Pointer.Unused bare = refl

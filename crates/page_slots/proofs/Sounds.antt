@@ -9,9 +9,9 @@ use Rattle.page_slots.specs.declared.pointer.Pointer.{Pointer}
 use Rattle.page_slots.specs.declared.pointer.Extent.{Extent}
 use Rattle.page_slots.specs.declared.slot.Slot.{Slot}
 use Rattle.page_slots.specs.Layout.{pointer_in, part_of, slot_in, slots_in, lower_in, upper_in, flags_in}
-use Rattle.page_slots.specs.Sound.{IsSound, IsExtent, IsPointer, IsHeaded, AreApart}
+use Rattle.page_slots.specs.Sound.{IsSound, IsExtent, IsPointer, IsHeaded, AreApart, HasPlainWord}
 use Rattle.page_slots.proofs.Shown.{rounded-up, shown}
-use Rattle.page_slots.proofs.Frames.{Agrees, agrees-with_number, number-written, number-outside, pointer-outside, part-outside}
+use Rattle.page_slots.proofs.Frames.{Agrees, agrees-with_number, number-written, number-outside, pointer-outside, plain-outside, part-outside}
 use Rattle.page_slots.proofs.SlotLemmas.{same_or_other}
 
 -- Lists of slots.
@@ -53,9 +53,9 @@ pointer-kept a b count (Pointer.Redirect target) upper good parts = good
 pointer-kept a b count Pointer.Dead upper good parts = tt
 
 pub sound-from : (a b : List ℕ) (count : ℕ) → IsSound a count → length b ≡ 8192 → lower_in b ≡ lower_in a → upper_in b ≡ upper_in a → IsHeaded b
-    → ((j : ℕ) → j < count → pointer_in b j ≡ pointer_in a j)
+    → ((j : ℕ) → j < count → pointer_in b j ≡ pointer_in a j) → ((j : ℕ) → j < count → HasPlainWord b j)
     → ((j : ℕ) (e : Extent) → j < count → pointer_in a j ≡ Pointer.Normal e → first_fault (part_of b e) ≡ None) → IsSound b count
-sound-from a b count sound long lower upper headed pointers parts = record {
+sound-from a b count sound long lower upper headed pointers plain parts = record {
   long = long;
   few = sound.few;
   lower = lower ∙ sound.lower;
@@ -64,6 +64,7 @@ sound-from a b count sound long lower upper headed pointers parts = record {
   aligned = ap (λ (u : ℕ). u % 8) upper ∙ sound.aligned;
   headed = headed;
   pointers = λ j h. subst (IsPointer b count) (sym (pointers j h)) (pointer-kept a b count (pointer_in a j) upper (sound.pointers j h) (λ e is. parts j e h is));
+  plain = plain;
   apart = λ i j h k. ⊎_elim inl (λ far. inr (subst (λ (p : Pointer). AreApart p (pointer_in b j)) (sym (pointers i h)) (subst (λ (p : Pointer). AreApart (pointer_in a i) p) (sym (pointers j k)) far))) (sound.apart i j h k);
 }
 
@@ -112,7 +113,7 @@ sound-behind a b count lo hi sound agrees behind parts =
     let at : (i n : ℕ) → i + n ≤ 24 → number_at i n b ≡ number_at i n a = λ i n h. number-outside lo hi i n a b agrees (inl (omega arith)) in
     sound-from a b count sound (agrees.long ∙ sound.long) (at 12 2 (omega arith)) (at 14 2 (omega arith))
     (headed-kept a b lo hi sound.headed agrees (at 10 2 (omega arith)) (inl (omega arith)))
-    (λ j h. pointer-outside lo hi j a b agrees (inl (omega arith))) parts
+    (λ j h. pointer-outside lo hi j a b agrees (inl (omega arith))) (λ j h. plain-outside lo hi j a b agrees (inl (omega arith)) (sound.plain j h)) parts
 
 -- A write of the change number or of the flags.
 
@@ -120,7 +121,7 @@ pub sound-field : (a b : List ℕ) (count lo hi : ℕ) → IsSound a count → A
 sound-field a b count lo hi sound agrees before headed =
     let at : (i n : ℕ) → hi ≤ i → number_at i n b ≡ number_at i n a = λ i n h. number-outside lo hi i n a b agrees (inr h) in
     sound-from a b count sound (agrees.long ∙ sound.long) (at 12 2 (omega arith)) (at 14 2 (omega arith)) headed
-    (λ j h. pointer-outside lo hi j a b agrees (inr (omega arith)))
+    (λ j h. pointer-outside lo hi j a b agrees (inr (omega arith))) (λ j h. plain-outside lo hi j a b agrees (inr (omega arith)) (sound.plain j h))
     (λ j e h is. let good = extent-in a count j e sound h is in
     let over : upper_in a ≤ e.from = good.over in
     let gap : 24 + 4 * count ≤ upper_in a = sound.gap in

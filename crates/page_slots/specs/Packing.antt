@@ -9,7 +9,7 @@ use Rattle.page_slots.specs.declared.slot.Slot.{Slot}
 use Rattle.page_slots.specs.declared.sheet.TheConstants.{PAGE_BYTES, PAGE_HEADER_BYTES}
 use Rattle.page_slots.specs.Slots.{bytes_taken}
 use Rattle.page_slots.specs.Layout.{pointer_in, part_of, slot_in, slots_in}
-use Rattle.page_slots.specs.Sound.{AreApart, end_of}
+use Rattle.page_slots.specs.Sound.{AreApart, HasPlainWord, end_of}
 
 -- a version over this place, and its bytes have no fault
 pub record LiesOver (bytes : List ℕ) (upper : ℕ) (e : Extent) : Type 0 where
@@ -32,6 +32,7 @@ pub record IsPacked (old new : List ℕ) (count : Count) (index upper : ℕ) : T
   pub even : upper % 8 ≡ 0
   pub header : (i n : ℕ) → i + n ≤ PAGE_HEADER_BYTES → number_at i n new ≡ number_at i n old
   pub later : (j : ℕ) → index ≤ j → j < count → pointer_in new j ≡ pointer_in old j
+  pub plain : (j : ℕ) → j < count → HasPlainWord new j
   pub slots : (j : ℕ) → j < index → slot_in new j ≡ slot_in old j
   pub bare : (j : ℕ) → j < index → ((e : Extent) → pointer_in old j ≡ Pointer.Normal e → ⊥) → pointer_in new j ≡ pointer_in old j
   pub over : (j : ℕ) (e : Extent) → j < index → pointer_in new j ≡ Pointer.Normal e → LiesOver new upper e
@@ -45,5 +46,7 @@ pub record IsMoved (new b : List ℕ) (i top : ℕ) (e : Extent) (old : List ℕ
   pub header : (m n : ℕ) → m + n ≤ PAGE_HEADER_BYTES → number_at m n b ≡ number_at m n new
   pub others : (j : ℕ) → j ≢ i → PAGE_HEADER_BYTES + 4 * (j + 1) ≤ top → pointer_in b j ≡ pointer_in new j
   pub here : pointer_in b i ≡ Pointer.Normal (record { from = top; len = e.len })
+  pub plain : HasPlainWord b i
+  pub plain_others : (j : ℕ) → j ≢ i → PAGE_HEADER_BYTES + 4 * (j + 1) ≤ top → HasPlainWord new j → HasPlainWord b j
   pub part : part_of b (record { from = top; len = e.len }) ≡ part_of old e
   pub above : (d : Extent) → top + e.len ≤ d.from → d.from + d.len ≤ PAGE_BYTES → part_of b d ≡ part_of new d

@@ -10,7 +10,7 @@ use Rattle.page_slots.specs.Slots.{version_of}
 use Rattle.page_slots.specs.declared.pointer.Pointer.{Pointer}
 use Rattle.page_slots.specs.declared.pointer.Extent.{Extent}
 use Rattle.page_slots.specs.declared.sheet.TheConstants.{PAGE_BYTES, PAGE_HEADER_BYTES}
-use Rattle.page_slots.specs.Layout.{pointer_in, slot_in, part_of, change_in, flags_in, lower_in, upper_in}
+use Rattle.page_slots.specs.Layout.{pointer_in, word_of, slot_in, part_of, change_in, flags_in, lower_in, upper_in}
 
 -- the bytes that a version takes, rounded up
 abbrev pub end_of : Extent → ℕ
@@ -43,6 +43,10 @@ abbrev pub AreApart : Pointer → Pointer → Type 0
 AreApart (Pointer.Normal d) (Pointer.Normal e) = (end_of d ≤ e.from) ⊎ (end_of e ≤ d.from)
 AreApart p q = ⊤
 
+-- a pointer's word says no more than its slot: all other bits are 0
+abbrev pub HasPlainWord : List ℕ → ℕ → Type 0
+HasPlainWord bytes i = number_at (PAGE_HEADER_BYTES + 4 * i) 4 bytes ≡ word_of (pointer_in bytes i)
+
 -- what of a page's header never changes but for one flag: that all versions are visible to all
 pub record IsHeaded (bytes : List ℕ) : Type 0 where
   pub checksum : number_at 8 2 bytes ≡ 0
@@ -70,6 +74,7 @@ pub record IsSound (bytes : List ℕ) (count : Count) : Type 0 where
   pub aligned : upper_in bytes % 8 ≡ 0
   pub headed : IsHeaded bytes
   pub pointers : (i : ℕ) → i < count → IsPointer bytes count (pointer_in bytes i)
+  pub plain : (i : ℕ) → i < count → HasPlainWord bytes i
   pub apart : (i j : ℕ) → i < count → j < count → (i ≡ j) ⊎ AreApart (pointer_in bytes i) (pointer_in bytes j)
 
 -- the bytes of a version were written from a place on, and nothing else
