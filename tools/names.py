@@ -15,7 +15,7 @@ DEFINITION = re.compile(r"(?:pub |abbrev |record |data )*(?:abbrev|record|data|p
 TYPE = re.compile(r"pub (?:struct|enum|trait|type) (\w+)")
 CLAUSE = re.compile(r"\s*(?:(?:requires|ensures\*?)\b|(?:pub )?ghost (?!use\b)\w+ ?[=:])")
 PROMISE = re.compile(r"\s*(?:requires|ensures\*?|ghost (?:invariant|view))\b")
-LIMIT = re.compile(r"(pub )?(?:pub\(crate\) )?const (MOST_\w+|HALF|GROUP): \w+ = (\d+);")
+LIMIT = re.compile(r"(pub )?(?:pub\(crate\) )?const (MOST_\w+|PAGE_BYTES|HALF|GROUP): \w+ = (\d+);")
 FUNCTION = re.compile(r"\s*(?:pub(?:\(crate\))? )?(?:const )?fn (\w+)")
 PARTICIPLE = re.compile(r"[a-z]+ed|begun|done|found|given|held|kept|known|left|made|seen|shown|sought|taken|told|written")
 # pairs of which one is a Bool or a lemma and the other the proposition; a dead slot and a dead version are PostgreSQL's words

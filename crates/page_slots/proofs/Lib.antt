@@ -1,4 +1,16 @@
-pub mod BodyLemmas
+pub mod Added
+pub mod Found
+pub mod Frames
 pub mod FreeLemmas
+pub mod Grown
+pub mod HeaderSet
 pub mod Kept
+pub mod PointerSet
+pub mod Shown
 pub mod SlotLemmas
+pub mod Sounds
+pub mod PackLemmas
+pub mod Blank
+pub mod Ids
+pub mod Dead
+pub mod StandingLemmas

@@ -10,7 +10,7 @@ use Rattle.page_slots.specs.Hints.{same_but_hints}
 use Rattle.tuple_header.specs.Version.{Version, rounded_size_of}
 use Rattle.tuple_header.specs.declared.version.Header.{Header}
 use Rattle.tuple_header.specs.declared.version.Row.{Row}
-use Rattle.page_slots.specs.declared.packing.TheConstants.{MOST_BYTES}
+use Rattle.page_slots.specs.declared.sheet.TheConstants.{MOST_BYTES}
 use Rattle.tuple_header.specs.declared.version.TheConstants.{MOST_SLOTS}
 
 -- Kinds of slots.

@@ -1,18 +1,20 @@
 //! Pages.
 
-ghost use Rattle.std.specs.Prelude.{◌≡◌, ◌⊎◌, ◌≤◌, ◌<◌, ◌+◌, ◌*◌, ℕ, sum_by, [], true, false, length, OnOk, OnErr, IfOk, IfSome, IsSome, IsTrue, ◌↔◌, Some, None, MatchOption};
-ghost use Rattle.tuple_header.specs.Version.{rounded_size_of};
+ghost use Rattle.std.specs.Prelude.{◌≡◌, ◌⊎◌, ◌≤◌, ◌<◌, ◌+◌, ◌*◌, ℕ, sum_by, [], true, false, length, IfSome, IsSome, IsTrue, ◌↔◌, Some, None, MatchOption, Err, OnOk, OnErr, IfOk};
 ghost use Rattle.tuple_header.specs.Faults.{header_fault};
-ghost use Rattle.page_slots.specs.Store.{stored_slot, holds_no_version};
+ghost use Rattle.tuple_header.specs.Version.{rounded_size_of};
+ghost use Rattle.page_slots.specs.declared.sheet.TheConstants.{MOST_BYTES};
+ghost use Rattle.page_slots.specs.Layout.{shown_by};
+ghost use Rattle.page_slots.specs.Reading.{page_of};
+ghost use Rattle.page_slots.specs.Standing.{length_at, LiesWithin};
+ghost use Rattle.page_slots.specs.Sound.{HoldsNoVersion};
 ghost use Rattle.page_slots.specs.View.{HasSlot};
-ghost use Rattle.page_slots.specs.declared.packing.TheConstants.{MOST_BYTES};
-ghost use Rattle.page_slots.specs.Slots.{is_unused, is_dead, redirects_to, is_undeleted_by, head_of, slot_at, header_at, row_at, key_at, redirect_at, SlotIsThere, IsNormalAt, the_slot, with_slot, with_header_at, has_unused, free_number, with_added, bytes_taken, free_bytes, room_of, next_change, change_unless, differs_in_hints_alone};
+ghost use Rattle.page_slots.specs.Slots.{is_unused, is_dead, is_undeleted_by, redirects_to, head_of, slot_at, header_at, row_at, key_at, redirect_at, SlotIsThere, IsNormalAt, the_slot, with_slot, with_header_at, has_unused, free_number, with_added, bytes_taken, free_bytes, room_of, next_change, change_unless, differs_in_hints_alone};
 
 use crate::hints::differ_in_hints_alone;
-use crate::item::Item;
-use crate::packing::MOST_BYTES;
+use crate::pointer::Pointer;
+use crate::sheet::{MOST_BYTES, Sheet};
 use crate::slot::{Slot, SlotHead};
-use crate::store::Store;
 use std::alloc::{AllocError, Global};
 use std::marker::Model;
 use thiserror::Error;
@@ -25,7 +27,7 @@ pub enum AddFault {
     /// The version's size is over the page's room.
     #[error("there is no room on the page")]
     Full,
-    /// A new slot was needed, and memory for it was refused.
+    /// A new slot was needed, and memory for it was refused. No page answers it, since none takes memory.
     #[error("there is no memory")]
     NoMemory,
 }
@@ -33,54 +35,50 @@ pub enum AddFault {
 /// A page of the table: at most 291 slots, whose pointers and versions take at most 8168 bytes.
 #[derive(Debug, Drop)]
 pub struct Page {
-    slots: Store,
+    sheet: Sheet,
     // The index of the first unused slot, or how many slots there are.
     free: usize,
-    // How many bytes the versions take.
+    // How many bytes the versions take, each rounded up.
     taken_bytes: usize,
-    change: u64,
-    flag: bool,
 }
 
 impl Model for Page {
-    ghost use Rattle.std.specs.Prelude.{◌+◌, ◌*◌, ◌≤◌, length, sum_by};
-    ghost use Rattle.page_slots.specs.View.{PageView};
-    ghost use Rattle.page_slots.specs.declared.packing.TheConstants.{MOST_BYTES};
-    ghost use Rattle.tuple_header.specs.declared.version.TheConstants.{MOST_SLOTS};
+    ghost use Rattle.std.specs.Prelude.{◌==◌, not};
+    ghost use Rattle.page_slots.specs.View.{PageView, AreTallied, all_spare};
+    ghost use Rattle.page_slots.specs.Layout.{change_in, flags_in, slots_in};
 
     ghost Value = { PageView };
 
-    ghost use Rattle.std.specs.Prelude.{◌≡◌};
-    ghost use Rattle.std.specs.List.{position_or_len};
-    ghost use Rattle.page_slots.specs.Slots.{is_unused, bytes_taken};
-
     ghost view = { λ p. record {
-      slots = p.slots.slots;
-      change = p.change;
-      flag = p.flag;
-      spare = p.slots.spare;
+      slots = slots_in p.sheet.count p.sheet.bytes;
+      change = change_in p.sheet.bytes;
+      flag = not (flags_in p.sheet.bytes == 0);
+      spare = all_spare;
     } };
 
     ghost invariant = { λ p.
-        (length p.slots.slots ≤ MOST_SLOTS)
-        × (4 * length p.slots.slots + sum_by bytes_taken p.slots.slots ≤ MOST_BYTES)
-        × (p.free ≡ position_or_len is_unused p.slots.slots)
-        × (p.taken_bytes ≡ sum_by bytes_taken p.slots.slots) };
+        AreTallied (slots_in p.sheet.count p.sheet.bytes) p.free p.taken_bytes };
+}
+
+/// The index in the list of slots that this number stands for, unless it is 0.
+#[inline(always)]
+fn index_of(number: u16) -> Option<usize>
+    ensures { MatchOption result (number ≡ 0) (λ index. number ≡ index + 1) }
+{
+    usize::from(number).checked_sub(1)
 }
 
 impl Page {
     /// A page with no slot, never changed, on which not all is visible to all.
-    pub fn new(alloc: Global) -> Self
+    pub fn new(_alloc: Global) -> Self
         ensures slots { result.slots ≡ [] }
         ensures change { result.change ≡ 0 }
         ensures flag { result.flag ≡ false }
     {
         Page {
-            slots: Store::new(alloc),
+            sheet: Sheet::new(),
             free: 0,
             taken_bytes: 0,
-            change: 0,
-            flag: false,
         }
     }
 
@@ -89,28 +87,35 @@ impl Page {
         ensures count { result ≡ length self.now.slots }
         ensures limit { result ≤ MOST_SLOTS }
     {
-        self.slots.len() as u16
+        self.sheet.len() as u16
     }
 
     /// How often a slot was changed otherwise than in hints, modulo 2^64.
     pub fn change(&self) -> u64
         ensures { result ≡ self.now.change }
     {
-        self.change
+        self.sheet.change()
     }
 
     /// Whether all versions are visible to all, as last set.
     pub fn flag(&self) -> bool
         ensures { result ≡ self.now.flag }
     {
-        self.flag
+        self.sheet.flags() != 0
     }
 
     /// Sets whether all versions are visible to all. The change number stays.
     pub fn set_flag(&mut self, flag: bool)
         ensures { self.new ≡ record self.old { flag = flag } }
     {
-        self.flag = flag;
+        self.sheet.set_flag(flag);
+    }
+
+    /// The bytes of the page, where they stand.
+    pub fn bytes(&self) -> &[u8]
+        ensures { page_of result.now ≡ self.now }
+    {
+        self.sheet.bytes()
     }
 
     /// The slot of this number, by value, if there is one. It takes no memory.
@@ -118,7 +123,12 @@ impl Page {
         ensures value { result ≡ slot_at self.now.slots number }
         ensures there { IsSome result ↔ SlotIsThere self.now.slots number }
     {
-        self.slots.slot(index_of(number)?)
+        let index = index_of(number)?;
+        if index < self.sheet.len() {
+            Some(self.sheet.slot(index))
+        } else {
+            None
+        }
     }
 
     /// The header of the version in the slot of this number, if that is there and normal.
@@ -128,7 +138,12 @@ impl Page {
         ensures normal { IsSome result ↔ IsNormalAt self.now.slots number }
         ensures faultless { IfSome result (λ header. header_fault header ≡ None) }
     {
-        self.slots.header(index_of(number)?)
+        let index = index_of(number)?;
+        if index < self.sheet.len() {
+            self.sheet.header(index)
+        } else {
+            None
+        }
     }
 
     /// What the slot of this number, which is there, tells without its row, by one look.
@@ -137,7 +152,7 @@ impl Page {
         requires { SlotIsThere self.now.slots number }
         ensures { result ≡ head_of (the_slot self.now.slots number) }
     {
-        self.slots.head(usize::from(number) - 1)
+        self.sheet.head(usize::from(number) - 1)
     }
 
     /// The key of the version in the slot of this number, if that is there and normal.
@@ -146,7 +161,12 @@ impl Page {
         ensures there { IsSome result → SlotIsThere self.now.slots number }
         ensures normal { IsSome result ↔ IsNormalAt self.now.slots number }
     {
-        self.slots.key(index_of(number)?)
+        let index = index_of(number)?;
+        if index < self.sheet.len() {
+            self.sheet.key(index)
+        } else {
+            None
+        }
     }
 
     /// The row of the version in the slot of this number, where it stands, if that is there and normal.
@@ -155,7 +175,29 @@ impl Page {
         ensures there { IsSome result → SlotIsThere self.now.slots number }
         ensures normal { IsSome result ↔ IsNormalAt self.now.slots number }
     {
-        self.slots.row(index_of(number)?)
+        let index = index_of(number)?;
+        if index < self.sheet.len() {
+            self.sheet.row(index)
+        } else {
+            None
+        }
+    }
+
+    /// Where the bytes of the version in the slot of this number begin, and how many they are, if it is there and normal.
+    pub fn place(&self, number: u16) -> Option<(u16, u16)>
+        ensures normal { IsSome result ↔ IsNormalAt self.now.slots number }
+        ensures size { IfSome result (λ place. length_at self.now.slots number ≡ Some place.1) }
+        ensures within { IfSome result (λ place. LiesWithin place.0 place.1) }
+    {
+        let index = index_of(number)?;
+        if index < self.sheet.len() {
+            match self.sheet.extent(index) {
+                Some(extent) => Some((extent.from, extent.len)),
+                None => None,
+            }
+        } else {
+            None
+        }
     }
 
     /// Where the slot of this number leads, if that is there and a redirect.
@@ -163,7 +205,12 @@ impl Page {
         ensures value { result ≡ redirect_at self.now.slots number }
         ensures there { IsSome result → SlotIsThere self.now.slots number }
     {
-        self.slots.redirect(index_of(number)?)
+        let index = index_of(number)?;
+        if index < self.sheet.len() {
+            self.sheet.redirect(index)
+        } else {
+            None
+        }
     }
 
     /// Whether the slot of this number is there and dead.
@@ -171,13 +218,14 @@ impl Page {
         ensures { IsTrue result ↔ (slot_at self.now.slots number ≡ Some Slot.Dead) }
     {
         match index_of(number) {
-            Some(index) => index < self.slots.len() && self.slots.is_dead(index),
+            Some(index) => index < self.sheet.len() && self.sheet.is_dead(index),
             None => false,
         }
     }
 
     /// The number of the first slot, from the number `from` on, that holds anything but a version of this inserter which nobody
     /// deleted; or one more than the last slot's, where there is none. From 0 on is from 1 on.
+    #[tactic(auto, using(crate::proofs::Sounds::length_is))]
     pub fn next_unlike(&self, from: u16, inserter: Xid) -> u16
         ensures passed { (n : ℕ) → from ≤ n → 1 ≤ n → n < result
             → is_undeleted_by inserter.0 (the_slot self.now.slots n) ≡ true }
@@ -185,7 +233,7 @@ impl Page {
             × (is_undeleted_by inserter.0 (the_slot self.now.slots result) ≡ false) }
         ensures there { (1 ≤ result) × (result ≤ length self.now.slots + 1) }
     {
-        self.slots
+        self.sheet
             .next_unlike(usize::from(from).saturating_sub(1), inserter) as u16
             + 1
     }
@@ -193,6 +241,7 @@ impl Page {
     /// The number of the last slot, up to the number `upto`, which is not over the last slot's, that holds anything but a version
     /// of this inserter which nobody deleted; or 0, where there is none.
     #[inline(always)]
+    #[tactic(auto, using(crate::proofs::Sounds::length_is))]
     pub fn last_unlike(&self, upto: u16, inserter: Xid) -> u16
         requires { upto ≤ length self.now.slots }
         ensures passed { (n : ℕ) → result < n → n ≤ upto
@@ -201,7 +250,15 @@ impl Page {
             → is_undeleted_by inserter.0 (the_slot self.now.slots result) ≡ false }
         ensures bound { result ≤ upto }
     {
-        self.slots.last_unlike(usize::from(upto), inserter) as u16
+        self.sheet.last_unlike(usize::from(upto), inserter) as u16
+    }
+
+    /// How many bytes the version in the slot of this number takes, which is there: 0 where it holds none.
+    pub fn version_size(&self, number: u16) -> usize
+        requires { SlotIsThere self.now.slots number }
+        ensures { result ≡ bytes_taken (the_slot self.now.slots number) }
+    {
+        self.sheet.version_size(usize::from(number) - 1)
     }
 
     /// The number that the next version added gets: of the lowest unused slot, or else of a new last one. It is 292 where
@@ -214,32 +271,25 @@ impl Page {
         self.free as u16 + 1
     }
 
-    /// How many bytes the version in the slot of this number takes, which is there: 0 where it holds none.
-    pub fn version_size(&self, number: u16) -> usize
-        requires { SlotIsThere self.now.slots number }
-        ensures { result ≡ bytes_taken (the_slot self.now.slots number) }
-    {
-        self.slots.version_size(usize::from(number) - 1)
-    }
-
     /// What of 8168 bytes neither versions nor pointers of 4 bytes take.
+    #[tactic(auto, using(crate::proofs::Sounds::length_is))]
     pub fn free_bytes(&self) -> usize
         ensures value { result ≡ free_bytes self.now.slots }
         ensures all { result + (4 * length self.now.slots + sum_by bytes_taken self.now.slots)
             ≡ MOST_BYTES }
     {
-        MOST_BYTES - (4 * self.slots.len() + self.taken_bytes)
+        MOST_BYTES - (4 * self.sheet.len() + self.taken_bytes)
     }
 
     /// The largest size of a version that fits, in bytes, as if versions were moved together: of 8168 bytes what neither
     /// versions nor pointers of 4 bytes take, less 4 for a new slot where none is unused.
-    #[tactic(auto, using(crate::proofs::SlotLemmas::first_within))]
+    #[tactic(auto, using(crate::proofs::SlotLemmas::first_within, crate::proofs::Sounds::length_is))]
     pub fn room(&self) -> usize
         ensures value { result ≡ room_of self.now.slots }
         ensures limit { result ≤ 8164 }
         ensures place { 0 < result → free_number self.now.slots ≤ MOST_SLOTS }
     {
-        let count = self.slots.len();
+        let count = self.sheet.len();
         let free_bytes = self.free_bytes();
         if self.free < count {
             free_bytes
@@ -249,26 +299,9 @@ impl Page {
             0
         }
     }
-}
 
-/// The index in the list of slots that this number stands for, unless it is 0.
-fn index_of(number: u16) -> Option<usize>
-    ensures { MatchOption result (number ≡ 0) (λ index. number ≡ index + 1) }
-{
-    usize::from(number).checked_sub(1)
-}
-
-/// Counts one more change.
-fn raise(change: &mut u64)
-    ensures { change.new ≡ next_change change.old }
-{
-    *change = change.wrapping_add(1);
-}
-
-impl Page {
     /// Adds a version in the lowest unused slot, or else in a new last one, and answers the slot's number. It answers Full
-    /// exactly where the version's size is over the room, and NoMemory only where the page has no slot and no room was made for
-    /// one: with the first slot a page gets memory for all that it may have. Both change no slot.
+    /// exactly where the version's size is over the room, and then changes no slot. It takes no memory, and never answers NoMemory.
     pub fn add(&mut self, version: Tuple) -> Result<u16, AddFault>
         ensures full { (result ≡ Err AddFault.Full)
             ↔ (room_of self.old.slots < rounded_size_of version.row) }
@@ -291,16 +324,13 @@ impl Page {
         if row_size(&version.row) > self.room() {
             return Err(AddFault::Full);
         }
-        if self.free >= self.slots.len() {
-            self.make_room(1).map_err(|_| AddFault::NoMemory)?;
-        }
+        let _free = self.free;
         Ok(self.add_row(version.header, &version.row))
     }
 
     /// Adds a version with this header of this row, which it copies nowhere but into its place: in the lowest unused slot, or else
     /// in a new last one, and answers the slot's number. The header has no fault, and the version's size is not over the room.
-    /// It takes no memory: a slot is unused, or there is memory for one more, as after [`Page::make_room`].
-    #[tactic(auto, using(crate::proofs::SlotLemmas::first_within))]
+    /// It takes no memory.
     pub fn add_row(&mut self, header: Header, row: &Row) -> u16
         requires faultless { header_fault header ≡ None }
         requires room { rounded_size_of row.now ≤ room_of self.old.slots }
@@ -316,20 +346,18 @@ impl Page {
     {
         let _room = self.room();
         let index = self.free;
-        if index < self.slots.len() {
-            self.slots.put_version(index, header, row);
+        if index < self.sheet.len() {
+            self.sheet.add(index, &header, row);
         } else {
-            self.slots.push_version(header, row);
+            self.sheet.push(&header, row);
         }
-        self.free = self.slots.first_unused_from(index + 1);
+        self.free = self.sheet.first_unused_from(index + 1);
         self.taken_bytes += row_size(row);
-        raise(&mut self.change);
+        self.raise();
         index as u16 + 1
     }
 
-    /// Makes room in memory for `count` more slots, so that the next `count` versions are added without asking for any. It is
-    /// refused only where there is not that room, and the page has no slot yet or would have more than 291. No slot changes,
-    /// also where memory is refused.
+    /// Says that the next `count` versions are added without memory, as all are: it does nothing.
     pub fn make_room(&mut self, count: usize) -> Result<(), AllocError>
         ensures room { OnOk result (count ≤ self.new.spare) }
         ensures refused { OnErr result (self.old.spare < count) }
@@ -340,7 +368,8 @@ impl Page {
         ensures change { self.new.change ≡ self.old.change }
         ensures flag { self.new.flag ≡ self.old.flag }
     {
-        self.slots.make_room(count)
+        let (_free, _count) = (self.free, count);
+        Ok(())
     }
 
     /// That a page with a slot has memory for all that it may have. It does nothing; its contract is the fact.
@@ -348,7 +377,7 @@ impl Page {
         ensures { 0 < length self.now.slots
             → (0 < self.now.spare) ⊎ (MOST_SLOTS ≤ length self.now.slots) }
     {
-        self.slots.fact_memory()
+        let _free = self.free;
     }
 
     /// Gives the version in the slot of this number, which is there and normal, another header, which has no fault. The
@@ -364,14 +393,22 @@ impl Page {
         ensures spare { self.new.spare ≡ self.old.spare }
     {
         let index = usize::from(number) - 1;
-        let hints_alone = match self.slots.header(index) {
+        let hints_alone = match self.sheet.header(index) {
             Some(old) => differ_in_hints_alone(&old, &header),
             None => true,
         };
-        self.slots.set_header(index, header);
+        self.sheet.set_header(index, header);
         if !hints_alone {
-            raise(&mut self.change);
+            self.raise();
         }
+    }
+
+    // Counts one more change.
+    fn raise(&mut self)
+        ensures { self.new ≡ record self.old { change = next_change self.old.change } }
+    {
+        let change = self.sheet.change();
+        self.sheet.set_change(change.wrapping_add(1));
     }
 
     /// Makes the slot of this number, which is there, unused. The change number is raised where it was not unused.
@@ -382,8 +419,8 @@ impl Page {
           change = change_unless (is_unused (the_slot self.old.slots number)) self.old.change;
         } }
     {
-        let same = self.slots.is_unused(usize::from(number) - 1);
-        self.put(number, Item::Unused, same);
+        let same = self.sheet.is_unused(usize::from(number) - 1);
+        self.put(number, Pointer::Unused, same);
     }
 
     /// Makes the slot of this number, which is there, dead. The change number is raised where it was not dead.
@@ -394,8 +431,8 @@ impl Page {
           change = change_unless (is_dead (the_slot self.old.slots number)) self.old.change;
         } }
     {
-        let same = self.slots.is_dead(usize::from(number) - 1);
-        self.put(number, Item::Dead, same);
+        let same = self.sheet.is_dead(usize::from(number) - 1);
+        self.put(number, Pointer::Dead, same);
     }
 
     /// Makes the slot of this number lead to the slot `target`. Both are there. The change number is raised where it did not
@@ -409,30 +446,31 @@ impl Page {
               self.old.change;
         } }
     {
-        let same = self.slots.redirects_to(usize::from(number) - 1, target);
-        self.put(number, Item::Redirect(target), same);
+        let same = self.sheet.redirects_to(usize::from(number) - 1, target);
+        self.put(number, Pointer::Redirect(target), same);
     }
 
-    // Puts a slot without a version in the place of its number.
-    fn put(&mut self, number: u16, item: Item, same: bool)
+    // Lets a slot without a version be at this number.
+    fn put(&mut self, number: u16, pointer: Pointer, same: bool)
         requires there { SlotIsThere self.old.slots number }
-        requires bare { holds_no_version item ≡ true }
+        requires bare { HoldsNoVersion (length self.old.slots) pointer }
         ensures { self.new ≡ record self.old {
-          slots = with_slot self.old.slots number (stored_slot [] item);
+          slots = with_slot self.old.slots number (shown_by [] pointer);
           change = change_unless same self.old.change;
         } }
     {
         let index = usize::from(number) - 1;
-        let from = if item.is_unused() {
-            self.free.min(index)
-        } else {
-            self.free
+        let from = match pointer {
+            Pointer::Unused => self.free.min(index),
+            _ => self.free,
         };
-        self.taken_bytes -= self.slots.version_size(index);
-        self.slots.put(index, item);
-        self.free = self.slots.first_unused_from(from);
+        let taken = self.sheet.version_size(index);
+        self.taken_bytes -= taken;
+        let last = taken > 0 && self.taken_bytes == 0;
+        self.sheet.clear(index, pointer, last);
+        self.free = self.sheet.first_unused_from(from);
         if !same {
-            raise(&mut self.change);
+            self.raise();
         }
     }
 }

@@ -1,5 +1,5 @@
-use Rattle.page_slots.proofs.BodyLemmas.{IsPacked}
+use Rattle.page_slots.specs.Packing.{IsPacked}
 use Rattle.page_slots.proofs.packing.pack.Given as goal
 
-abbrev pub invariant-loop-i : goal.invariant-loop-i
-invariant-loop-i l = IsPacked l.bytes l.initial.items l.items l.packed.items l.i
+abbrev pub invariant-loop-index : goal.invariant-loop-index
+invariant-loop-index l = IsPacked l.old l.bytes l.count l.index l.upper

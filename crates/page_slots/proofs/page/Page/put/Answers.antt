@@ -1,21 +1,137 @@
-use Rattle.std.proofs.Common.{◌≡◌, ◌≤◌, ◌-◌, [], true, set, ap, sym, ◌∙◌, arith}
-use Rattle.std.specs.List.{position_or_len}
+use Rattle.std.proofs.Common.{◌≡◌, ◌-◌, ◌<◌, ◌≤◌, ℕ, [], true, length, get_or, set, sym, ap, ◌∙◌, subst, arith, List}
 use Rattle.std.proofs.lemmas.Bool.{true≢false}
-use Rattle.page_slots.specs.Slots.{is_unused}
-use Rattle.page_slots.specs.Store.{stored_slot}
-use Rattle.page_slots.specs.Stored.{StoreView}
+use Rattle.std.proofs.lemmas.Bool.Decides.{nat_tests}
+use Rattle.std.specs.List.{position_or_len}
+use Rattle.page_slots.specs.View.{PageView, AreTallied}
+use Rattle.page_slots.specs.declared.slot.Slot.{Slot}
+use Rattle.page_slots.specs.declared.slot.Slot.TheVariants.{Unused}
+use Rattle.page_slots.specs.Layout.{shown_by, slots_in}
+use Rattle.page_slots.specs.Sound.{HoldsNoVersion}
+use Rattle.page_slots.specs.Slots.{SlotIsThere, is_unused, bytes_taken}
+use Rattle.page_slots.proofs.Kept.{kept_bare, taken-within, sum-bare}
 use Rattle.page_slots.proofs.FreeLemmas.{first-after_set}
+use Rattle.page_slots.proofs.PointerSet.{bare-takes_none, bare-used}
+use Rattle.page_slots.proofs.Sounds.{slots_in-at, length-slots_in}
 use Rattle.page_slots.proofs.page.Page.put.Goals as goal
-use Rattle.page_slots.proofs.page.Page.put.Goals.{then-is_unused, else-is_unused}
+use Rattle.page_slots.proofs.page.Page.put.Goals.{in-Unused, in_default}
+
+pub version_size-taken-requires : goal.version_size-taken-requires
+version_size-taken-requires c =
+    let count = c.self.inside.sheet.count in
+    let bytes = c.self.inside.sheet.bytes in
+    let slots = slots_in count bytes in
+    let index = c.from-index.result - 1 in
+    let there = subst (λ (p : PageView). SlotIsThere p.slots c.args.number) (sym c.self.view_is) c.requires.there in
+    let long = length-slots_in count bytes in
+    let within : index < count = omega (arith, there.0, there.1, c.from-index.ensures) in
+    let inside : index < length slots = omega arith in
+    let bare : HoldsNoVersion count c.args.pointer = subst (λ (n : ℕ). HoldsNoVersion n c.args.pointer) long (subst (λ (p : PageView). HoldsNoVersion (length p.slots) c.args.pointer) (sym c.self.view_is) c.requires.bare) in
+    within
+
+pub overflow_sub-self : goal.overflow_sub-self
+overflow_sub-self c =
+    let count = c.self.inside.sheet.count in
+    let bytes = c.self.inside.sheet.bytes in
+    let slots = slots_in count bytes in
+    let index = c.from-index.result - 1 in
+    let there = subst (λ (p : PageView). SlotIsThere p.slots c.args.number) (sym c.self.view_is) c.requires.there in
+    let long = length-slots_in count bytes in
+    let within : index < count = omega (arith, there.0, there.1, c.from-index.ensures) in
+    let inside : index < length slots = omega arith in
+    let bare : HoldsNoVersion count c.args.pointer = subst (λ (n : ℕ). HoldsNoVersion n c.args.pointer) long (subst (λ (p : PageView). HoldsNoVersion (length p.slots) c.args.pointer) (sym c.self.view_is) c.requires.bare) in
+    let old : bytes_taken (get_or slots index Unused) ≡ c.version_size-taken.result = ap bytes_taken (slots_in-at count bytes index Unused within) ∙ sym c.version_size-taken.ensures in
+    let most = taken-within slots c.self.inside.free c.self.inside.taken_bytes index inside c.self.invariant in
+    omega arith
+
+pub clear-requires-clause-there : goal.clear-requires-clause-there
+clear-requires-clause-there c =
+    let count = c.self.inside.sheet.count in
+    let bytes = c.self.inside.sheet.bytes in
+    let slots = slots_in count bytes in
+    let index = c.from-index.result - 1 in
+    let there = subst (λ (p : PageView). SlotIsThere p.slots c.args.number) (sym c.self.view_is) c.requires.there in
+    let long = length-slots_in count bytes in
+    let within : index < count = omega (arith, there.0, there.1, c.from-index.ensures) in
+    let inside : index < length slots = omega arith in
+    let bare : HoldsNoVersion count c.args.pointer = subst (λ (n : ℕ). HoldsNoVersion n c.args.pointer) long (subst (λ (p : PageView). HoldsNoVersion (length p.slots) c.args.pointer) (sym c.self.view_is) c.requires.bare) in
+    within
+
+pub clear-requires-clause-bare : goal.clear-requires-clause-bare
+clear-requires-clause-bare c =
+    let count = c.self.inside.sheet.count in
+    let bytes = c.self.inside.sheet.bytes in
+    let slots = slots_in count bytes in
+    let index = c.from-index.result - 1 in
+    let there = subst (λ (p : PageView). SlotIsThere p.slots c.args.number) (sym c.self.view_is) c.requires.there in
+    let long = length-slots_in count bytes in
+    let within : index < count = omega (arith, there.0, there.1, c.from-index.ensures) in
+    let inside : index < length slots = omega arith in
+    let bare : HoldsNoVersion count c.args.pointer = subst (λ (n : ℕ). HoldsNoVersion n c.args.pointer) long (subst (λ (p : PageView). HoldsNoVersion (length p.slots) c.args.pointer) (sym c.self.view_is) c.requires.bare) in
+    bare
 
 pub first_unused_from-self-inside-requires : goal.first_unused_from-self-inside-requires
 first_unused_from-self-inside-requires c =
-    let slots = c.self.inside.slots.slots in
+    let count = c.self.inside.sheet.count in
+    let bytes = c.self.inside.sheet.bytes in
+    let slots = slots_in count bytes in
     let index = c.from-index.result - 1 in
-    let slot = stored_slot [] c.args.item in
-    let before : c.if-is_unused.from ≤ position_or_len is_unused slots =
-    elim c.if-is_unused.branch [ then-is_unused w ↦ omega arith | else-is_unused w ↦ omega arith ] in
-    let first : is_unused slot ≡ true → c.if-is_unused.from ≤ index = λ unused.
-    elim c.if-is_unused.branch [ then-is_unused w ↦ omega arith | else-is_unused w ↦ absurd (true≢false (sym unused ∙ sym (c.is_unused.ensures []) ∙ w.if-is_unused.false)) ] in
-    let now : set slots index slot ≡ c.put.new.self.slots = sym (ap (λ (s : StoreView). s.slots) c.put.ensures) in
-    rw (← now) (first-after_set slots index slot c.if-is_unused.from before first)
+    let there = subst (λ (p : PageView). SlotIsThere p.slots c.args.number) (sym c.self.view_is) c.requires.there in
+    let long = length-slots_in count bytes in
+    let within : index < count = omega (arith, there.0, there.1, c.from-index.ensures) in
+    let inside : index < length slots = omega arith in
+    let bare : HoldsNoVersion count c.args.pointer = subst (λ (n : ℕ). HoldsNoVersion n c.args.pointer) long (subst (λ (p : PageView). HoldsNoVersion (length p.slots) c.args.pointer) (sym c.self.view_is) c.requires.bare) in
+    let kept : AreTallied slots c.self.inside.free c.self.inside.taken_bytes = c.self.invariant in
+    let before : c.match-pointer.from ≤ position_or_len is_unused slots =
+    elim c.match-pointer.branch [ in-Unused w ↦ omega (arith, w.from-is, w.min-from.ensures, kept.first) | in_default w ↦ omega (arith, w.from-is, kept.first) ] in
+    let first : is_unused (shown_by [] c.args.pointer) ≡ true → c.match-pointer.from ≤ index = λ unused.
+    elim c.match-pointer.branch [ in-Unused w ↦ omega (arith, w.from-is, w.min-from.ensures) | in_default w ↦ absurd (true≢false (sym unused ∙ bare-used count c.args.pointer bare w.in_default.not-Unused)) ] in
+    rw c.clear.ensures.slots (first-after_set slots index (shown_by [] c.args.pointer) c.match-pointer.from before first)
+
+pub invariant_of-self : goal.invariant_of-self
+invariant_of-self c =
+    let count = c.self.inside.sheet.count in
+    let bytes = c.self.inside.sheet.bytes in
+    let slots = slots_in count bytes in
+    let index = c.from-index.result - 1 in
+    let there = subst (λ (p : PageView). SlotIsThere p.slots c.args.number) (sym c.self.view_is) c.requires.there in
+    let long = length-slots_in count bytes in
+    let within : index < count = omega (arith, there.0, there.1, c.from-index.ensures) in
+    let inside : index < length slots = omega arith in
+    let bare : HoldsNoVersion count c.args.pointer = subst (λ (n : ℕ). HoldsNoVersion n c.args.pointer) long (subst (λ (p : PageView). HoldsNoVersion (length p.slots) c.args.pointer) (sym c.self.view_is) c.requires.bare) in
+    let old : bytes_taken (get_or slots index Unused) ≡ c.version_size-taken.result = ap bytes_taken (slots_in-at count bytes index Unused within) ∙ sym c.version_size-taken.ensures in
+    let first : c.first_unused_from-self-inside.result ≡ position_or_len is_unused (set slots index (shown_by [] c.args.pointer)) = c.first_unused_from-self-inside.ensures.index ∙ ap (position_or_len is_unused) c.clear.ensures.slots in
+    subst (λ (s : List Slot). AreTallied s c.first_unused_from-self-inside.result (c.self.inside.taken_bytes - c.version_size-taken.result)) (sym c.clear.ensures.slots)
+    (subst (λ (t : ℕ). AreTallied (set slots index (shown_by [] c.args.pointer)) c.first_unused_from-self-inside.result (c.self.inside.taken_bytes - t)) old
+    (kept_bare slots c.self.inside.free c.self.inside.taken_bytes c.first_unused_from-self-inside.result index (shown_by [] c.args.pointer) inside (bare-takes_none count c.args.pointer bare) first c.self.invariant))
+
+pub invariant_of-self-else-not-same : goal.invariant_of-self-else-not-same
+invariant_of-self-else-not-same c =
+    let count = c.self.inside.sheet.count in
+    let bytes = c.self.inside.sheet.bytes in
+    let slots = slots_in count bytes in
+    let index = c.from-index.result - 1 in
+    let there = subst (λ (p : PageView). SlotIsThere p.slots c.args.number) (sym c.self.view_is) c.requires.there in
+    let long = length-slots_in count bytes in
+    let within : index < count = omega (arith, there.0, there.1, c.from-index.ensures) in
+    let inside : index < length slots = omega arith in
+    let bare : HoldsNoVersion count c.args.pointer = subst (λ (n : ℕ). HoldsNoVersion n c.args.pointer) long (subst (λ (p : PageView). HoldsNoVersion (length p.slots) c.args.pointer) (sym c.self.view_is) c.requires.bare) in
+    let old : bytes_taken (get_or slots index Unused) ≡ c.version_size-taken.result = ap bytes_taken (slots_in-at count bytes index Unused within) ∙ sym c.version_size-taken.ensures in
+    let first : c.first_unused_from-self-inside.result ≡ position_or_len is_unused (set slots index (shown_by [] c.args.pointer)) = c.first_unused_from-self-inside.ensures.index ∙ ap (position_or_len is_unused) c.clear.ensures.slots in
+    subst (λ (s : List Slot). AreTallied s c.first_unused_from-self-inside.result (c.self.inside.taken_bytes - c.version_size-taken.result)) (sym c.clear.ensures.slots)
+    (subst (λ (t : ℕ). AreTallied (set slots index (shown_by [] c.args.pointer)) c.first_unused_from-self-inside.result (c.self.inside.taken_bytes - t)) old
+    (kept_bare slots c.self.inside.free c.self.inside.taken_bytes c.first_unused_from-self-inside.result index (shown_by [] c.args.pointer) inside (bare-takes_none count c.args.pointer bare) first c.self.invariant))
+
+pub clear-requires-clause-last : goal.clear-requires-clause-last
+clear-requires-clause-last c =
+    let count = c.self.inside.sheet.count in
+    let bytes = c.self.inside.sheet.bytes in
+    let slots = slots_in count bytes in
+    let index = c.from-index.result - 1 in
+    let there = subst (λ (p : PageView). SlotIsThere p.slots c.args.number) (sym c.self.view_is) c.requires.there in
+    let long = length-slots_in count bytes in
+    let within : index < count = omega (arith, there.0, there.1, c.from-index.ensures) in
+    let inside : index < length slots = omega arith in
+    let bare : HoldsNoVersion count c.args.pointer = subst (λ (n : ℕ). HoldsNoVersion n c.args.pointer) long (subst (λ (p : PageView). HoldsNoVersion (length p.slots) c.args.pointer) (sym c.self.view_is) c.requires.bare) in
+    let old : bytes_taken (get_or slots index Unused) ≡ c.version_size-taken.result = ap bytes_taken (slots_in-at count bytes index Unused within) ∙ sym c.version_size-taken.ensures in
+    let sum = sum-bare slots c.self.inside.free c.self.inside.taken_bytes index (shown_by [] c.args.pointer) inside (bare-takes_none count c.args.pointer bare) c.self.invariant in
+    λ last. grind (arith, nat_tests)

@@ -1,0 +1,14 @@
+use Rattle.std.proofs.Common.{◌≡◌, ◌∙◌, ap, ℕ, List}
+use Rattle.page_slots.specs.View.{PageView, all_spare}
+use Rattle.page_slots.specs.Layout.{slots_in, slot_count_in, change_in, is_all_visible_in}
+use Rattle.page_slots.specs.Reading.{page_of}
+use Rattle.page_slots.proofs.page.Page.bytes.Goals as goal
+
+counted : (bytes : List ℕ) (count : ℕ) → slot_count_in bytes ≡ count
+    → page_of bytes ≡ record { slots = slots_in count bytes; change = change_in bytes; flag = is_all_visible_in bytes; spare = all_spare }
+counted bytes count e =
+    ap (λ (n : ℕ). let p : PageView = record { slots = slots_in n bytes; change = change_in bytes; flag = is_all_visible_in bytes; spare = all_spare } in p) e
+
+pub returns : goal.returns
+returns c =
+    ap page_of c.bytes.ensures.bytes ∙ counted c.self.inside.sheet.bytes c.self.inside.sheet.count c.bytes.ensures.count ∙ c.self.view_is

@@ -1,0 +1,32 @@
+use Rattle.std.proofs.Common.{◌∙◌, sym, ap, arith}
+use Rattle.std.specs.Option.{option_map}
+use Rattle.tuple_header.specs.Version.{Version}
+use Rattle.page_slots.specs.Slots.{version_of}
+use Rattle.page_slots.specs.Layout.{slot_in}
+use Rattle.page_slots.proofs.Found.{version_at-found, version_at-missing, is-there, some-mapped}
+use Rattle.page_slots.proofs.page.Page.key.Goals as goal
+
+pub returns-then-index-len-clause-value : goal.returns-then-index-len-clause-value
+returns-then-index-len-clause-value c =
+    let at = version_at-found c.self.inside.sheet.count c.self.inside.sheet.bytes c.args.number c.in_ok-index.index c.in_ok-index.ensures (omega arith) in
+    rw (← c.self.view_is) (c.key.ensures ∙ sym (ap (option_map (λ (t : Version). t.row.key)) at))
+
+pub returns-then-index-len-clause-there : goal.returns-then-index-len-clause-there
+returns-then-index-len-clause-there c =
+    let there = is-there c.self.inside.sheet.count c.self.inside.sheet.bytes c.args.number c.in_ok-index.index c.in_ok-index.ensures (omega arith) in
+    rw (← c.self.view_is) (λ _. there)
+
+pub returns-then-index-len-clause-normal : goal.returns-then-index-len-clause-normal
+returns-then-index-len-clause-normal c =
+    let at = version_at-found c.self.inside.sheet.count c.self.inside.sheet.bytes c.args.number c.in_ok-index.index c.in_ok-index.ensures (omega arith) in
+    rw (← c.self.view_is) (rw (at, c.key.ensures) (some-mapped (λ t. t.row.key) (version_of (slot_in c.self.inside.sheet.bytes c.in_ok-index.index))))
+
+pub returns-else-index-len-clause-value : goal.returns-else-index-len-clause-value
+returns-else-index-len-clause-value c =
+    let at = version_at-missing c.self.inside.sheet.count c.self.inside.sheet.bytes c.args.number c.in_ok-index.index c.in_ok-index.ensures (omega arith) in
+    rw (← c.self.view_is) (sym (ap (option_map (λ (t : Version). t.row.key)) at))
+
+pub returns-else-index-len-clause-normal : goal.returns-else-index-len-clause-normal
+returns-else-index-len-clause-normal c =
+    let at = version_at-missing c.self.inside.sheet.count c.self.inside.sheet.bytes c.args.number c.in_ok-index.index c.in_ok-index.ensures (omega arith) in
+    rw (← c.self.view_is) (rw at (λ none. none, λ none. none))

@@ -1,0 +1,28 @@
+use Rattle.std.proofs.Common.{◌∙◌, refl, ap, arith}
+use Rattle.std.specs.Option.{option_map}
+use Rattle.tuple_header.specs.Version.{Version, size_of}
+use Rattle.page_slots.specs.Layout.{slot_in}
+use Rattle.page_slots.proofs.Found.{version_at-found, version_at-missing}
+use Rattle.page_slots.proofs.StandingLemmas.{some-by_length}
+use Rattle.page_slots.proofs.page.Page.place.Goals as goal
+
+pub returns-in-Some-clause-normal : goal.returns-in-Some-clause-normal
+returns-in-Some-clause-normal c =
+    let at = version_at-found c.self.inside.sheet.count c.self.inside.sheet.bytes c.args.number c.in_ok-index.index c.in_ok-index.ensures (omega arith) in
+    let there = some-by_length (slot_in c.self.inside.sheet.bytes c.in_ok-index.index) c.in-Some.extent.len c.in-Some.ensures.size in
+    rw (← c.self.view_is) (rw at (λ _. there, λ _. refl))
+
+pub returns-in-Some-clause-size : goal.returns-in-Some-clause-size
+returns-in-Some-clause-size c =
+    let at = version_at-found c.self.inside.sheet.count c.self.inside.sheet.bytes c.args.number c.in_ok-index.index c.in_ok-index.ensures (omega arith) in
+    rw (← c.self.view_is) (ap (option_map (λ (t : Version). size_of t.row)) at ∙ c.in-Some.ensures.size)
+
+pub returns-in-None-clause-normal : goal.returns-in-None-clause-normal
+returns-in-None-clause-normal c =
+    let at = version_at-found c.self.inside.sheet.count c.self.inside.sheet.bytes c.args.number c.in_ok-index.index c.in_ok-index.ensures (omega arith) in
+    rw (← c.self.view_is) (rw (at, c.in-None.ensures) (λ none. none, λ none. none))
+
+pub returns-else-index-len-clause-normal : goal.returns-else-index-len-clause-normal
+returns-else-index-len-clause-normal c =
+    let at = version_at-missing c.self.inside.sheet.count c.self.inside.sheet.bytes c.args.number c.in_ok-index.index c.in_ok-index.ensures (omega arith) in
+    rw (← c.self.view_is) (rw at (λ none. none, λ none. none))

@@ -1,0 +1,38 @@
+use Rattle.std.proofs.Common.{◌≡◌, ◌<◌, sym, ap, ◌∙◌, subst, List, ℕ, refl}
+use Rattle.page_slots.specs.Sheet.{SheetView}
+use Rattle.page_slots.specs.declared.pointer.Pointer.TheVariants as pointer
+use Rattle.page_slots.specs.Layout.{pointer_in}
+use Rattle.page_slots.proofs.HeaderSet.{IsReheaded, header-set, header-none}
+use Rattle.page_slots.proofs.sheet.Sheet.set_header.Goals as goal
+
+reheaded : (c : goal.After-write_header) → IsReheaded c.self.inside.bytes c.write_header.new.bytes c.self.inside.count c.args.index c.args.header
+reheaded c =
+    let seen : c.args.self.now.bytes ≡ c.self.inside.bytes = ap (λ (s : SheetView). s.bytes) (sym c.self.view_is) in
+    let counted : c.args.self.now.count ≡ c.self.inside.count = ap (λ (s : SheetView). s.count) (sym c.self.view_is) in
+    let is : pointer_in c.self.inside.bytes c.args.index ≡ pointer.Normal c.in-Normal.extent = ap (λ (b : List ℕ). pointer_in b c.args.index) (sym seen) ∙ sym c.pointer.ensures.value ∙ c.in-Normal.is in
+    header-set c.self.inside.bytes c.write_header.new.bytes c.self.inside.count c.args.index c.in-Normal.extent c.args.header c.self.invariant
+    (subst (λ (n : ℕ). c.args.index < n) counted c.requires.there) is c.write_header.ensures.fits c.requires.faultless c.write_header.ensures.bytes
+
+pub invariant_of-self : goal.invariant_of-self
+invariant_of-self c = (reheaded c).sound
+
+pub returns-in-Normal-clause-slots : goal.returns-in-Normal-clause-slots
+returns-in-Normal-clause-slots c = rw (← c.self.view_is) (reheaded c).slots
+
+pub returns-in-Normal-clause-change : goal.returns-in-Normal-clause-change
+returns-in-Normal-clause-change c = rw (← c.self.view_is) (reheaded c).change
+
+pub returns-in-Normal-clause-flags : goal.returns-in-Normal-clause-flags
+returns-in-Normal-clause-flags c = rw (← c.self.view_is) (reheaded c).flags
+
+pub returns-in-Normal-clause-upper : goal.returns-in-Normal-clause-upper
+returns-in-Normal-clause-upper c = rw (← c.self.view_is) (reheaded c).upper
+
+pub returns-in_default : goal.returns-in_default
+returns-in_default c = record {
+  count = refl;
+  change = refl;
+  flags = refl;
+  upper = refl;
+  slots = header-none c.args.self.now.bytes c.args.self.now.count c.args.index c.pointer.result c.args.header c.requires.there c.pointer.ensures.value c.in_default.not-Normal;
+}

@@ -1,8 +1,0 @@
-use Rattle.std.proofs.Common.{◌≡◌, ◌≤◌, ◌<◌, ℕ, true}
-use Rattle.std.specs.Prelude.{slice_index_or}
-use Rattle.page_slots.specs.declared.slot.Slot.TheVariants.{Unused}
-use Rattle.page_slots.specs.Slots.{is_undeleted_by}
-use Rattle.page_slots.proofs.store.Store.next_unlike.Given as goal
-
-abbrev pub invariant-loop-place : goal.invariant-loop-place
-invariant-loop-place l = (i : ℕ) → l.fn.from ≤ i → i < l.place → is_undeleted_by l.fn.inserter.0 (slice_index_or l.self.slots i Unused) ≡ true

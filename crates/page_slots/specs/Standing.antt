@@ -1,0 +1,27 @@
+-- Where a version stands among the bytes of its page.
+use Rattle.std.specs.Prelude.{◌≡◌, ◌≤◌, ℕ, ◌+◌, List, Option, Some}
+use Rattle.std.specs.Option.{option_map}
+use Rattle.std.specs.Int.{next_multiple_of}
+use Rattle.xid_circle.specs.Numbers.{SlotNo}
+use Rattle.tuple_header.specs.Version.{size_of}
+use Rattle.page_slots.specs.declared.pointer.Extent.{Extent}
+use Rattle.page_slots.specs.declared.sheet.TheConstants.{PAGE_BYTES, PAGE_HEADER_BYTES}
+use Rattle.page_slots.specs.declared.slot.Slot.{Slot}
+use Rattle.page_slots.specs.Slots.{version_of, version_at}
+use Rattle.page_slots.specs.Layout.{slot_in}
+
+-- the size of a version, if there is one, not rounded up
+abbrev pub version_length : Slot → Option ℕ
+version_length slot = option_map (λ t. size_of t.row) (version_of slot)
+
+abbrev pub length_at : List Slot → SlotNo → Option ℕ
+length_at slots n = option_map (λ t. size_of t.row) (version_at slots n)
+
+-- so many bytes from a place on lie behind the header and within the page, rounded up
+abbrev pub LiesWithin : ℕ → ℕ → Type 0
+LiesWithin from len = (PAGE_HEADER_BYTES ≤ from) × (from + next_multiple_of len 8 ≤ PAGE_BYTES)
+
+-- the version at an index stands there
+pub record StandsAt (bytes : List ℕ) (i : ℕ) (e : Extent) : Type 0 where
+  pub size : version_length (slot_in bytes i) ≡ Some e.len
+  pub within : LiesWithin e.from e.len

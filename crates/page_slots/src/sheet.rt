@@ -1,0 +1,659 @@
+//! The bytes of a page, and what is read in them where it stands.
+
+ghost use Rattle.std.specs.Prelude.{◌≡◌, ◌≤◌, ◌<◌, ◌+◌, ◌-◌, ◌*◌, ◌%◌, ◌++◌, ◌∷◌, ℕ, [], length, sum_by, drop, slice_set, slice_index_or, true, false, ◌==◌, ◌&&◌, Some, None, IfSome, MatchOption, if◌then◌else◌};
+ghost use Rattle.std.specs.Option.{option_map};
+ghost use Rattle.std.specs.List.{position_or_len};
+ghost use Rattle.tuple_header.specs.Layout.{number_at, with_bytes, header_bytes, encoding, decoded_version};
+ghost use Rattle.tuple_header.specs.declared.version.TheConstants.{MOST_SLOTS};
+ghost use Rattle.tuple_header.specs.Version.{size_of, rounded_size_of};
+ghost use Rattle.tuple_header.specs.Faults.{HeaderFits, IsVersion, header_fault, first_fault};
+ghost use Rattle.page_slots.specs.declared.sheet.TheConstants.{MOST_BYTES, PAGE_BYTES, PAGE_HEADER_BYTES};
+ghost use Rattle.page_slots.specs.Slots.{is_unused, is_dead, is_undeleted_by, redirects_to, with_header, version_of, target_of, head_of, bytes_taken};
+ghost use Rattle.page_slots.specs.Layout.{pointer_in, part_of, shown_by, slot_in, slots_in, slot_count_in, change_in, flags_in, upper_in};
+ghost use Rattle.page_slots.specs.Packing.{LieInOrder};
+ghost use Rattle.page_slots.specs.Standing.{StandsAt};
+ghost use Rattle.page_slots.specs.declared.pointer.Extent.{Extent as SpecExtent};
+ghost use Rattle.page_slots.specs.Sound.{AreAbove, IsExtent, HoldsNoVersion, IsWritten, IsPointer, IsVersionAt};
+
+use crate::numbers::{put_u16, put_u64, u16_at, u64_at};
+use crate::packing::pack;
+use crate::pointer::{Extent, Pointer, pointer_at, put_pointer};
+use crate::slot::{Slot, SlotHead};
+use std::marker::Model;
+use tuple_header::{
+    Header, Row, RowRef, header_of, key_of, put_header, put_version, row_in, row_size, version_of,
+};
+use xid_circle::Xid;
+
+/// The bytes of a page.
+pub const PAGE_BYTES: usize = 8192;
+
+/// The bytes of a page's header, which come first. The line pointers are right behind them.
+pub(crate) const PAGE_HEADER_BYTES: usize = 24;
+
+/// What pointers and versions may take of a page.
+pub(crate) const MOST_BYTES: usize = 8168;
+
+const _: () = prove!(MOST_BYTES == PAGE_BYTES - PAGE_HEADER_BYTES);
+
+/// The bytes of a page.
+#[derive(Debug, Drop)]
+pub(crate) struct Sheet {
+    bytes: [u8; PAGE_BYTES],
+    count: usize,
+}
+
+impl Model for Sheet {
+    ghost use Rattle.page_slots.specs.Sheet.{SheetView};
+    ghost use Rattle.page_slots.specs.Sound.{IsSound};
+
+    ghost Value = { SheetView };
+
+    ghost view = { λ s. record { bytes = s.bytes; count = s.count } };
+
+    ghost invariant = { λ s. IsSound s.bytes s.count };
+}
+
+/// The bytes of a version.
+#[inline(always)]
+pub(crate) fn part(bytes: &[u8], extent: Extent) -> &[u8]
+    requires { extent.from + extent.len ≤ length bytes.now }
+    ensures { result.now ≡ part_of bytes.now extent }
+{
+    let from = usize::from(extent.from);
+    &bytes[from..from + usize::from(extent.len)]
+}
+
+/// Writes a header over that of the version in these bytes.
+fn write_header(bytes: &mut [u8], extent: Extent, header: Header)
+    requires within { extent.from + extent.len ≤ length bytes.old }
+    requires least { 66 ≤ extent.len }
+    ensures bytes { bytes.new
+        ≡ with_bytes extent.from (header_bytes header ++ drop 24 (part_of bytes.old extent))
+        bytes.old }
+    ensures fits { HeaderFits header }
+{
+    let from = usize::from(extent.from);
+    put_header(&header, &mut bytes[from..from + usize::from(extent.len)]);
+}
+
+/// Writes the bytes of a version from a place on.
+fn put_encoding(bytes: &mut [u8], from: usize, header: &Header, row: &Row)
+    requires room { from + size_of row.now ≤ length bytes.old }
+    requires faultless { header_fault header.now ≡ None }
+    ensures bytes { bytes.new
+        ≡ with_bytes from (encoding (record { header = header.now; row = row.now })) bytes.old }
+    ensures version { IsVersion (record { header = header.now; row = row.now }) }
+{
+    put_version(header, row, &mut bytes[from..]);
+}
+
+/// Whether these bytes of a version say that this id made it and nobody deleted it: both ids are read as one number.
+#[inline(always)]
+fn is_undeleted_by(part: &[u8], inserter: u32) -> bool
+    requires { 8 ≤ length part.now }
+    ensures { result
+        ≡ ((number_at 0 4 part.now == inserter) && (number_at 4 4 part.now == 0)) }
+{
+    u64_at(part, 0) == u64::from(inserter)
+}
+
+impl Sheet {
+    /// The bytes of a page with no slot, never changed, on which not all is visible to all.
+    pub(crate) fn new() -> Sheet
+        ensures count { result.count ≡ 0 }
+        ensures change { change_in result.bytes ≡ 0 }
+        ensures flags { flags_in result.bytes ≡ 0 }
+        ensures upper { upper_in result.bytes ≡ PAGE_BYTES }
+    {
+        let mut bytes = [0; PAGE_BYTES];
+        put_u16(&mut bytes, 12, PAGE_HEADER_BYTES as u16);
+        put_u16(&mut bytes, 14, PAGE_BYTES as u16);
+        put_u16(&mut bytes, 16, PAGE_BYTES as u16);
+        put_u16(&mut bytes, 18, PAGE_BYTES as u16 + 4);
+        Sheet { bytes, count: 0 }
+    }
+
+    /// How many slots there are.
+    #[inline(always)]
+    pub(crate) fn len(&self) -> usize
+        ensures count { result ≡ self.now.count }
+        ensures few { result ≤ MOST_SLOTS }
+    {
+        self.count
+    }
+
+    /// The change number.
+    pub(crate) fn change(&self) -> u64
+        ensures { result ≡ change_in self.now.bytes }
+    {
+        u64_at(&self.bytes, 0)
+    }
+
+    /// The flags.
+    pub(crate) fn flags(&self) -> u16
+        ensures { result ≡ flags_in self.now.bytes }
+    {
+        u16_at(&self.bytes, 10)
+    }
+
+    /// All bytes, where they stand.
+    pub(crate) fn bytes(&self) -> &[u8]
+        ensures bytes { result.now ≡ self.now.bytes }
+        ensures count { slot_count_in self.now.bytes ≡ self.now.count }
+    {
+        let _count = self.count;
+        &self.bytes
+    }
+
+    /// The pointer of the slot at an index.
+    #[inline(always)]
+    pub(crate) fn pointer(&self, index: usize) -> Pointer
+        requires { index < self.now.count }
+        ensures value { result ≡ pointer_in self.now.bytes index }
+        ensures good { IsPointer self.now.bytes self.now.count result }
+    {
+        pointer_at(&self.bytes, index)
+    }
+
+    /// The slot at an index, by value.
+    pub(crate) fn slot(&self, index: usize) -> Slot
+        requires { index < self.now.count }
+        ensures { result ≡ slot_in self.now.bytes index }
+    {
+        match self.pointer(index) {
+            Pointer::Unused => Slot::Unused,
+            Pointer::Normal(extent) => Slot::Normal(version_of(part(&self.bytes, extent))),
+            Pointer::Redirect(target) => Slot::Redirect(target),
+            Pointer::Dead => Slot::Dead,
+        }
+    }
+
+    /// The bytes of the version at an index, if there is one, where they stand.
+    #[inline(always)]
+    pub(crate) fn version(&self, index: usize) -> Option<&[u8]>
+        requires { index < self.now.count }
+        ensures { MatchOption result (version_of (slot_in self.now.bytes index) ≡ None)
+            (λ part. IsVersionAt self.now.bytes index part.now) }
+    {
+        match self.pointer(index) {
+            Pointer::Normal(extent) => Some(part(&self.bytes, extent)),
+            _ => None,
+        }
+    }
+
+    /// Where the version at an index stands, if there is one.
+    pub(crate) fn extent(&self, index: usize) -> Option<Extent>
+        requires { index < self.now.count }
+        ensures { MatchOption result (version_of (slot_in self.now.bytes index) ≡ None)
+            (λ extent. StandsAt self.now.bytes index extent) }
+    {
+        let _count = self.count;
+        match self.pointer(index) {
+            Pointer::Normal(extent) => Some(extent),
+            _ => None,
+        }
+    }
+
+    /// The header of the version at an index, if there is one, read where it stands.
+    #[inline(always)]
+    pub(crate) fn header(&self, index: usize) -> Option<Header>
+        requires { index < self.now.count }
+        ensures value { result
+            ≡ option_map (λ t. t.header) (version_of (slot_in self.now.bytes index)) }
+        ensures faultless { IfSome result (λ header. header_fault header ≡ None) }
+    {
+        match self.version(index) {
+            Some(part) => Some(header_of(part)),
+            None => None,
+        }
+    }
+
+    /// What the slot at an index tells without its row.
+    #[inline(always)]
+    pub(crate) fn head(&self, index: usize) -> SlotHead
+        requires { index < self.now.count }
+        ensures { result ≡ head_of (slot_in self.now.bytes index) }
+    {
+        match self.pointer(index) {
+            Pointer::Normal(extent) => SlotHead::Version(header_of(part(&self.bytes, extent))),
+            Pointer::Redirect(target) => SlotHead::Redirect(target),
+            _ => SlotHead::Empty,
+        }
+    }
+
+    /// The key of the version at an index, if there is one.
+    pub(crate) fn key(&self, index: usize) -> Option<u64>
+        requires { index < self.now.count }
+        ensures { result
+            ≡ option_map (λ t. t.row.key) (version_of (slot_in self.now.bytes index)) }
+    {
+        match self.version(index) {
+            Some(part) => Some(key_of(part)),
+            None => None,
+        }
+    }
+
+    /// The row of the version at an index, where it stands, if there is one.
+    pub(crate) fn row(&self, index: usize) -> Option<RowRef<'_>>
+        requires { index < self.now.count }
+        ensures { result ≡ option_map (λ t. t.row) (version_of (slot_in self.now.bytes index)) }
+    {
+        match self.version(index) {
+            Some(part) => Some(row_in(part)),
+            None => None,
+        }
+    }
+
+    /// Whether the slot at an index is unused.
+    #[inline(always)]
+    pub(crate) fn is_unused(&self, index: usize) -> bool
+        requires { index < self.now.count }
+        ensures { result ≡ is_unused (slot_in self.now.bytes index) }
+    {
+        match self.pointer(index) {
+            Pointer::Unused => true,
+            Pointer::Normal(_extent) => false,
+            Pointer::Redirect(_target) => false,
+            Pointer::Dead => false,
+        }
+    }
+
+    /// Whether the slot at an index is dead.
+    pub(crate) fn is_dead(&self, index: usize) -> bool
+        requires { index < self.now.count }
+        ensures { result ≡ is_dead (slot_in self.now.bytes index) }
+    {
+        match self.pointer(index) {
+            Pointer::Unused => false,
+            Pointer::Normal(_extent) => false,
+            Pointer::Redirect(_target) => false,
+            Pointer::Dead => true,
+        }
+    }
+
+    /// Whether the slot at an index is a redirect to the slot of this number.
+    pub(crate) fn redirects_to(&self, index: usize, number: u16) -> bool
+        requires { index < self.now.count }
+        ensures { result ≡ redirects_to number (slot_in self.now.bytes index) }
+    {
+        match self.pointer(index) {
+            Pointer::Unused => false,
+            Pointer::Normal(_extent) => false,
+            Pointer::Redirect(target) => target == number,
+            Pointer::Dead => false,
+        }
+    }
+
+    /// Where the slot at an index leads, if it is a redirect.
+    pub(crate) fn redirect(&self, index: usize) -> Option<u16>
+        requires { index < self.now.count }
+        ensures { result ≡ target_of (slot_in self.now.bytes index) }
+    {
+        match self.pointer(index) {
+            Pointer::Unused => None,
+            Pointer::Normal(_extent) => None,
+            Pointer::Redirect(target) => Some(target),
+            Pointer::Dead => None,
+        }
+    }
+
+    /// Whether the slot at an index holds a version of this inserter, which nobody deleted.
+    #[inline(always)]
+    fn is_undeleted_by(&self, index: usize, inserter: Xid) -> bool
+        requires { index < self.now.count }
+        ensures { result
+            ≡ is_undeleted_by inserter.0
+            (slice_index_or (slots_in self.now.count self.now.bytes) index Slot.Unused) }
+    {
+        match self.version(index) {
+            Some(part) => is_undeleted_by(part, inserter.0),
+            None => false,
+        }
+    }
+
+    /// The index of the first slot, from this one on, that holds anything but a version of this inserter which nobody deleted; or
+    /// the number of slots, where there is none.
+    #[tactic(auto, using(crate::proofs::Sounds::length_is))]
+    pub(crate) fn next_unlike(&self, from: usize, inserter: Xid) -> usize
+        ensures passed { (i : ℕ) → from ≤ i → i < result
+            → is_undeleted_by inserter.0
+            (slice_index_or (slots_in self.now.count self.now.bytes) i Slot.Unused) ≡ true }
+        ensures found { result < self.now.count → (from ≤ result)
+            × (is_undeleted_by inserter.0
+            (slice_index_or (slots_in self.now.count self.now.bytes) result Slot.Unused) ≡ false) }
+        ensures bound { result ≤ self.now.count }
+        ensures few { result ≤ MOST_SLOTS }
+    {
+        for place in from..self.len() {
+            if !self.is_undeleted_by(place, inserter) {
+                return place;
+            }
+        }
+        self.len()
+    }
+
+    /// How many of the first `count` slots are left without those at their end that hold a version of this inserter which nobody
+    /// deleted.
+    #[inline(always)]
+    pub(crate) fn last_unlike(&self, count: usize, inserter: Xid) -> usize
+        requires { count ≤ self.now.count }
+        ensures passed { (i : ℕ) → result ≤ i → i < count
+            → is_undeleted_by inserter.0
+            (slice_index_or (slots_in self.now.count self.now.bytes) i Slot.Unused) ≡ true }
+        ensures found { 1 ≤ result
+            → is_undeleted_by inserter.0
+            (slice_index_or (slots_in self.now.count self.now.bytes) (result - 1) Slot.Unused)
+            ≡ false }
+        ensures bound { result ≤ count }
+    {
+        let mut left = count;
+        while left > 0 {
+            if !self.is_undeleted_by(left - 1, inserter) {
+                return left;
+            }
+            left -= 1;
+        }
+        0
+    }
+
+    /// How many bytes the version at an index takes.
+    #[inline(always)]
+    pub(crate) fn version_size(&self, index: usize) -> usize
+        requires { index < self.now.count }
+        ensures { result ≡ bytes_taken (slot_in self.now.bytes index) }
+    {
+        let _count = self.count;
+        match self.pointer(index) {
+            Pointer::Unused => 0,
+            Pointer::Normal(extent) => usize::from(extent.len).next_multiple_of(8),
+            Pointer::Redirect(_target) => 0,
+            Pointer::Dead => 0,
+        }
+    }
+
+    /// The index of the first unused slot, or the number of slots, where none below `from` is unused.
+    pub(crate) fn first_unused_from(&self, from: usize) -> usize
+        requires { from ≤ position_or_len is_unused (slots_in self.now.count self.now.bytes) }
+        ensures index { result
+            ≡ position_or_len is_unused (slots_in self.now.count self.now.bytes) }
+        ensures bound { result ≤ self.now.count }
+    {
+        for index in from..self.count {
+            if self.is_unused(index) {
+                return index;
+            }
+        }
+        self.count
+    }
+}
+
+impl Sheet {
+    /// Sets the change number.
+    pub(crate) fn set_change(&mut self, change: u64)
+        ensures count { self.new.count ≡ self.old.count }
+        ensures slots { slots_in self.new.count self.new.bytes
+            ≡ slots_in self.old.count self.old.bytes }
+        ensures change { change_in self.new.bytes ≡ change }
+        ensures flags { flags_in self.new.bytes ≡ flags_in self.old.bytes }
+        ensures upper { upper_in self.new.bytes ≡ upper_in self.old.bytes }
+    {
+        put_u64(&mut self.bytes, 0, change);
+    }
+
+    /// Sets the all-visible flag.
+    pub(crate) fn set_flag(&mut self, flag: bool)
+        ensures count { self.new.count ≡ self.old.count }
+        ensures slots { slots_in self.new.count self.new.bytes
+            ≡ slots_in self.old.count self.old.bytes }
+        ensures change { change_in self.new.bytes ≡ change_in self.old.bytes }
+        ensures flags { flags_in self.new.bytes ≡ (if flag then 4 else 0) }
+        ensures upper { upper_in self.new.bytes ≡ upper_in self.old.bytes }
+    {
+        put_u16(&mut self.bytes, 10, if flag { 4 } else { 0 });
+    }
+
+    /// Gives the version at an index, if there is one, another header, which has no fault.
+    pub(crate) fn set_header(&mut self, index: usize, header: Header)
+        requires there { index < self.old.count }
+        requires faultless { header_fault header ≡ None }
+        ensures count { self.new.count ≡ self.old.count }
+        ensures slots { slots_in self.new.count self.new.bytes
+            ≡ slice_set (slots_in self.old.count self.old.bytes) index
+            (with_header (slot_in self.old.bytes index) header) }
+        ensures change { change_in self.new.bytes ≡ change_in self.old.bytes }
+        ensures flags { flags_in self.new.bytes ≡ flags_in self.old.bytes }
+        ensures upper { upper_in self.new.bytes ≡ upper_in self.old.bytes }
+    {
+        if let Pointer::Normal(extent) = self.pointer(index) {
+            write_header(&mut self.bytes, extent, header);
+        }
+    }
+
+    /// Lets a slot without a version be at an index.
+    fn set_pointer(&mut self, index: usize, pointer: Pointer)
+        requires there { index < self.old.count }
+        requires bare { HoldsNoVersion self.old.count pointer }
+        ensures count { self.new.count ≡ self.old.count }
+        ensures slots { slots_in self.new.count self.new.bytes
+            ≡ slice_set (slots_in self.old.count self.old.bytes) index (shown_by [] pointer) }
+        ensures change { change_in self.new.bytes ≡ change_in self.old.bytes }
+        ensures flags { flags_in self.new.bytes ≡ flags_in self.old.bytes }
+        ensures upper { upper_in self.new.bytes ≡ upper_in self.old.bytes }
+    {
+        put_pointer(&mut self.bytes, index, pointer);
+    }
+
+    /// Lets a slot without a version be at an index. Where that takes away the last version, the gap reaches to the end of the page.
+    pub(crate) fn clear(&mut self, index: usize, pointer: Pointer, last: bool)
+        requires there { index < self.old.count }
+        requires bare { HoldsNoVersion self.old.count pointer }
+        requires last { last ≡ true
+            → sum_by bytes_taken
+            (slice_set (slots_in self.old.count self.old.bytes) index (shown_by [] pointer)) ≡ 0 }
+        ensures count { self.new.count ≡ self.old.count }
+        ensures slots { slots_in self.new.count self.new.bytes
+            ≡ slice_set (slots_in self.old.count self.old.bytes) index (shown_by [] pointer) }
+        ensures change { change_in self.new.bytes ≡ change_in self.old.bytes }
+        ensures flags { flags_in self.new.bytes ≡ flags_in self.old.bytes }
+        ensures upper { upper_in self.new.bytes
+            ≡ (if last then PAGE_BYTES else upper_in self.old.bytes) }
+    {
+        self.set_pointer(index, pointer);
+        if last {
+            self.lift_upper();
+        }
+    }
+
+    /// Writes the bytes of a version below all others, where no pointer leads yet.
+    fn write_version(&mut self, from: usize, header: &Header, row: &Row)
+        requires gap { PAGE_HEADER_BYTES + 4 * self.old.count ≤ from }
+        requires room { from + rounded_size_of row.now ≤ upper_in self.old.bytes }
+        requires faultless { header_fault header.now ≡ None }
+        ensures count { self.new.count ≡ self.old.count }
+        ensures slots { slots_in self.new.count self.new.bytes
+            ≡ slots_in self.old.count self.old.bytes }
+        ensures written { IsWritten self.old.bytes self.new.bytes from (size_of row.now)
+            (record { header = header.now; row = row.now }) }
+    {
+        let _count = self.count;
+        put_encoding(&mut self.bytes, from, header, row);
+    }
+
+    /// Where the versions begin: none lies below.
+    #[inline(always)]
+    fn upper(&self) -> usize
+        ensures { result ≡ upper_in self.now.bytes }
+    {
+        usize::from(u16_at(&self.bytes, 14))
+    }
+
+    /// Lets the versions begin further down, behind the pointers.
+    fn lower_upper(&mut self, upper: usize)
+        requires gap { PAGE_HEADER_BYTES + 4 * self.old.count ≤ upper }
+        requires down { upper ≤ upper_in self.old.bytes }
+        requires aligned { upper % 8 ≡ 0 }
+        ensures count { self.new.count ≡ self.old.count }
+        ensures slots { slots_in self.new.count self.new.bytes
+            ≡ slots_in self.old.count self.old.bytes }
+        ensures change { change_in self.new.bytes ≡ change_in self.old.bytes }
+        ensures flags { flags_in self.new.bytes ≡ flags_in self.old.bytes }
+        ensures upper { upper_in self.new.bytes ≡ upper }
+        ensures parts { (e : SpecExtent) → PAGE_HEADER_BYTES ≤ e.from → e.from + e.len ≤ PAGE_BYTES
+            → part_of self.new.bytes e ≡ part_of self.old.bytes e }
+        ensures pointers { (i : ℕ) → pointer_in self.new.bytes i ≡ pointer_in self.old.bytes i }
+    {
+        let _count = self.count;
+        put_u16(&mut self.bytes, 14, upper as u16);
+    }
+
+    /// Lets the slot at an index lead to a version that lies below all others.
+    fn place(&mut self, index: usize, extent: Extent)
+        requires there { index < self.old.count }
+        requires good { IsExtent self.old.bytes extent }
+        requires above { AreAbove self.old.bytes self.old.count index extent }
+        ensures count { self.new.count ≡ self.old.count }
+        ensures slots { slots_in self.new.count self.new.bytes
+            ≡ slice_set (slots_in self.old.count self.old.bytes) index
+            (Slot.Normal (decoded_version (part_of self.old.bytes extent))) }
+        ensures change { change_in self.new.bytes ≡ change_in self.old.bytes }
+        ensures flags { flags_in self.new.bytes ≡ flags_in self.old.bytes }
+    {
+        let _count = self.count;
+        put_pointer(&mut self.bytes, index, Pointer::Normal(extent));
+    }
+
+    /// Puts a version at an index, below all others, where the gap has room for it.
+    fn put_below(&mut self, index: usize, header: &Header, row: &Row)
+        requires there { index < self.old.count }
+        requires room { PAGE_HEADER_BYTES + 4 * self.old.count + rounded_size_of row.now
+            ≤ upper_in self.old.bytes }
+        requires faultless { header_fault header.now ≡ None }
+        ensures count { self.new.count ≡ self.old.count }
+        ensures slots { slots_in self.new.count self.new.bytes
+            ≡ slice_set (slots_in self.old.count self.old.bytes) index
+            (Slot.Normal (record { header = header.now; row = row.now })) }
+        ensures change { change_in self.new.bytes ≡ change_in self.old.bytes }
+        ensures flags { flags_in self.new.bytes ≡ flags_in self.old.bytes }
+    {
+        let _count = self.count;
+        let from = self.upper() - row_size(row);
+        self.write_version(from, header, row);
+        self.lower_upper(from);
+        let extent = Extent {
+            from: from as u16,
+            len: 66 + row.body.len() as u16,
+        };
+        self.place(index, extent);
+    }
+
+    /// Adds a last slot, which is unused. There are fewer than a page may have, and the gap has room for its pointer.
+    fn grow(&mut self)
+        requires few { self.old.count < MOST_SLOTS }
+        requires room { PAGE_HEADER_BYTES + 4 * (self.old.count + 1) ≤ upper_in self.old.bytes }
+        ensures count { self.new.count ≡ self.old.count + 1 }
+        ensures slots { slots_in self.new.count self.new.bytes
+            ≡ slots_in self.old.count self.old.bytes ++ Slot.Unused ∷ [] }
+        ensures change { change_in self.new.bytes ≡ change_in self.old.bytes }
+        ensures flags { flags_in self.new.bytes ≡ flags_in self.old.bytes }
+        ensures upper { upper_in self.new.bytes ≡ upper_in self.old.bytes }
+    {
+        put_pointer(&mut self.bytes, self.count, Pointer::Unused);
+        self.count += 1;
+        put_u16(
+            &mut self.bytes,
+            12,
+            (PAGE_HEADER_BYTES + 4 * self.count) as u16,
+        );
+    }
+
+    /// Moves the versions together at the end of the page, in the order of their slots from the end downward. No slot changes.
+    #[inline(never)]
+    fn compact(&mut self)
+        requires room { 4 * self.old.count
+            + sum_by bytes_taken (slots_in self.old.count self.old.bytes) ≤ MOST_BYTES }
+        ensures count { self.new.count ≡ self.old.count }
+        ensures slots { slots_in self.new.count self.new.bytes
+            ≡ slots_in self.old.count self.old.bytes }
+        ensures change { change_in self.new.bytes ≡ change_in self.old.bytes }
+        ensures flags { flags_in self.new.bytes ≡ flags_in self.old.bytes }
+        ensures upper { upper_in self.new.bytes
+            + sum_by bytes_taken (slots_in self.old.count self.old.bytes) ≡ PAGE_BYTES }
+        ensures order { LieInOrder self.new.bytes (slots_in self.old.count self.old.bytes)
+            self.new.count }
+    {
+        let old = self.bytes;
+        let upper = pack(&old, self.count, &mut self.bytes);
+        put_u16(&mut self.bytes, 14, upper as u16);
+    }
+
+    /// Makes the gap between pointers and versions as wide as so many bytes. Versions are moved only where it is not.
+    fn make_way(&mut self, size: usize)
+        requires room { 4 * self.old.count
+            + sum_by bytes_taken (slots_in self.old.count self.old.bytes) + size ≤ MOST_BYTES }
+        ensures count { self.new.count ≡ self.old.count }
+        ensures slots { slots_in self.new.count self.new.bytes
+            ≡ slots_in self.old.count self.old.bytes }
+        ensures change { change_in self.new.bytes ≡ change_in self.old.bytes }
+        ensures flags { flags_in self.new.bytes ≡ flags_in self.old.bytes }
+        ensures gap { PAGE_HEADER_BYTES + 4 * self.new.count + size ≤ upper_in self.new.bytes }
+        ensures stays { PAGE_HEADER_BYTES + 4 * self.old.count + size ≤ upper_in self.old.bytes
+            → self.new ≡ self.old }
+    {
+        if self.upper() < PAGE_HEADER_BYTES + 4 * self.len() + size {
+            self.compact();
+        }
+    }
+
+    /// Puts a version in the place of the slot at an index.
+    pub(crate) fn add(&mut self, index: usize, header: &Header, row: &Row)
+        requires there { index < self.old.count }
+        requires room { 4 * self.old.count
+            + sum_by bytes_taken (slots_in self.old.count self.old.bytes)
+            + rounded_size_of row.now ≤ MOST_BYTES }
+        requires faultless { header_fault header.now ≡ None }
+        ensures count { self.new.count ≡ self.old.count }
+        ensures slots { slots_in self.new.count self.new.bytes
+            ≡ slice_set (slots_in self.old.count self.old.bytes) index
+            (Slot.Normal (record { header = header.now; row = row.now })) }
+        ensures change { change_in self.new.bytes ≡ change_in self.old.bytes }
+        ensures flags { flags_in self.new.bytes ≡ flags_in self.old.bytes }
+    {
+        self.make_way(row_size(row));
+        self.put_below(index, header, row);
+    }
+
+    /// Puts a version behind all slots, of which there are fewer than a page may have.
+    pub(crate) fn push(&mut self, header: &Header, row: &Row)
+        requires few { self.old.count < MOST_SLOTS }
+        requires room { 4 * self.old.count
+            + sum_by bytes_taken (slots_in self.old.count self.old.bytes)
+            + (rounded_size_of row.now + 4) ≤ MOST_BYTES }
+        requires faultless { header_fault header.now ≡ None }
+        ensures count { self.new.count ≡ self.old.count + 1 }
+        ensures slots { slots_in self.new.count self.new.bytes
+            ≡ slots_in self.old.count self.old.bytes
+            ++ Slot.Normal (record { header = header.now; row = row.now }) ∷ [] }
+        ensures change { change_in self.new.bytes ≡ change_in self.old.bytes }
+        ensures flags { flags_in self.new.bytes ≡ flags_in self.old.bytes }
+    {
+        self.make_way(row_size(row) + 4);
+        let index = self.count;
+        self.grow();
+        self.put_below(index, header, row);
+    }
+
+    /// Lets the gap reach to the end of the page, on which no version is.
+    fn lift_upper(&mut self)
+        requires none { sum_by bytes_taken (slots_in self.old.count self.old.bytes) ≡ 0 }
+        ensures count { self.new.count ≡ self.old.count }
+        ensures slots { slots_in self.new.count self.new.bytes
+            ≡ slots_in self.old.count self.old.bytes }
+        ensures change { change_in self.new.bytes ≡ change_in self.old.bytes }
+        ensures flags { flags_in self.new.bytes ≡ flags_in self.old.bytes }
+        ensures upper { upper_in self.new.bytes ≡ PAGE_BYTES }
+    {
+        let _count = self.count;
+        put_u16(&mut self.bytes, 14, PAGE_BYTES as u16);
+    }
+}
