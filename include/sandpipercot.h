@@ -78,7 +78,7 @@ enum sandpiper_status {
     SANDPIPER_FAILED = 18,            /* the transaction has failed: roll back to a savepoint, or abort */
     SANDPIPER_ALREADY_THERE = 19,     /* an insert: the session reads a row of the key already */
     SANDPIPER_NOT_THERE = 20,         /* an update or delete: the session reads no row of the key */
-    SANDPIPER_CONFLICT = 21,          /* a transaction that committed since the session began wrote the key */
+    SANDPIPER_CONFLICT = 21,          /* a transaction that committed since the session's snapshot was taken wrote the key */
     SANDPIPER_CURSOR_OPEN = 22,       /* the session has a cursor, and while it does it writes nothing */
     SANDPIPER_NO_CURSOR = 23,         /* the session has no cursor */
     SANDPIPER_TOO_DEEP = 24,          /* the session has 32 savepoints */
@@ -243,7 +243,7 @@ static inline const char *sandpiper_words(uint32_t status) {
     case SANDPIPER_FAILED: return "the transaction has failed: roll back to a savepoint, or abort";
     case SANDPIPER_ALREADY_THERE: return "the session reads a row of the key already";
     case SANDPIPER_NOT_THERE: return "the session reads no row of the key";
-    case SANDPIPER_CONFLICT: return "a transaction that committed since the session began wrote the key";
+    case SANDPIPER_CONFLICT: return "a transaction that committed since the session's snapshot was taken wrote the key";
     case SANDPIPER_CURSOR_OPEN: return "the session has a cursor, and while it does it writes nothing";
     case SANDPIPER_NO_CURSOR: return "the session has no cursor";
     case SANDPIPER_TOO_DEEP: return "the session has 32 savepoints";

@@ -95,7 +95,7 @@ class NotThere(Refused):
 
 
 class Conflict(Refused):
-    """a transaction that committed since the session began wrote the key; the session's own has failed"""
+    """a transaction that committed since the session's snapshot was taken wrote the key; the session's own has failed"""
 
     status = Status.CONFLICT
 

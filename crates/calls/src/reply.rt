@@ -18,7 +18,7 @@ pub enum Refusal {
     AlreadyThere,
     /// The session reads no row of the key.
     NotThere,
-    /// A transaction that committed since the session began wrote the key.
+    /// A transaction that committed since the session's snapshot was taken wrote the key.
     Conflict,
     /// This other open session has written the key.
     Busy(u8),
