@@ -14,3 +14,9 @@ pub mod Blank
 pub mod Ids
 pub mod Dead
 pub mod StandingLemmas
+pub mod FirstLemmas
+pub mod FaultLemmas
+pub mod MarkLemmas
+pub mod CoverLemmas
+pub mod CheckLemmas
+pub mod PlainLemmas

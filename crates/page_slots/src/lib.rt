@@ -9,7 +9,10 @@
 //! first, from the end of the page downward in the order of their slots (`packing.rt`, `specs/Packing.antt`).
 #![tactic(auto)]
 
+mod check;
+mod faults;
 mod hints;
+mod marks;
 mod numbers;
 mod packing;
 mod page;
@@ -17,6 +20,8 @@ mod pointer;
 mod sheet;
 mod slot;
 
+pub use check::{check_page, reads_back};
+pub use faults::PageFault;
 pub use page::{AddFault, Page};
 pub use sheet::PAGE_BYTES;
 pub use slot::{Slot, SlotHead};

@@ -6,6 +6,7 @@ ghost use Rattle.tuple_header.specs.Version.{rounded_size_of};
 ghost use Rattle.page_slots.specs.declared.sheet.TheConstants.{MOST_BYTES};
 ghost use Rattle.page_slots.specs.Layout.{shown_by};
 ghost use Rattle.page_slots.specs.Reading.{page_of};
+ghost use Rattle.page_slots.specs.Faults.{AreSoundRedirects, page_fault};
 ghost use Rattle.page_slots.specs.Standing.{length_at, LiesWithin};
 ghost use Rattle.page_slots.specs.Sound.{HoldsNoVersion};
 ghost use Rattle.page_slots.specs.View.{HasSlot};
@@ -35,11 +36,11 @@ pub enum AddFault {
 /// A page of the table: at most 291 slots, whose pointers and versions take at most 8168 bytes.
 #[derive(Debug, Drop)]
 pub struct Page {
-    sheet: Sheet,
+    pub(crate) sheet: Sheet,
     // The index of the first unused slot, or how many slots there are.
-    free: usize,
+    pub(crate) free: usize,
     // How many bytes the versions take, each rounded up.
-    taken_bytes: usize,
+    pub(crate) taken_bytes: usize,
 }
 
 impl Model for Page {
@@ -111,9 +112,10 @@ impl Page {
         self.sheet.set_flag(flag);
     }
 
-    /// The bytes of the page, where they stand.
+    /// The bytes of the page, where they stand. Where each redirect leads to a heap-only version they have no fault.
     pub fn bytes(&self) -> &[u8]
-        ensures { page_of result.now ≡ self.now }
+        ensures page { page_of result.now ≡ self.now }
+        ensures accepted { AreSoundRedirects self.now.slots → page_fault result.now ≡ None }
     {
         self.sheet.bytes()
     }

@@ -12,6 +12,7 @@ ghost use Rattle.page_slots.specs.Slots.{is_unused, is_dead, is_undeleted_by, re
 ghost use Rattle.page_slots.specs.Layout.{pointer_in, part_of, shown_by, slot_in, slots_in, slot_count_in, change_in, flags_in, upper_in};
 ghost use Rattle.page_slots.specs.Packing.{LieInOrder};
 ghost use Rattle.page_slots.specs.Standing.{StandsAt};
+ghost use Rattle.page_slots.specs.Faults.{AreSoundRedirects, page_fault};
 ghost use Rattle.page_slots.specs.declared.pointer.Extent.{Extent as SpecExtent};
 ghost use Rattle.page_slots.specs.Sound.{AreAbove, IsExtent, HoldsNoVersion, IsWritten, IsPointer, IsVersionAt};
 
@@ -39,8 +40,8 @@ const _: () = prove!(MOST_BYTES == PAGE_BYTES - PAGE_HEADER_BYTES);
 /// The bytes of a page.
 #[derive(Debug, Drop)]
 pub(crate) struct Sheet {
-    bytes: [u8; PAGE_BYTES],
-    count: usize,
+    pub(crate) bytes: [u8; PAGE_BYTES],
+    pub(crate) count: usize,
 }
 
 impl Model for Sheet {
@@ -141,6 +142,8 @@ impl Sheet {
     pub(crate) fn bytes(&self) -> &[u8]
         ensures bytes { result.now ≡ self.now.bytes }
         ensures count { slot_count_in self.now.bytes ≡ self.now.count }
+        ensures accepted { AreSoundRedirects (slots_in self.now.count self.now.bytes)
+            → page_fault self.now.bytes ≡ None }
     {
         let _count = self.count;
         &self.bytes

@@ -1,7 +1,8 @@
-use Rattle.std.proofs.Common.{◌≡◌, ◌∙◌, ap, ℕ, List}
+use Rattle.std.proofs.Common.{◌≡◌, ◌∙◌, sym, ap, subst, None, ℕ, List}
 use Rattle.page_slots.specs.View.{PageView, all_spare}
 use Rattle.page_slots.specs.Layout.{slots_in, slot_count_in, change_in, is_all_visible_in}
 use Rattle.page_slots.specs.Reading.{page_of}
+use Rattle.page_slots.specs.Faults.{AreSoundRedirects, page_fault}
 use Rattle.page_slots.proofs.page.Page.bytes.Goals as goal
 
 counted : (bytes : List ℕ) (count : ℕ) → slot_count_in bytes ≡ count
@@ -9,6 +10,11 @@ counted : (bytes : List ℕ) (count : ℕ) → slot_count_in bytes ≡ count
 counted bytes count e =
     ap (λ (n : ℕ). let p : PageView = record { slots = slots_in n bytes; change = change_in bytes; flag = is_all_visible_in bytes; spare = all_spare } in p) e
 
-pub returns : goal.returns
-returns c =
+pub returns-clause-page : goal.returns-clause-page
+returns-clause-page c =
     ap page_of c.bytes.ensures.bytes ∙ counted c.self.inside.sheet.bytes c.self.inside.sheet.count c.bytes.ensures.count ∙ c.self.view_is
+
+pub returns-clause-accepted : goal.returns-clause-accepted
+returns-clause-accepted c = λ redirects.
+    subst (λ (bytes : List ℕ). page_fault bytes ≡ None) (sym c.bytes.ensures.bytes)
+    (c.bytes.ensures.accepted (subst (λ (p : PageView). AreSoundRedirects p.slots) (sym c.self.view_is) redirects))

@@ -1,0 +1,6 @@
+use Rattle.std.proofs.Common.{◌≡◌, None}
+use Rattle.page_slots.specs.Faults.{redirect_fault, first_among}
+use Rattle.page_slots.proofs.check.first_redirect_fault_of.Given as goal
+
+abbrev pub invariant-loop-index : goal.invariant-loop-index
+invariant-loop-index l = first_among (redirect_fault l.bytes) l.index ≡ None

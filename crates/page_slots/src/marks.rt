@@ -1,0 +1,84 @@
+//! Whether versions of a page share bytes: each takes whole units of 8 bytes, which are marked in turn.
+
+ghost use Rattle.std.specs.Prelude.{◌≡◌, ◌≤◌, ◌<◌, ◌+◌, ◌*◌, ℕ, length, Some, None, ◌%◌, IfSome, MatchBool, MatchOption, MatchResult};
+ghost use Rattle.page_slots.specs.declared.faults.PageFault.{PageFault};
+ghost use Rattle.tuple_header.specs.declared.version.TheConstants.{MOST_SLOTS};
+ghost use Rattle.page_slots.specs.declared.marks.TheConstants.{PAGE_UNITS};
+ghost use Rattle.page_slots.specs.declared.sheet.TheConstants.{PAGE_BYTES};
+ghost use Rattle.page_slots.specs.Slots.{bytes_taken};
+ghost use Rattle.page_slots.specs.Layout.{pointer_in, slot_in, upper_in};
+ghost use Rattle.page_slots.specs.Sound.{IsPointer};
+ghost use Rattle.page_slots.specs.Faults.{overlap_fault, first_among};
+ghost use Rattle.page_slots.specs.Marking.{units_marked, AreMarked, SomeIsMarked, IsCovered, AreClear};
+
+use crate::faults::PageFault;
+use crate::pointer::{Pointer, pointer_at};
+
+/// How many units of 8 bytes a page has.
+const PAGE_UNITS: usize = 1024;
+
+/// Marks the units from one to before another, where none of them is marked yet. Else it answers false.
+fn mark(marks: &mut [bool; PAGE_UNITS], from: usize, to: usize) -> bool
+    requires order { from ≤ to }
+    requires within { to ≤ PAGE_UNITS }
+    ensures { MatchBool result (AreMarked marks.old marks.new from to)
+        (SomeIsMarked marks.old from to) }
+{
+    for unit in from..to {
+        if marks[unit] {
+            return false;
+        }
+        marks[unit] = true;
+    }
+    true
+}
+
+/// Marks the units of the version at an index, if there is one, and answers how many they are. It answers none where the version
+/// shares one with that of a lower slot.
+fn mark_version(bytes: &[u8], count: usize, index: usize, marks: &mut [bool; PAGE_UNITS]) -> Option<usize>
+    requires long { length bytes.now ≡ PAGE_BYTES }
+    requires few { count ≤ MOST_SLOTS }
+    requires good { (i : ℕ) → i < count → IsPointer bytes.now count (pointer_in bytes.now i) }
+    requires within { index < count }
+    requires covered { IsCovered bytes.now index marks.old }
+    ensures taken { IfSome result (λ units. 8 * units ≡ bytes_taken (slot_in bytes.now index)) }
+    ensures counted { IfSome result
+        (λ units. units_marked marks.new ≡ units_marked marks.old + units) }
+    ensures covered { MatchOption result
+        (overlap_fault bytes.now index ≡ Some (PageFault.Overlap (index + 1)))
+        (λ units. IsCovered bytes.now (index + 1) marks.new) }
+{
+    match pointer_at(bytes, index) {
+        Pointer::Normal(extent) => {
+            let from = usize::from(extent.from);
+            let size = usize::from(extent.len).next_multiple_of(8);
+            if mark(marks, from / 8, (from + size) / 8) {
+                Some(size / 8)
+            } else {
+                None
+            }
+        }
+        _ => Some(0),
+    }
+}
+
+/// How many units the versions of all slots take, or the fault of the lowest slot whose version overlaps that of a lower slot.
+pub(crate) fn units_of(bytes: &[u8], count: usize) -> Result<usize, PageFault>
+    requires long { length bytes.now ≡ PAGE_BYTES }
+    requires few { count ≤ MOST_SLOTS }
+    requires upper { upper_in bytes.now ≤ PAGE_BYTES }
+    requires aligned { upper_in bytes.now % 8 ≡ 0 }
+    requires good { (i : ℕ) → i < count → IsPointer bytes.now count (pointer_in bytes.now i) }
+    ensures { MatchResult result (AreClear bytes.now count)
+        (λ fault. first_among (overlap_fault bytes.now) count ≡ Some fault) }
+{
+    let mut marks = [false; PAGE_UNITS];
+    let mut units = 0;
+    for index in 0..count {
+        match mark_version(bytes, count, index, &mut marks) {
+            Some(more) => units += more,
+            None => return Err(PageFault::Overlap(index as u16 + 1)),
+        }
+    }
+    Ok(units)
+}

@@ -1,0 +1,145 @@
+//! Pages whose bytes were written down by hand, and what is named where some are changed.
+
+use page_slots::PageFault::{BadPointer, BadRedirect, BadTuple, Bounds, Header, Length, Overlap};
+use page_slots::{Page, PageFault, check_page, reads_back};
+use std::alloc::Global;
+
+/// The header and the one pointer of a page: change number 1, pd_lower 28, pd_upper 8120, the size and layout version, and a
+/// version of 66 bytes at 8120.
+static HEAD: [u8; 28] = [
+    1, 0, 0, 0, 0, 0, 0, 0, 0, 0, 0, 0, 0x1c, 0, 0xb8, 0x1f, 0, 0x20, 4, 0x20, 0, 0, 0, 0, 0xb8,
+    0x9f, 0x84, 0,
+];
+
+/// That version: made by id 3 at slot 1 of page 0, key 1, columns 5, 0, 0, 0, no body.
+static VERSION: [u8; 66] = [
+    3, 0, 0, 0, 0, 0, 0, 0, 0, 0, 0, 0, 0, 0, 0, 0, 1, 0, 6, 0, 0, 8, 24, 0, 1, 0, 0, 0, 0, 0, 0,
+    0, 5, 0, 0, 0, 0, 0, 0, 0, 0, 0, 0, 0, 0, 0, 0, 0, 0, 0, 0, 0, 0, 0, 0, 0, 0, 0, 0, 0, 0, 0, 0,
+    0, 0, 0,
+];
+
+/// Four bytes, and where they are written.
+type Part = (usize, [u8; 4]);
+
+/// Writes these bytes from a place on, if they fit.
+fn write(bytes: &mut [u8], place: usize, part: &[u8]) {
+    if place <= bytes.len() && part.len() <= bytes.len() - place {
+        bytes[place..place + part.len()].copy_from_slice(part);
+    }
+}
+
+/// The page's bytes, but for these.
+fn page_with(parts: &[Part]) -> [u8; 8192] {
+    let mut bytes = [0; 8192];
+    write(&mut bytes, 0, &HEAD);
+    write(&mut bytes, 8120, &VERSION);
+    for (place, part) in parts {
+        write(&mut bytes, *place, part);
+    }
+    bytes
+}
+
+fn fault_of(bytes: &[u8]) -> Option<PageFault> {
+    match check_page(bytes) {
+        Ok(_page) => None,
+        Err(fault) => Some(fault),
+    }
+}
+
+/// pd_lower 32: there are two slots.
+const SECOND: Part = (12, [32, 0, 0xb8, 0x1f]);
+
+/// The page's first bytes as they are, where fewer parts are changed than a row has place for.
+const SAME: Part = (0, [1, 0, 0, 0]);
+
+/// The parts that are changed, and what is named then.
+static FAULTS: [([Part; 3], PageFault); 21] = [
+    // flags 1
+    ([(8, [0, 0, 1, 0]), SAME, SAME], Header),
+    // a checksum, another layout version, and an id to prune at
+    ([(8, [1, 0, 0, 0]), SAME, SAME], Header),
+    ([(16, [0, 0x20, 3, 0x20]), SAME, SAME], Header),
+    ([(20, [0, 0, 0, 1]), SAME, SAME], Header),
+    // pd_lower 26, and pd_upper 8116, 8200 and 24
+    ([(12, [26, 0, 0xb8, 0x1f]), SAME, SAME], Bounds),
+    ([(12, [28, 0, 0xb4, 0x1f]), SAME, SAME], Bounds),
+    ([(12, [28, 0, 0x08, 0x20]), SAME, SAME], Bounds),
+    ([(12, [28, 0, 24, 0]), SAME, SAME], Bounds),
+    // the header comes before the bounds
+    ([(8, [0, 0, 1, 0]), (12, [26, 0, 0xb8, 0x1f]), SAME], Header),
+    // the pointer's offset 8128, its length 65, a dead slot with an offset, a redirect to a slot past the last
+    ([(24, [0xc0, 0x9f, 0x84, 0]), SAME, SAME], BadPointer(1)),
+    ([(24, [0xb8, 0x9f, 0x82, 0]), SAME, SAME], BadPointer(1)),
+    ([(24, [1, 0x80, 1, 0]), SAME, SAME], BadPointer(1)),
+    ([(24, [2, 0, 1, 0]), SAME, SAME], BadPointer(1)),
+    // infomask 0: there is no deleter, and no mark of that
+    ([(8140, [0, 0, 24, 0]), SAME, SAME], BadTuple(1)),
+    // a slot's pointer comes before its version, and a slot before the next
+    (
+        [(24, [0xc0, 0x9f, 0x84, 0]), (8140, [0, 0, 24, 0]), SAME],
+        BadPointer(1),
+    ),
+    (
+        [SECOND, (28, [0, 0x80, 0x84, 0]), (8140, [0, 0, 24, 0])],
+        BadTuple(1),
+    ),
+    ([SECOND, (28, [0, 0x80, 0x84, 0]), SAME], BadPointer(2)),
+    // a redirect to itself, and one to a version that is not heap-only
+    ([(24, [1, 0, 1, 0]), SAME, SAME], BadRedirect(1)),
+    ([SECOND, (28, [1, 0, 1, 0]), SAME], BadRedirect(2)),
+    // a second pointer equal to the first; redirects come before that
+    ([SECOND, (28, [0xb8, 0x9f, 0x84, 0]), SAME], Overlap(2)),
+    (
+        [
+            (12, [36, 0, 0xb8, 0x1f]),
+            (28, [0xb8, 0x9f, 0x84, 0]),
+            (32, [3, 0, 1, 0]),
+        ],
+        BadRedirect(3),
+    ),
+];
+
+#[test]
+fn first_fault_of_a_page(rt: HostRuntime) {
+    assert_eq!(rt; fault_of(&page_with(&[])), None);
+    assert_eq!(rt; fault_of(&page_with(&[])[..8191]), Some(Length));
+    for (parts, fault) in &FAULTS {
+        assert_eq!(rt; fault_of(&page_with(parts)), Some(*fault));
+    }
+}
+
+/// A heap-only version in slot 2, to which slot 1 leads.
+static REDIRECTED: [Part; 4] = [
+    SECOND,
+    (24, [2, 0, 1, 0]),
+    (28, [0xb8, 0x9f, 0x84, 0]),
+    (8136, [1, 0, 6, 0x80]),
+];
+
+#[test]
+fn page_of_bytes(rt: HostRuntime) {
+    let page = check_page(&page_with(&[])).expect(&rt, "the bytes are a page's");
+    assert_eq!(rt; page.change(), 1);
+    assert_eq!(rt; page.flag(), false);
+    assert_eq!(rt; page.slots(), 1);
+    assert_eq!(rt; page.room(), 8088);
+    assert_eq!(rt; page.free_number(), 2);
+    assert_eq!(rt; page.key(1), Some(1));
+    assert_eq!(rt; page.place(1), Some((8120, 66)));
+    let page = check_page(&page_with(&REDIRECTED)).expect(&rt, "the bytes are a page's");
+    assert_eq!(rt; page.redirect(1), Some(2));
+    assert_eq!(rt; page.room(), 8084);
+}
+
+/// How many slots are read from the own bytes of a page with none.
+fn slots_read_back(alloc: Global) -> Option<u16> {
+    match reads_back(&Page::new(alloc)) {
+        Ok(page) => Some(page.slots()),
+        Err(_fault) => None,
+    }
+}
+
+#[test]
+fn a_page_is_read_from_its_own_bytes(rt: HostRuntime) {
+    assert_eq!(rt; slots_read_back(rt.alloc()), Some(0));
+}
