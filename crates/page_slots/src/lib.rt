@@ -1,12 +1,21 @@
 //! A page of the table, as its 8192 bytes.
 //!
-//! A [`Page`] keeps the bytes of PostgreSQL's layout in the value itself, and asks for no memory (PostgreSQL manual,
-//! Database Page Layout). Its contract sees it as the record of `specs/View.antt`: its slots, a change number, and whether
-//! all is visible to all. What bytes say of these stands in `specs/Layout.antt`. There are two layers. A `Sheet` knows
-//! bytes: it keeps what `specs/Sound.antt` says of them, and its contract names them. A [`Page`] knows slots: it keeps how
-//! many bytes versions take and which slot is the first unused one (`AreTallied`), so it goes through no slots for either.
-//! A version is written into the gap between pointers and versions. Where that is too small, versions are moved together
-//! first, from the end of the page downward in the order of their slots (`packing.rt`, `specs/Packing.antt`).
+//! A page has at most 291 slots, numbered from 1; a slot is unused, holds a version, leads to another slot, or is dead
+//! (PostgreSQL manual, Database Page Layout). A [`Page`] keeps the bytes of that layout in the value itself, and asks for no
+//! memory. Its contract sees it as the record of `specs/View.antt`: its slots, a change number, the all-visible flag, and how
+//! many slots can be added without memory, which is always as many as can be counted. It promises that a call changes nothing
+//! but what it names, and that [`Page::add`] takes the lowest unused slot and is full exactly where the version is larger than
+//! the room. [`Page::add_row`] is for those who have asked for room before. The change number counts changes of slots, modulo
+//! 2^64, except changes of hint bits alone. What stands at a number, the room and the change number are defined in
+//! `specs/Slots.antt`, hints in `specs/Hints.antt`; `proofs/SlotLemmas.antt` says, for the crates above, what each change does
+//! to the map from numbers to slots.
+//!
+//! What bytes say of a page stands in `specs/Layout.antt`, and [`Page::bytes`] hands them out. There are two layers. A `Sheet`
+//! knows bytes: it keeps what `specs/Sound.antt` says of them, and its contract names them. A [`Page`] knows slots: it keeps how
+//! many bytes versions take and which slot is the first unused one (`AreTallied`), so it goes through no slots for either. A
+//! version is written into the gap between pointers and versions, and looked at where it stands ([`Page::row`]);
+//! [`Page::slot`] makes a copy. Where the gap is too small, versions are moved together first, from the end of the page downward
+//! in the order of their slots (`packing.rt`, `specs/Packing.antt`).
 #![tactic(auto)]
 
 mod check;

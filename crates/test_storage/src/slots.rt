@@ -1,4 +1,4 @@
-//! Room, numbers of slots and change numbers, each reckoned by hand.
+//! Room, numbers of slots, change numbers and places of versions, each reckoned by hand.
 
 use crate::steps::{Step, run};
 use arrayvec::ArrayVec;
@@ -40,6 +40,11 @@ enum PageStep {
     Row(u16, u8, usize),
     /// A slot holds none.
     NoRow(u16),
+    /// The version in a slot begins there, and has so many bytes.
+    Place(u16, u16, u16),
+    NoPlace(u16),
+    /// What the eight bytes of the page from a place on are.
+    Bytes(usize, [u8; 8]),
     Unused(u16),
     Dead(u16),
     Redirect(u16, u16),
@@ -142,6 +147,18 @@ fn has_no_row(page: &Page, number: u16) -> bool {
     page.row(number).is_none() && page.key(number).is_none() && page.header(number).is_none()
 }
 
+fn is_placed(page: &Page, number: u16, from: u16, length: u16) -> bool {
+    page.place(number) == Some((from, length))
+}
+
+fn has_bytes(page: &Page, at: usize, expected: &[u8; 8]) -> bool {
+    let bytes = page.bytes();
+    if bytes.len() < 8 || at > bytes.len() - 8 {
+        return false;
+    }
+    &bytes[at..at + 8] == expected.as_slice()
+}
+
 fn leads(page: &Page, number: u16, target: u16) -> bool {
     match page.slot(number) {
         Some(Slot::Redirect(found)) => found == target && page.redirect(number) == Some(target),
@@ -174,6 +191,8 @@ impl PageStep {
             PageStep::Dead(number) => is_dead(page, number),
             PageStep::Redirect(number, target) => leads(page, number, target),
             PageStep::NoSlot(number) => is_no_slot(page, number),
+            PageStep::Place(number, from, length) => is_placed(page, number, from, length),
+            PageStep::NoPlace(number) => page.place(number).is_none(),
             _ => false,
         }
     }
@@ -188,6 +207,7 @@ impl PageStep {
             PageStep::NextUnlike(from, inserter, next) => page.next_unlike(from, inserter) == next,
             PageStep::Change(change) => page.change() == change,
             PageStep::State(slots, flag) => page.slots() == slots && page.flag() == flag,
+            PageStep::Bytes(at, bytes) => has_bytes(page, at, &bytes),
             _ => self.is_in_slot(page),
         }
     }
@@ -354,7 +374,7 @@ static GAPS: [PageStep; 18] = [
     PageStep::Add(7, 1024, Ok(7)),
     PageStep::SetUnused(2),
     PageStep::SetUnused(4),
-    // 1000 bytes are left behind the bodies, and then none
+    // the gap has 468 bytes, and 2660 once versions are moved together
     PageStep::Add(9, 1000, Ok(2)),
     PageStep::AddRow(10, 1024, Ok(4)),
     PageStep::Row(1, 1, 1024),
@@ -367,6 +387,73 @@ static GAPS: [PageStep; 18] = [
 ];
 
 #[test]
-fn bodies_are_moved_together(rt: HostRuntime) -> Result<(), Fail> {
+fn gaps_are_filled(rt: HostRuntime) -> Result<(), Fail> {
     run(rt.alloc(), Page::new(rt.alloc()), &GAPS)
+}
+
+/// A version of 66 bytes, which is then marked dead.
+static BYTES: [PageStep; 17] = [
+    PageStep::Add(1, 0, Ok(1)),
+    // the change number; then no checksum, no flag, 28 and 8120; then 8192, 8196 and no id
+    PageStep::Bytes(0, [1, 0, 0, 0, 0, 0, 0, 0]),
+    PageStep::Bytes(8, [0, 0, 0, 0, 0x1c, 0, 0xb8, 0x1f]),
+    PageStep::Bytes(16, [0, 0x20, 4, 0x20, 0, 0, 0, 0]),
+    // 8120, normal, 66
+    PageStep::Bytes(24, [0xb8, 0x9f, 0x84, 0, 0, 0, 0, 0]),
+    PageStep::Place(1, 8120, 66),
+    // the inserter, and behind the header the key
+    PageStep::Bytes(8120, [3, 0, 0, 0, 0, 0, 0, 0]),
+    PageStep::Bytes(8144, [1, 0, 0, 0, 0, 0, 0, 0]),
+    PageStep::NoPlace(0),
+    PageStep::NoPlace(2),
+    PageStep::SetFlag(true),
+    PageStep::Bytes(8, [0, 0, 4, 0, 0x1c, 0, 0xb8, 0x1f]),
+    PageStep::SetDead(1),
+    PageStep::NoPlace(1),
+    // the gap reaches to the page's end, and the pointer is that of a dead slot
+    PageStep::Bytes(0, [2, 0, 0, 0, 0, 0, 0, 0]),
+    PageStep::Bytes(8, [0, 0, 4, 0, 0x1c, 0, 0, 0x20]),
+    PageStep::Bytes(24, [0, 0x80, 1, 0, 0, 0, 0, 0]),
+];
+
+#[test]
+fn bytes_of_a_page(rt: HostRuntime) -> Result<(), Fail> {
+    run(rt.alloc(), Page::new(rt.alloc()), &BYTES)
+}
+
+/// Seven versions, without the third, and another in its place.
+static COMPACTION: [PageStep; 26] = [
+    PageStep::Add(1, 1024, Ok(1)),
+    PageStep::Add(2, 1024, Ok(2)),
+    PageStep::Add(3, 1024, Ok(3)),
+    PageStep::Add(4, 1024, Ok(4)),
+    PageStep::Add(5, 1024, Ok(5)),
+    PageStep::Add(6, 1024, Ok(6)),
+    PageStep::Add(7, 1024, Ok(7)),
+    // each takes 1096 bytes, from 8192 down
+    PageStep::Place(1, 7096, 1090),
+    PageStep::Place(2, 6000, 1090),
+    PageStep::Place(3, 4904, 1090),
+    PageStep::Place(4, 3808, 1090),
+    PageStep::Place(5, 2712, 1090),
+    PageStep::Place(6, 1616, 1090),
+    PageStep::Place(7, 520, 1090),
+    PageStep::SetUnused(3),
+    PageStep::Room(1564),
+    // no version is moved before there is need
+    PageStep::Place(7, 520, 1090),
+    PageStep::Add(8, 1024, Ok(3)),
+    PageStep::Place(1, 7096, 1090),
+    PageStep::Place(2, 6000, 1090),
+    PageStep::Place(4, 4904, 1090),
+    PageStep::Place(5, 3808, 1090),
+    PageStep::Place(6, 2712, 1090),
+    PageStep::Place(7, 1616, 1090),
+    PageStep::Place(3, 520, 1090),
+    PageStep::Change(9),
+];
+
+#[test]
+fn versions_are_moved_together(rt: HostRuntime) -> Result<(), Fail> {
+    run(rt.alloc(), Page::new(rt.alloc()), &COMPACTION)
 }
