@@ -93,7 +93,8 @@ fn is_bad_word(word: u32, count: usize, upper: usize) -> bool
 /// Whether the bytes of the version at an index, if there is one, have a fault.
 fn has_bad_tuple(bytes: &[u8], pointer: Pointer) -> bool
     requires long { length bytes.now ≡ PAGE_BYTES }
-    requires whole { (e : SpecExtent) → pointer ≡ SpecPointer.Normal e → e.from + e.len ≤ PAGE_BYTES }
+    requires whole { (e : SpecExtent) → pointer ≡ SpecPointer.Normal e
+        → e.from + e.len ≤ PAGE_BYTES }
     ensures { result ≡ has_bad_tuple bytes.now pointer }
 {
     match pointer {

@@ -35,7 +35,12 @@ fn mark(marks: &mut [bool; PAGE_UNITS], from: usize, to: usize) -> bool
 
 /// Marks the units of the version at an index, if there is one, and answers how many they are. It answers none where the version
 /// shares one with that of a lower slot.
-fn mark_version(bytes: &[u8], count: usize, index: usize, marks: &mut [bool; PAGE_UNITS]) -> Option<usize>
+fn mark_version(
+    bytes: &[u8],
+    count: usize,
+    index: usize,
+    marks: &mut [bool; PAGE_UNITS],
+) -> Option<usize>
     requires long { length bytes.now ≡ PAGE_BYTES }
     requires few { count ≤ MOST_SLOTS }
     requires good { (i : ℕ) → i < count → IsPointer bytes.now count (pointer_in bytes.now i) }

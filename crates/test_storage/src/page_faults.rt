@@ -18,8 +18,8 @@ static VERSION: [u8; 66] = [
     0, 0, 0,
 ];
 
-/// Four bytes, and where they are written.
-type Part = (usize, [u8; 4]);
+/// A number of four bytes, and where it is written.
+type Part = (usize, u32);
 
 /// Writes these bytes from a place on, if they fit.
 fn write(bytes: &mut [u8], place: usize, part: &[u8]) {
@@ -28,13 +28,13 @@ fn write(bytes: &mut [u8], place: usize, part: &[u8]) {
     }
 }
 
-/// The page's bytes, but for these.
+/// The page's bytes, but for these numbers.
 fn page_with(parts: &[Part]) -> [u8; 8192] {
     let mut bytes = [0; 8192];
     write(&mut bytes, 0, &HEAD);
     write(&mut bytes, 8120, &VERSION);
-    for (place, part) in parts {
-        write(&mut bytes, *place, part);
+    for (place, number) in parts {
+        write(&mut bytes, *place, &number.to_le_bytes());
     }
     bytes
 }
@@ -46,55 +46,55 @@ fn fault_of(bytes: &[u8]) -> Option<PageFault> {
     }
 }
 
+/// What is named of these bytes without the last.
+fn fault_without_last(bytes: &[u8]) -> Option<PageFault> {
+    if bytes.is_empty() {
+        return None;
+    }
+    fault_of(&bytes[..bytes.len() - 1])
+}
+
 /// pd_lower 32: there are two slots.
-const SECOND: Part = (12, [32, 0, 0xb8, 0x1f]);
+const SECOND: Part = (12, 0x1fb8_0020);
 
-/// The page's first bytes as they are, where fewer parts are changed than a row has place for.
-const SAME: Part = (0, [1, 0, 0, 0]);
+/// The page's first bytes as they are, where a row has place for more numbers than are changed.
+const SAME: Part = (0, 1);
 
-/// The parts that are changed, and what is named then.
-static FAULTS: [([Part; 3], PageFault); 21] = [
+/// The numbers that are changed, and what is named then.
+static FAULTS: [(Part, Part, Part, PageFault); 21] = [
     // flags 1
-    ([(8, [0, 0, 1, 0]), SAME, SAME], Header),
+    ((8, 0x0001_0000), SAME, SAME, Header),
     // a checksum, another layout version, and an id to prune at
-    ([(8, [1, 0, 0, 0]), SAME, SAME], Header),
-    ([(16, [0, 0x20, 3, 0x20]), SAME, SAME], Header),
-    ([(20, [0, 0, 0, 1]), SAME, SAME], Header),
+    ((8, 1), SAME, SAME, Header),
+    ((16, 0x2003_2000), SAME, SAME, Header),
+    ((20, 0x0100_0000), SAME, SAME, Header),
     // pd_lower 26, and pd_upper 8116, 8200 and 24
-    ([(12, [26, 0, 0xb8, 0x1f]), SAME, SAME], Bounds),
-    ([(12, [28, 0, 0xb4, 0x1f]), SAME, SAME], Bounds),
-    ([(12, [28, 0, 0x08, 0x20]), SAME, SAME], Bounds),
-    ([(12, [28, 0, 24, 0]), SAME, SAME], Bounds),
+    ((12, 0x1fb8_001a), SAME, SAME, Bounds),
+    ((12, 0x1fb4_001c), SAME, SAME, Bounds),
+    ((12, 0x2008_001c), SAME, SAME, Bounds),
+    ((12, 0x0018_001c), SAME, SAME, Bounds),
     // the header comes before the bounds
-    ([(8, [0, 0, 1, 0]), (12, [26, 0, 0xb8, 0x1f]), SAME], Header),
+    ((8, 0x0001_0000), (12, 0x1fb8_001a), SAME, Header),
     // the pointer's offset 8128, its length 65, a dead slot with an offset, a redirect to a slot past the last
-    ([(24, [0xc0, 0x9f, 0x84, 0]), SAME, SAME], BadPointer(1)),
-    ([(24, [0xb8, 0x9f, 0x82, 0]), SAME, SAME], BadPointer(1)),
-    ([(24, [1, 0x80, 1, 0]), SAME, SAME], BadPointer(1)),
-    ([(24, [2, 0, 1, 0]), SAME, SAME], BadPointer(1)),
+    ((24, 0x0084_9fc0), SAME, SAME, BadPointer(1)),
+    ((24, 0x0082_9fb8), SAME, SAME, BadPointer(1)),
+    ((24, 0x0001_8001), SAME, SAME, BadPointer(1)),
+    ((24, 0x0001_0002), SAME, SAME, BadPointer(1)),
     // infomask 0: there is no deleter, and no mark of that
-    ([(8140, [0, 0, 24, 0]), SAME, SAME], BadTuple(1)),
+    ((8140, 0x0018_0000), SAME, SAME, BadTuple(1)),
     // a slot's pointer comes before its version, and a slot before the next
-    (
-        [(24, [0xc0, 0x9f, 0x84, 0]), (8140, [0, 0, 24, 0]), SAME],
-        BadPointer(1),
-    ),
-    (
-        [SECOND, (28, [0, 0x80, 0x84, 0]), (8140, [0, 0, 24, 0])],
-        BadTuple(1),
-    ),
-    ([SECOND, (28, [0, 0x80, 0x84, 0]), SAME], BadPointer(2)),
+    ((24, 0x0084_9fc0), (8140, 0x0018_0000), SAME, BadPointer(1)),
+    (SECOND, (28, 0x0084_8000), (8140, 0x0018_0000), BadTuple(1)),
+    (SECOND, (28, 0x0084_8000), SAME, BadPointer(2)),
     // a redirect to itself, and one to a version that is not heap-only
-    ([(24, [1, 0, 1, 0]), SAME, SAME], BadRedirect(1)),
-    ([SECOND, (28, [1, 0, 1, 0]), SAME], BadRedirect(2)),
+    ((24, 0x0001_0001), SAME, SAME, BadRedirect(1)),
+    (SECOND, (28, 0x0001_0001), SAME, BadRedirect(2)),
     // a second pointer equal to the first; redirects come before that
-    ([SECOND, (28, [0xb8, 0x9f, 0x84, 0]), SAME], Overlap(2)),
+    (SECOND, (28, 0x0084_9fb8), SAME, Overlap(2)),
     (
-        [
-            (12, [36, 0, 0xb8, 0x1f]),
-            (28, [0xb8, 0x9f, 0x84, 0]),
-            (32, [3, 0, 1, 0]),
-        ],
+        (12, 0x1fb8_0024),
+        (28, 0x0084_9fb8),
+        (32, 0x0001_0003),
         BadRedirect(3),
     ),
 ];
@@ -102,18 +102,19 @@ static FAULTS: [([Part; 3], PageFault); 21] = [
 #[test]
 fn first_fault_of_a_page(rt: HostRuntime) {
     assert_eq!(rt; fault_of(&page_with(&[])), None);
-    assert_eq!(rt; fault_of(&page_with(&[])[..8191]), Some(Length));
-    for (parts, fault) in &FAULTS {
-        assert_eq!(rt; fault_of(&page_with(parts)), Some(*fault));
+    assert_eq!(rt; fault_without_last(&page_with(&[])), Some(Length));
+    for (first, second, third, fault) in &FAULTS {
+        let parts = [*first, *second, *third];
+        assert_eq!(rt; fault_of(&page_with(&parts)), Some(*fault));
     }
 }
 
 /// A heap-only version in slot 2, to which slot 1 leads.
 static REDIRECTED: [Part; 4] = [
     SECOND,
-    (24, [2, 0, 1, 0]),
-    (28, [0xb8, 0x9f, 0x84, 0]),
-    (8136, [1, 0, 6, 0x80]),
+    (24, 0x0001_0002),
+    (28, 0x0084_9fb8),
+    (8136, 0x8006_0001),
 ];
 
 #[test]
