@@ -11,8 +11,6 @@ mod headers;
 #[cfg(test)]
 mod ids;
 #[cfg(test)]
-mod page_faults;
-#[cfg(test)]
 mod pages;
 #[cfg(test)]
 mod prune_hints;
