@@ -3,7 +3,7 @@
 ghost use Rattle.std.specs.Prelude.{◌≡◌, ◌⊎◌, ◌≤◌, ◌<◌, ◌+◌, ◌*◌, ℕ, sum_by, [], true, false, length, IfSome, IsSome, IsTrue, ◌↔◌, Some, None, MatchOption, Err, OnOk, OnErr, IfOk};
 ghost use Rattle.tuple_header.specs.Faults.{header_fault};
 ghost use Rattle.tuple_header.specs.Version.{rounded_size_of};
-ghost use Rattle.page_slots.specs.declared.sheet.TheConstants.{MOST_BYTES};
+ghost use Rattle.page_slots.specs.declared.sheet.TheConstants.{MOST_BYTES, PAGE_BYTES};
 ghost use Rattle.page_slots.specs.Layout.{shown_by};
 ghost use Rattle.page_slots.specs.Reading.{page_of};
 ghost use Rattle.page_slots.specs.Faults.{AreSoundRedirects, page_fault};
@@ -112,9 +112,10 @@ impl Page {
         self.sheet.set_flag(flag);
     }
 
-    /// The bytes of the page, where they stand. Where each redirect leads to a heap-only version they have no fault.
+    /// The 8192 bytes of the page, where they stand. Where each redirect leads to a heap-only version they have no fault.
     pub fn bytes(&self) -> &[u8]
         ensures page { page_of result.now ≡ self.now }
+        ensures long { length result.now ≡ PAGE_BYTES }
         ensures accepted { AreSoundRedirects self.now.slots → page_fault result.now ≡ None }
     {
         self.sheet.bytes()

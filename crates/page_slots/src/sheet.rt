@@ -141,6 +141,7 @@ impl Sheet {
     /// All bytes, where they stand.
     pub(crate) fn bytes(&self) -> &[u8]
         ensures bytes { result.now ≡ self.now.bytes }
+        ensures long { length result.now ≡ PAGE_BYTES }
         ensures count { slot_count_in self.now.bytes ≡ self.now.count }
         ensures accepted { AreSoundRedirects (slots_in self.now.count self.now.bytes)
             → page_fault self.now.bytes ≡ None }

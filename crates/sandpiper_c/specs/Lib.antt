@@ -5,6 +5,7 @@ pub mod Rows
 pub mod Calls
 pub mod NextRows
 pub mod Pages
+pub mod Bytes
 pub mod Pieces
 pub mod State
 pub mod Many

@@ -6,6 +6,7 @@
 #![tactic(auto)]
 
 mod block;
+mod bytes;
 mod cursors;
 mod database;
 mod handle;
