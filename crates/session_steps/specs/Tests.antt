@@ -8,20 +8,20 @@ use Rattle.heap_write.specs.Heap.{HeapView, slots_of}
 use Rattle.calls.specs.declared.reply.Refusal.{Refusal}
 use Rattle.calls.specs.declared.reply.Refusal.TheVariants as refusal
 use Rattle.session_steps.specs.declared.session.Session.{Session}
-use Rattle.session_steps.specs.State.{State, session_at}
+use Rattle.session_steps.specs.State.{State, session_at, statement_snapshot}
 use Rattle.calls.specs.declared.step.TheConstants.{MOST_SESSIONS}
 
 -- the session is open, has not failed and has no cursor: it may do anything but a step of a cursor
 abbrev pub MayAct : State → ℕ → Session → Type 0
 MayAct st s e = (s < MOST_SESSIONS) × (session_at st s ≡ Some e) × (e.failed ≡ false) × (e.cursor ≡ None)
 
--- the place of the version of the key that the session reads, if it reads one
+-- the place of the version of the key that a statement of the session reads, if it reads one
 abbrev pub FindsPlace : HeapView → Session → ℕ → Option Tid → Type 0
-FindsPlace h e key found = FirstPlace h.statuses (IsVisible h.statuses e.snapshot e.own.ids) (slots_of h) (entries_in h.indexes 0) (pos key) key found
+FindsPlace h e key found = FirstPlace h.statuses (IsVisible h.statuses (statement_snapshot h.statuses e.isolation) e.own.ids) (slots_of h) (entries_in h.indexes 0) (pos key) key found
 
--- a commit that the session does not see wrote the key, by this id
+-- a commit that such a statement does not see wrote the key, by this id
 abbrev pub IsLateBy : HeapView → Session → ℕ → ℕ → Type 0
-IsLateBy h e key x = SomeOf h.statuses (IsNewerCommitIn h.statuses e.snapshot x) (slots_of h) (entries_in h.indexes 0) (pos key) key
+IsLateBy h e key x = SomeOf h.statuses (IsNewerCommitIn h.statuses (statement_snapshot h.statuses e.isolation) x) (slots_of h) (entries_in h.indexes 0) (pos key) key
 
 -- another session has written it, under this id
 abbrev pub IsHeldUnder : HeapView → Session → ℕ → ℕ → Type 0

@@ -1,4 +1,4 @@
-//! A session begins.
+//! A session begins, by snapshot or by statement; and the snapshot that is taken.
 
 ghost use Rattle.std.specs.Prelude.{◌≡◌, ◌<◌, length, IfOk, OnErr};
 ghost use Rattle.snapshot.specs.Snap.{taken};
@@ -11,7 +11,7 @@ ghost use Rattle.session_steps.specs.Replies.{reply_to};
 
 use crate::engine::SessionEngine;
 use crate::outcome::Ack;
-use crate::session::Session;
+use crate::session::{Isolation, Session};
 use calls::Refusal;
 use snapshot::Snapshot;
 use std::alloc::{AllocError, Global};
@@ -37,7 +37,8 @@ fn take_snapshot(
 }
 
 impl SessionEngine {
-    fn snapshot(&self) -> Result<Snapshot, AllocError>
+    /// The snapshot of this moment.
+    pub(crate) fn snapshot(&self) -> Result<Snapshot, AllocError>
         ensures ok { IfOk result
             (λ s. s ≡ taken (next_id self.now.heap.statuses) (owns_of self.now.sessions)) }
         ensures err { OnErr result (MustList self.now) }
@@ -59,11 +60,28 @@ impl SessionEngine {
             Err(refusal) => match refusal {
                 Refusal::NotOpen => match self.snapshot() {
                     Ok(snapshot) => {
-                        self.open(s, snapshot);
+                        self.open(s, Isolation::BySnapshot(snapshot));
                         Ok(Ack::Done)
                     }
                     Err(_) => Err(Refusal::NoMemory),
                 },
+                _ => Err(refusal),
+            },
+        }
+    }
+
+    /// Opens the session: each of its statements reads what was committed by then. Refusals in order: NoSuchSession, AlreadyOpen. It
+    /// takes no memory.
+    pub(crate) fn begin_read_committed(&mut self, s: u8) -> Result<Ack, Refusal>
+        ensures { AnswersStep self.old (Step.BeginReadCommitted s) (reply_to result) self.new }
+    {
+        match self.open_session(s) {
+            Ok(_) => Err(Refusal::AlreadyOpen),
+            Err(refusal) => match refusal {
+                Refusal::NotOpen => {
+                    self.open(s, Isolation::ByStatement(None));
+                    Ok(Ack::Done)
+                }
                 _ => Err(refusal),
             },
         }

@@ -15,11 +15,15 @@ use heap_write::PruneFault;
 use snapshot::earlier;
 use xid_circle::Xid;
 
-/// The earlier of an id and those that the session holds back: its snapshot's xmin, and its first id.
+/// The earlier of an id and those that the session holds back: the xmin of the snapshot that it keeps, if it keeps one, and its
+/// first id.
 fn hold_back(session: &Session, x: Xid) -> Xid
     ensures { result.0 ≡ earliest x.0 (holds_back session.now) }
 {
-    let held = earlier(x, session.snapshot.xmin());
+    let held = match session.isolation.kept() {
+        Some(snapshot) => earlier(x, snapshot.xmin()),
+        None => x,
+    };
     match session.own.first() {
         Some(first) => earlier(held, first),
         None => held,
