@@ -8,31 +8,34 @@ use Rattle.xid_circle.specs.declared.Tid.{Tid}
 use Rattle.tuple_header.specs.declared.version.Row.{Row}
 use Rattle.tuple_header.specs.Version.{Version}
 use Rattle.commit_status.specs.declared.status.Status.{Status}
-use Rattle.commit_status.specs.declared.status.Status.TheVariants.{InProgress, Committed, Aborted}
+use Rattle.commit_status.specs.declared.status.Status.TheVariants.{Committed}
 use Rattle.history.specs.History.{Write, Transaction, committed, written, own_or, IsLate}
 use Rattle.history.specs.World.{OpenSession, joined, own_write}
 use Rattle.refinement.specs.Heap.{SeenSession}
 use Rattle.history.proofs.HistoryLemmas.{written-append, IsSome-or_second}
-use Rattle.visibility.specs.Seeing.{HasCommitted, IsRunning, Reads, by_itself, by_others, VisibleBy, Touches, inserter, deleter}
+use Rattle.visibility.specs.Seeing.{HasCommitted, Reads, by_itself, by_others, VisibleBy, Touches, inserter, deleter}
 use Rattle.refinement.specs.Visible.{ReaderSees, HasMissed, IsFreshSnapshot, At}
-use Rattle.refinement.specs.Changes.{FinishesIds, GivesNext, SameSight}
+use Rattle.refinement.specs.Changes.{FinishesIds, SameSight}
 use Rattle.refinement.proofs.Readers.{ReaderAgrees-same}
 use Rattle.refinement.specs.Agrees.{Shows, ReaderAgrees, LevelsAgree, Traced, LevelTraces, SessionAgrees}
 use Rattle.refinement.proofs.ShowsLemmas.{Shows-by_key}
-use Rattle.refinement.proofs.Statuses.{keeps-give, IsCommitted-give, IsCommitted-finish_old, IsCommitted-commit_cases, IsCommitted-abort, IsActive-finish_other}
+use Rattle.refinement.proofs.Statuses.{IsCommitted-finish_old, IsCommitted-commit_cases, IsActive-finish_other}
 use Rattle.refinement.proofs.CursorsLemmas.{CursorAgrees-keeps}
-use Rattle.refinement.proofs.Others.{same_seen}
+use Rattle.refinement.proofs.Isolations.{running_uncommitted}
+use Rattle.refinement.proofs.Others.{same_seen, reads_uncommitted, CursorReads-commit_other}
 use Rattle.refinement.proofs.LevelTraces.{Nested, nested_of}
 use Rattle.refinement.proofs.Steps.{levels_traced}
 use Rattle.visibility.proofs.Verdicts.{VisibleBy-same}
 
-or-some : (o : Option (Option Row)) (p q : Option Row) → IsSome o → own_or o p ≡ own_or o q
-or-some None p q some = cc
-or-some (Some r) p q some = refl
+-- what was written counts before what has committed
 
-or-none : (o : Option (Option Row)) (p : Option Row) → ¬ IsSome o → own_or o p ≡ p
-or-none None p none = refl
-or-none (Some r) p none = absurd (none refl)
+pub own_or-some : (o : Option (Option Row)) (p q : Option Row) → IsSome o → own_or o p ≡ own_or o q
+own_or-some None p q some = cc
+own_or-some (Some r) p q some = refl
+
+pub own_or-none : (o : Option (Option Row)) (p : Option Row) → ¬ IsSome o → own_or o p ≡ p
+own_or-none None p none = refl
+own_or-none (Some r) p none = absurd (none refl)
 
 -- Of one that reads by statement nothing is late, and nothing is missed.
 pub none_missed : {status : ℕ → Option Status} (v : Version) → ¬ HasMissed status (λ x. HasCommitted status x) v
@@ -48,7 +51,6 @@ module _ (status status' : ℕ → Option Status) (store : Tid → Option Versio
     (carries : Traced store (λ x. Contains theirs x) t)
     (current : Shows store (λ v. VisibleBy (HasCommitted status') v.header) (committed (history ++ t ∷ []) (length (history ++ t ∷ []))))
     (made : (p : Tid) (y : ℕ) (v : Version) → At store p v → deleter v.header ≡ Some y → HasCommitted status' y → (x : ℕ) → inserter v.header ≡ Some x → HasCommitted status' x) where
-
   still : {own : List ℕ} (y : ℕ) → Reads status (λ x. HasCommitted status x) own y → Reads status' (λ x. HasCommitted status' x) own y
   still y (by_itself mine) = by_itself mine
   still y (by_others seen done) = let now = IsCommitted-finish_old finishes y done in by_others now now
@@ -60,13 +62,15 @@ module _ (status status' : ℕ → Option Status) (store : Tid → Option Versio
   ReaderAgrees-commit_by_statement own writes traced alone h = record {
     rows = Shows-by_key (λ k. is_some (written writes k))
         (λ p v at ours. (
-        (λ seen. VisibleBy-same (λ y touch r. still y r) (λ y touch r. before p v at ours y touch r) seen),
-        (λ seen. VisibleBy-same (λ y touch r. before p v at ours y touch r) (λ y touch r. still y r) seen)))
-        (λ k ours. or-some (written writes k) (committed (history ++ t ∷ []) (length (history ++ t ∷ [])) k) (committed history (length history) k) ours)
+          (λ seen. VisibleBy-same (λ y touch r. still y r) (λ y touch r. before p v at ours y touch r) seen),
+          (λ seen. VisibleBy-same (λ y touch r. before p v at ours y touch r) (λ y touch r. still y r) seen),
+        ))
+        (λ k ours. own_or-some (written writes k) (committed (history ++ t ∷ []) (length (history ++ t ∷ [])) k) (committed history (length history) k) ours)
         (λ p v at other. (
-        (λ seen. VisibleBy-same (λ y touch done. by_others done done) (λ y touch r. counted p v at other y touch r) seen),
-        (λ seen. VisibleBy-same (λ y touch r. counted p v at other y touch r) (λ y touch done. by_others done done) seen)))
-        (λ k other. or-none (written writes k) (committed (history ++ t ∷ []) (length (history ++ t ∷ [])) k) (both_ways (is_some (written writes k)) other))
+          (λ seen. VisibleBy-same (λ y touch done. by_others done done) (λ y touch r. counted p v at other y touch r) seen),
+          (λ seen. VisibleBy-same (λ y touch r. counted p v at other y touch r) (λ y touch done. by_others done done) seen),
+        ))
+        (λ k other. own_or-none (written writes k) (committed (history ++ t ∷ []) (length (history ++ t ∷ [])) k) (both_ways (is_some (written writes k)) other))
         h.rows current;
     whole = λ p y v at is reads x maker. whole p y v at is reads x maker;
   }
@@ -111,14 +115,17 @@ module _ (status status' : ℕ → Option Status) (store : Tid → Option Versio
     Levels-commit_by_statement earlier saved levels nested.1 traces.1 (fewer ws levels alone) h.2,
   )
 
-  -- The session as a whole, whose cursor, if it has one, sees nothing in progress.
-  pub SessionAgrees-commit_by_statement : {cursor_sees cursor_sees' : ℕ → Type 0} {e : SeenSession} {m : OpenSession} → SameSight status cursor_sees cursor_sees' → ((x : ℕ) → IsRunning status x → ¬ cursor_sees x)
+  -- The session as a whole.
+  pub SessionAgrees-commit_by_statement : {cursor_sees cursor_sees' : ℕ → Type 0} {e : SeenSession} {m : OpenSession} → (IsSome e.cursor → SameSight status cursor_sees cursor_sees')
       → ((x : ℕ) → Contains theirs x → ¬ Contains e.own x) → ((k : ℕ) → IsSome (own_write m k) → IsSome (written t k) → ⊥)
       → SessionAgrees status store history (λ x. HasCommitted status x) (length history) cursor_sees e m
       → SessionAgrees status' store (history ++ t ∷ []) (λ x. HasCommitted status' x) (length (history ++ t ∷ [])) cursor_sees' e m
-  SessionAgrees-commit_by_statement {cursor_sees} {cursor_sees'} {e} {m} same unseen foreign alone h = record {
+  SessionAgrees-commit_by_statement {cursor_sees} {cursor_sees'} {e} {m} same foreign alone h = record {
     same_failed = h.same_failed;
-    cursor = CursorAgrees-keeps (same_seen e.own (λ y done. IsCommitted-finish_old finishes y done) same back) h.cursor;
+    isolation = h.isolation;
+    kept = h.kept;
+    cursor = CursorAgrees-keeps (λ some. same_seen e.own (λ y done. IsCommitted-finish_old finishes y done) (same some) (reads_uncommitted e.own finishes (same some) (h.cursor_reads some).active_unseen)) h.cursor;
+    cursor_reads = λ some. CursorReads-commit_other t finishes (same some) (h.cursor_reads some);
     levels = Levels-commit_by_statement e.own e.saved m.levels (nested_of status store history (λ x. HasCommitted status x) (length history) e.own e.saved m.levels h.levels) h.level_traces alone h.levels;
     level_traces = h.level_traces;
     traces = record {
@@ -127,23 +134,9 @@ module _ (status status' : ℕ → Option Status) (store : Tid → Option Versio
     };
     began = omega arith;
     in_time = λ k wrote late. none_late (history ++ t ∷ []) k late;
-    active_unseen = λ y active done. let both : Some InProgress ≡ Some Committed = sym active ∙ done in cc;
+    active_unseen = λ y active done. running_uncommitted status' y active done;
     own_active = λ y mine. IsActive-finish_other finishes y (λ p. foreign y p mine) (h.own_active y mine);
   }
-    where
-      back : (y : ℕ) → Reads status' cursor_sees' e.own y → Reads status cursor_sees e.own y
-      back y (by_itself mine) = by_itself mine
-      back y (by_others seen done) = elim (IsCommitted-commit_cases finishes y done) [
-        | inl their ↦ (let active = finishes.active y their in absurd (unseen y active ((same y InProgress active).1 seen)))
-        | inr old ↦ by_others ((same y Committed old).1 seen) old
-      ]
-
--- Of ids given or rolled back, what has committed is seen as before.
-pub committed_sight-give : {status status' : ℕ → Option Status} (x : ℕ) → GivesNext status status' x → SameSight status (λ y. HasCommitted status y) (λ y. HasCommitted status' y)
-committed_sight-give x gives y s is = (λ done. keeps-give gives y Committed done, λ done. IsCommitted-give gives y done)
-
-pub committed_sight-abort : {status status' : ℕ → Option Status} (P : ℕ → Type 0) → FinishesIds status status' P Aborted → SameSight status (λ y. HasCommitted status y) (λ y. HasCommitted status' y)
-committed_sight-abort P finishes y s is = (λ done. IsCommitted-finish_old finishes y done, λ done. IsCommitted-abort finishes y done)
 
 -- A snapshot that is taken now reads the same: so a cursor may be opened.
 pub ReaderAgrees-opens : {status : ℕ → Option Status} {store : Tid → Option Version} {history : List Transaction} {sees : ℕ → Type 0} {start : ℕ} {own : List ℕ} {writes : List Write}

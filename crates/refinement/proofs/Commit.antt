@@ -10,34 +10,28 @@ use Rattle.tuple_header.specs.Version.{Version}
 use Rattle.commit_status.specs.declared.status.Status.{Status}
 use Rattle.commit_status.specs.declared.status.Status.TheVariants.{Committed}
 use Rattle.snapshot.specs.Snap.{Snap}
-use Rattle.history.specs.History.{Transaction, committed, own_or}
-use Rattle.history.specs.World.{World, OpenSession, joined, own_write, start_now, start_by}
+use Rattle.history.specs.History.{Transaction, committed, written, own_or}
+use Rattle.history.specs.World.{World, Isolation, by_snapshot, by_statement, OpenSession, joined, own_write, start_now, start_by}
 use Rattle.history.specs.Moves.{aborted, transaction_of, committed_by, appended}
 use Rattle.history.proofs.HistoryLemmas.{at_same, at_other, committed-push_all}
-use Rattle.refinement.specs.Heap.{SeenSession, Heap}
-use Rattle.visibility.specs.Seeing.{HasCommitted, Reads, by_itself, by_others, VisibleBy, Touches}
+use Rattle.refinement.specs.Heap.{SeenIsolation, seen_by_snapshot, seen_by_statement, SeenSession, Heap, kept_snapshot, SightOfStatement, SightOfCursor, StatementSees, CursorSees}
+use Rattle.visibility.specs.Seeing.{HasCommitted, Reads, by_itself, by_others, VisibleBy, Touches, inserter, deleter}
 use Rattle.refinement.specs.Visible.{ReaderSees, At}
-use Rattle.refinement.specs.Changes.{FinishesIds}
-use Rattle.refinement.specs.Agrees.{ReaderAgrees, Traced, SessionAgrees, HeapAgrees}
+use Rattle.refinement.specs.Changes.{FinishesIds, SameSight}
+use Rattle.refinement.specs.Agrees.{Shows, ReaderAgrees, Traced, IsSameIsolation, SessionAgrees, HeapAgrees}
 use Rattle.refinement.proofs.ShowsLemmas.{Shows-by_key}
 use Rattle.refinement.proofs.Statuses.{IsCommitted-finish_old, IsCommitted-commit_cases, IsCommitted-commit, IsActive-finish, given-finish}
 use Rattle.visibility.proofs.Verdicts.{VisibleBy-same}
 use Rattle.refinement.proofs.Readers.{Levels-top}
+use Rattle.refinement.proofs.Isolations.{SameSights, cursor_same, statement_decided}
 use Rattle.refinement.proofs.Others.{SessionAgrees-commit_other}
+use Rattle.refinement.proofs.ByStatement.{own_or-some, own_or-none, SessionAgrees-commit_by_statement}
 use Rattle.refinement.proofs.SessionsLemmas.{opened-change, idle-change, owned-change, apart-change, alone-change}
-use Rattle.refinement.proofs.Steps.{OnlyIs, SameSights, waits-aborted, own_traced}
+use Rattle.refinement.proofs.Steps.{OnlyIs, waits-aborted, own_traced}
 
 -- to be seen is decided: what cannot be unseen is seen
 seen_or_not : (P : Type 0) → P ⊎ (¬ P) → ¬ (¬ P) → P
 seen_or_not P decided h = elim decided [ inl seen ↦ seen | inr unseen ↦ absurd (h unseen) ]
-
-own_or-some : (o : Option (Option Row)) (p q : Option Row) → IsSome o → own_or o p ≡ own_or o q
-own_or-some None p q some = cc
-own_or-some (Some r) p q some = refl
-
-own_or-none : (o : Option (Option Row)) (p : Option Row) → ¬ IsSome o → own_or o p ≡ p
-own_or-none None p none = refl
-own_or-none (Some r) p none = absurd (none refl)
 
 -- the world after the commit of the session, whose model is m
 abbrev pub with_transaction : World → ℕ → OpenSession → World
@@ -49,32 +43,39 @@ committed-is w s m there = ap (λ history. world history) (ap (appended w.histor
     world : List Transaction → World
     world history = record (aborted w s) { history = history }
 
--- who reads by snapshot starts where it did, whatever has committed since
-SessionAgrees-since : {status : ℕ → Option Status} {store : Tid → Option Version} {history : List Transaction} {sees : ℕ → Type 0} {e : SeenSession} {m : OpenSession} (before : List Transaction)
-    → SessionAgrees status store history sees (start_now before m) sees e m → SessionAgrees status store history sees (start_now history m) sees e m
-SessionAgrees-since {status} {store} {history} {sees} {e} {m} before h =
-    subst (λ start. SessionAgrees status store history sees start sees e m) (sym (ap (λ isolation. start_by isolation history) h.isolation)) h
+-- What a session commits is seen by the other sessions as their isolation has it.
+module _ (status status' : ℕ → Option Status) (sees sees' : Snap → ℕ → Type 0) (store : Tid → Option Version) (history : List Transaction) (theirs : List ℕ) (t : Transaction)
+    (finishes : FinishesIds status status' (λ x. Contains theirs x) Committed)
+    (carries : Traced store (λ x. Contains theirs x) t)
+    (current : Shows store (λ v. VisibleBy (HasCommitted status') v.header) (committed (history ++ t ∷ []) (length (history ++ t ∷ []))))
+    (made : (p : Tid) (y : ℕ) (v : Version) → At store p v → deleter v.header ≡ Some y → HasCommitted status' y → (x : ℕ) → inserter v.header ≡ Some x → HasCommitted status' x) where
+  other_commits : {e : SeenSession} {m : OpenSession} (seen : SeenIsolation) (model : Isolation) → IsSameIsolation seen model
+      → ((snap : Snap) → kept_snapshot seen ≡ Some snap → SameSight status (sees snap) (sees' snap)) → (IsSome e.cursor → SameSight status (SightOfCursor status sees seen) (SightOfCursor status' sees' seen))
+      → ((x : ℕ) → Contains theirs x → ¬ Contains e.own x) → ((k : ℕ) → IsSome (own_write m k) → IsSome (written t k) → ⊥)
+      → SessionAgrees status store history (SightOfStatement status sees seen) (start_by model history) (SightOfCursor status sees seen) e m
+      → SessionAgrees status' store (history ++ t ∷ []) (SightOfStatement status' sees' seen) (start_by model (history ++ t ∷ [])) (SightOfCursor status' sees' seen) e m
+  other_commits (seen_by_snapshot snap) (by_snapshot start) alike same cursor_same foreign alone old =
+      SessionAgrees-commit_other theirs t finishes (same snap refl) cursor_same foreign carries alone old
+  other_commits (seen_by_snapshot snap) by_statement alike same cursor_same foreign alone old = absurd alike
+  other_commits (seen_by_statement kept) (by_snapshot start) alike same cursor_same foreign alone old = absurd alike
+  other_commits (seen_by_statement kept) by_statement alike same cursor_same foreign alone old =
+      SessionAgrees-commit_by_statement status status' store history theirs t finishes carries current made cursor_same foreign alone old
 
 pub Agrees-commit : (h : Heap) (w : World) (s : ℕ) (e : SeenSession) (m : OpenSession) (status' : ℕ → Option Status) (sees' : Snap → ℕ → Type 0) (session' : ℕ → Option SeenSession)
     → OnlyIs h.session session' s None → h.session s ≡ Some e → w.session s ≡ Some m
-    → FinishesIds h.status status' (λ x. Contains e.own x) Committed → SameSights h sees' → ((x : ℕ) → h.sees e.snapshot x ⊎ (¬ h.sees e.snapshot x))
-    → SessionAgrees h.status h.version w.history (h.sees e.snapshot) (start_now w.history m) (h.sees e.snapshot) e m
+    → FinishesIds h.status status' (λ x. Contains e.own x) Committed → SameSights h sees' → ((snap : Snap) (x : ℕ) → h.sees snap x ⊎ (¬ h.sees snap x))
+    → SessionAgrees h.status h.version w.history (StatementSees h e.isolation) (start_now w.history m) (CursorSees h e.isolation) e m
     → HeapAgrees h w → HeapAgrees (record h { status = status'; sees = sees'; session = session' }) (with_transaction w s m)
 Agrees-commit h w s e m status' sees' session' only at there finishes same decided mine agrees = record {
   opened = opened-change h h' w w' s agrees only.others models
-      (λ o f n ne bt there' old. SessionAgrees-since w.history (SessionAgrees-commit_other e.own (transaction_of m) finishes (same o f bt) (λ x ours theirs. ne (agrees.apart o s f e x bt at theirs ours)) carries
-      (λ k theirs ours. ne (agrees.alone o s k (n, there', theirs) (m, there, ours))) old))
+      (λ o f n ne bt there' old. other_commits h.status status' h.sees sees' h.version w.history e.own (transaction_of m) finishes carries current made f.isolation n.isolation old.isolation
+      (λ snap is. same snap (o, f, bt, is)) (λ some. cursor_same h status' sees' o f bt same (old.kept some)) (λ x ours theirs. ne (agrees.apart o s f e x bt at theirs ours))
+      (λ k theirs ours. ne (agrees.alone o s k (n, there', theirs) (m, there, ours))) old)
       (λ e' at'. absurd (none-some e' (sym only.itself ∙ at')));
   idle = idle-change h h' w w' s agrees only.others models (λ at'. at_same s None (w.session s));
   waits = waits-aborted w s agrees.waits;
-  current = Shows-by_key (λ k. is_some (own_write m k))
-      (λ p v at' ours. (ours_to p v at' ours, ours_back p v at' ours)) (λ k ours. rows-after k ∙ own_or-some (own_write m k) (committed w.history (length w.history) k) (committed w.history (start_now w.history m) k) ours)
-      (λ p v at' theirs. (theirs_to p v at' theirs, theirs_back p v at' theirs)) (λ k theirs. rows-after k ∙ own_or-none (own_write m k) (committed w.history (length w.history) k) (both_ways (is_some (own_write m k)) theirs))
-      top.rows agrees.current;
-  made = λ p y v at' is done z inserter. elim (IsCommitted-commit_cases finishes y done) [
-    | inl ours ↦ to z (top.whole p y v at' is (by_itself ours) z inserter)
-    | inr old ↦ IsCommitted-finish_old finishes z (agrees.made p y v at' is old z inserter)
-  ];
+  current = current;
+  made = made;
   given = λ p y v at' touch. given-finish finishes y (agrees.given p y v at' touch);
   owned = owned-change h h' w w' s agrees only.others models (λ y after. let left = IsActive-finish (λ e. cc) finishes y after in
       inl (left.0, λ e' at' own'. let is : e' ≡ e = same_Some e' e (sym at' ∙ at) in left.1 (subst (λ (e : SeenSession). Contains e.own y) is own')));
@@ -88,7 +89,7 @@ Agrees-commit h w s e m status' sees' session' only at there finishes same decid
     w' : World
     w' = with_transaction w s m
 
-    top : ReaderAgrees h.status h.version w.history (h.sees e.snapshot) (start_now w.history m) e.own (joined m.levels)
+    top : ReaderAgrees h.status h.version w.history (StatementSees h e.isolation) (start_now w.history m) e.own (joined m.levels)
     top = Levels-top e.own e.saved m.levels mine.levels
 
     carries : Traced h.version (λ x. Contains e.own x) (joined m.levels)
@@ -98,23 +99,23 @@ Agrees-commit h w s e m status' sees' session' only at there finishes same decid
     rows-after k = committed-push_all w.history (transaction_of m) k
 
     -- the versions of a key that the session wrote: a new session sees those that it saw itself
-    seen_by_it : (p : Tid) (y : ℕ) (v : Version) → At h.version p v → IsSome (own_write m v.row.key) → Touches y v.header → HasCommitted h.status y → h.sees e.snapshot y
-    seen_by_it p y v at' ours touch done = seen_or_not (h.sees e.snapshot y) (decided y) (λ unseen. mine.in_time v.row.key ours (mine.traces.missed_late p v at' (y, (touch, done, unseen))))
+    seen_by_it : (p : Tid) (y : ℕ) (v : Version) → At h.version p v → IsSome (own_write m v.row.key) → Touches y v.header → HasCommitted h.status y → StatementSees h e.isolation y
+    seen_by_it p y v at' ours touch done = seen_or_not (StatementSees h e.isolation y) (statement_decided h e.isolation decided y) (λ unseen. mine.in_time v.row.key ours (mine.traces.missed_late p v at' (y, (touch, done, unseen))))
 
-    to : (y : ℕ) → Reads h.status (h.sees e.snapshot) e.own y → HasCommitted status' y
+    to : (y : ℕ) → Reads h.status (StatementSees h e.isolation) e.own y → HasCommitted status' y
     to y (by_itself ours) = IsCommitted-commit finishes y ours
     to y (by_others seen done) = IsCommitted-finish_old finishes y done
 
-    back : (p : Tid) (y : ℕ) (v : Version) → At h.version p v → IsSome (own_write m v.row.key) → Touches y v.header → HasCommitted status' y → Reads h.status (h.sees e.snapshot) e.own y
+    back : (p : Tid) (y : ℕ) (v : Version) → At h.version p v → IsSome (own_write m v.row.key) → Touches y v.header → HasCommitted status' y → Reads h.status (StatementSees h e.isolation) e.own y
     back p y v at' ours touch done = elim (IsCommitted-commit_cases finishes y done) [
       | inl own ↦ by_itself own
       | inr old ↦ by_others (seen_by_it p y v at' ours touch old) old
     ]
 
-    ours_to : (p : Tid) (v : Version) → At h.version p v → IsSome (own_write m v.row.key) → ReaderSees h.status (h.sees e.snapshot) e.own v → VisibleBy (HasCommitted status') v.header
+    ours_to : (p : Tid) (v : Version) → At h.version p v → IsSome (own_write m v.row.key) → ReaderSees h.status (StatementSees h e.isolation) e.own v → VisibleBy (HasCommitted status') v.header
     ours_to p v at' ours seen = VisibleBy-same (λ y touch r. to y r) (λ y touch r. back p y v at' ours touch r) seen
 
-    ours_back : (p : Tid) (v : Version) → At h.version p v → IsSome (own_write m v.row.key) → VisibleBy (HasCommitted status') v.header → ReaderSees h.status (h.sees e.snapshot) e.own v
+    ours_back : (p : Tid) (v : Version) → At h.version p v → IsSome (own_write m v.row.key) → VisibleBy (HasCommitted status') v.header → ReaderSees h.status (StatementSees h e.isolation) e.own v
     ours_back p v at' ours seen = VisibleBy-same (λ y touch r. back p y v at' ours touch r) (λ y touch r. to y r) seen
 
     -- of any other key: those that it saw before
@@ -132,3 +133,15 @@ Agrees-commit h w s e m status' sees' session' only at there finishes same decid
 
     models : (o : ℕ) → o ≢ s → w'.session o ≡ w.session o
     models o ne = at_other o s None (w.session o) ne
+
+    current : Shows h.version (λ v. VisibleBy (HasCommitted status') v.header) (committed w'.history (length w'.history))
+    current = Shows-by_key (λ k. is_some (own_write m k))
+        (λ p v at' ours. (ours_to p v at' ours, ours_back p v at' ours)) (λ k ours. rows-after k ∙ own_or-some (own_write m k) (committed w.history (length w.history) k) (committed w.history (start_now w.history m) k) ours)
+        (λ p v at' theirs. (theirs_to p v at' theirs, theirs_back p v at' theirs)) (λ k theirs. rows-after k ∙ own_or-none (own_write m k) (committed w.history (length w.history) k) (both_ways (is_some (own_write m k)) theirs))
+        top.rows agrees.current
+
+    made : (p : Tid) (y : ℕ) (v : Version) → At h.version p v → deleter v.header ≡ Some y → HasCommitted status' y → (x : ℕ) → inserter v.header ≡ Some x → HasCommitted status' x
+    made p y v at' is done z makes = elim (IsCommitted-commit_cases finishes y done) [
+      | inl ours ↦ to z (top.whole p y v at' is (by_itself ours) z makes)
+      | inr old ↦ IsCommitted-finish_old finishes z (agrees.made p y v at' is old z makes)
+    ]

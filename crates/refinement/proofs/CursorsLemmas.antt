@@ -11,6 +11,7 @@ use Rattle.refinement.specs.Heap.{Position}
 use Rattle.refinement.specs.Visible.{At}
 use Rattle.refinement.specs.Changes.{AddsVersion, Alters, MayRemove}
 use Rattle.refinement.specs.Cursors.{Comes, Remains, CursorAgrees}
+use Rattle.refinement.proofs.Statuses.{none_given}
 use Rattle.refinement.proofs.Versions.{Adds-cases, Adds-old, Alters-cases, Alters-same}
 
 -- each version that is seen stands where one with its row stood that was seen, and the other way round
@@ -32,11 +33,11 @@ Remains-keeps keeps h = record {
   there = λ k row is. let was = h.there k row is in (Comes-keeps keeps was.0, was.1);
 }
 
-pub CursorAgrees-keeps : {store store' : Tid → Option Version} {V V' : Version → Type 0} {position : Option Position} {c : Option Cursor} → KeepsSeen store store' V V'
+pub CursorAgrees-keeps : {store store' : Tid → Option Version} {V V' : Version → Type 0} {position : Option Position} {c : Option Cursor} → (IsSome position → KeepsSeen store store' V V')
     → CursorAgrees store V position c → CursorAgrees store' V' position c
 CursorAgrees-keeps keeps h = record {
   closed = h.closed;
-  opened = λ p is. let was = h.opened p is in (was.0, was.1, Remains-keeps keeps was.2);
+  opened = λ p is. let was = h.opened p is in (was.0, was.1, Remains-keeps (keeps (subst (λ o. IsSome o) (sym is) refl)) was.2);
 }
 
 -- where the model has no cursor, whatever changes
@@ -65,6 +66,10 @@ position_of (Some p) some = (p, refl)
 pub some_model : {store : Tid → Option Version} {V : Version → Type 0} {position : Option Position} {c : Option Cursor} → IsSome position → CursorAgrees store V position c → IsSome c
 some_model {store} {V} {position} {c} some h =
     let p = position_of position some in let model = h.opened p.0 p.1 in subst (λ o. IsSome o) (sym model.1) refl
+
+-- where the model has no cursor, the session has none
+pub bare_position : {store : Tid → Option Version} {V : Version → Type 0} {position : Option Position} {c : Option Cursor} → c ≡ None → CursorAgrees store V position c → ¬ IsSome position
+bare_position {store} {V} {position} {c} bare h some = none_given c bare (some_model some h)
 
 -- The versions that are seen stay where they are.
 

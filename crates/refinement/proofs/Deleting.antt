@@ -10,7 +10,7 @@ use Rattle.history.specs.History.{Write, written, IsLate}
 use Rattle.history.specs.World.{World, OpenSession, joined, own_write, Holds, start_now}
 use Rattle.history.specs.Moves.{put, without_row}
 use Rattle.history.proofs.HistoryLemmas.{at_same, at_other, joined-add_write}
-use Rattle.refinement.specs.Heap.{SeenSession, Heap}
+use Rattle.refinement.specs.Heap.{SeenSession, Heap, StatementSees, CursorSees}
 use Rattle.visibility.specs.Seeing.{HasCommitted, IsRunning, by_others, VisibleBy, Touches, made_by, deleted_by, deleter}
 use Rattle.refinement.specs.Visible.{ReaderSees}
 use Rattle.refinement.specs.Changes.{Alters}
@@ -27,8 +27,8 @@ use Rattle.refinement.proofs.Steps.{waits-put, own_traced}
 -- the version is deleted under an id that the session has
 pub Agrees-delete : (h : Heap) (w : World) (s : ℕ) (e : SeenSession) (m : OpenSession) (x : ℕ) (place : Tid) (old new : Version) (store' : Tid → Option Version)
     → Alters h.version store' place old new → IsDeleted x old new → h.session s ≡ Some e → IsCurrent e x → w.session s ≡ Some m → m.cursor ≡ None
-    → ReaderSees h.status (h.sees e.snapshot) e.own old → ¬ IsLate w.history (start_now w.history m) old.row.key → ((o : ℕ) → o ≢ s → ¬ Holds w o old.row.key)
-    → SessionAgrees h.status h.version w.history (h.sees e.snapshot) (start_now w.history m) (h.sees e.snapshot) e m
+    → ReaderSees h.status (StatementSees h e.isolation) e.own old → ¬ IsLate w.history (start_now w.history m) old.row.key → ((o : ℕ) → o ≢ s → ¬ Holds w o old.row.key)
+    → SessionAgrees h.status h.version w.history (StatementSees h e.isolation) (start_now w.history m) (CursorSees h e.isolation) e m
     → HeapAgrees h w → HeapAgrees (record h { version = store' }) (put w s (Some (without_row w.history old.row.key m)))
 Agrees-delete h w s e m x place old new store' alters deleted at current there bare seen in_time unheld mine agrees = record {
   opened = opened-change h h' w w' s agrees (λ o ne. refl) models

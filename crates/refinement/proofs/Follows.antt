@@ -16,7 +16,7 @@ use Rattle.calls.specs.declared.reply.Refusal.TheVariants as refusal
 use Rattle.calls.specs.Bars.{BarsOpen, BarsReady, BarsFree, BarsWithCursor}
 use Rattle.calls.proofs.BarsLemmas.{AreAlike, alike-open, alike-ready, alike-free, alike-with_cursor}
 use Rattle.refinement.specs.Allowed.{Allows}
-use Rattle.refinement.specs.Heap.{SeenSession, Heap, seen_sessions}
+use Rattle.refinement.specs.Heap.{seen_by_snapshot, seen_by_statement, SeenSession, Heap, StatementSees, seen_sessions}
 use Rattle.refinement.specs.Visible.{IsFreshSnapshot, ReaderSees}
 use Rattle.refinement.specs.Changes.{FinishesIds, MayRemove, IsPast}
 use Rattle.refinement.specs.Agrees.{HeapAgrees, Shows}
@@ -25,7 +25,8 @@ use Rattle.refinement.proofs.Readers.{Levels-top}
 use Rattle.refinement.proofs.CursorsLemmas.{some_model}
 use Rattle.refinement.proofs.Itself.{new_session}
 use Rattle.refinement.proofs.Pruning.{Agrees-prune}
-use Rattle.refinement.proofs.Steps.{OnlyIs, SameSights, waits-put, Agrees-begin, Agrees-abort}
+use Rattle.refinement.proofs.Isolations.{SameSights}
+use Rattle.refinement.proofs.Steps.{OnlyIs, waits-put, Agrees-begin, Agrees-begin_by_statement, Agrees-abort}
 use Rattle.refinement.proofs.Commit.{committed-is, Agrees-commit}
 
 -- a step that only passes
@@ -82,15 +83,27 @@ Follows-already_open h s e at w agrees = (let open_ = agrees.opened s e at in (o
 -- Begin.
 
 pub Follows-begin : (h : Heap) (s : ℕ) (snapshot : Snap) (session' : ℕ → Option SeenSession)
-    → OnlyIs h.session session' s (Some (new_session snapshot)) → s < 64 → h.session s ≡ None → ((w : World) → HeapAgrees h w → IsFreshSnapshot h.status (h.sees snapshot))
+    → OnlyIs h.session session' s (Some (new_session (seen_by_snapshot snapshot))) → s < 64 → h.session s ≡ None → ((w : World) → HeapAgrees h w → IsFreshSnapshot h.status (h.sees snapshot))
     → HeapFollows h (step.Begin s) reply.Done (record h { session = session' })
 Follows-begin h s snapshot session' only within idle fresh w agrees =
     ((within, agrees.idle s idle), Agrees-begin h w s snapshot session' only idle (fresh w agrees) agrees)
 
+-- BeginReadCommitted.
+
+pub Follows-begin_by_statement : (h : Heap) (s : ℕ) (session' : ℕ → Option SeenSession)
+    → OnlyIs h.session session' s (Some (new_session (seen_by_statement None))) → s < 64 → h.session s ≡ None → HeapFollows h (step.BeginReadCommitted s) reply.Done (record h { session = session' })
+Follows-begin_by_statement h s session' only within idle w agrees = ((within, agrees.idle s idle), Agrees-begin_by_statement h w s session' only idle agrees)
+
+pub Follows-begin_by_statement_refused : (h : Heap) (s : ℕ) (r : Refusal) → ((w : World) → HeapAgrees h w → Allows w (step.BeginReadCommitted s) (reply.Refused r)) → HeapFollows h (step.BeginReadCommitted s) (reply.Refused r) h
+Follows-begin_by_statement_refused h s r allows w agrees = (allows w agrees, Agrees-stepped h w s agrees)
+
+pub Follows-already_open_by_statement : (h : Heap) (s : ℕ) (e : SeenSession) → h.session s ≡ Some e → HeapFollows h (step.BeginReadCommitted s) (reply.Refused refusal.AlreadyOpen) h
+Follows-already_open_by_statement h s e at w agrees = (let open_ = agrees.opened s e at in (open_.0, open_.1), Agrees-stepped h w s agrees)
+
 -- Get.
 
 pub reads_rows : (h : Heap) (w : World) (s : ℕ) (e : SeenSession) (at : h.session s ≡ Some e) (agrees : HeapAgrees h w) → let m = (agrees.opened s e at).0 in
-    Shows h.version (ReaderSees h.status (h.sees e.snapshot) e.own) (view w.history m)
+    Shows h.version (ReaderSees h.status (StatementSees h e.isolation) e.own) (view w.history m)
 reads_rows h w s e at agrees = let open_ = agrees.opened s e at in (Levels-top e.own e.saved open_.0.levels open_.2.levels).rows
 
 found_is_row : (store : Tid → Option Version) (seen : Version → Type 0) (rows : ℕ → Option Row) (k : ℕ) (found : Option Row) → Shows store seen rows → FindsOfKey store seen k found → found ≡ rows k
@@ -103,12 +116,12 @@ found_is_row store seen rows k (Some row) shows some =
     ap Some some.4.1 ∙ (sym (shows.sound some.0 some.1 some.2 some.4.0) ∙ ap rows some.3)
 
 pub found_is_view : (h : Heap) (w : World) (s : ℕ) (e : SeenSession) (k : ℕ) (found : Option Row) (at : h.session s ≡ Some e) (agrees : HeapAgrees h w)
-    → FindsOfKey h.version (ReaderSees h.status (h.sees e.snapshot) e.own) k found → found ≡ view w.history (agrees.opened s e at).0 k
+    → FindsOfKey h.version (ReaderSees h.status (StatementSees h e.isolation) e.own) k found → found ≡ view w.history (agrees.opened s e at).0 k
 found_is_view h w s e k found at agrees finds =
-    found_is_row h.version (ReaderSees h.status (h.sees e.snapshot) e.own) (view w.history (agrees.opened s e at).0) k found (reads_rows h w s e at agrees) finds
+    found_is_row h.version (ReaderSees h.status (StatementSees h e.isolation) e.own) (view w.history (agrees.opened s e at).0) k found (reads_rows h w s e at agrees) finds
 
 pub Follows-get : (h : Heap) (s : ℕ) (e : SeenSession) (k : ℕ) (found : Option Row) → h.session s ≡ Some e → e.failed ≡ false
-    → FindsOfKey h.version (ReaderSees h.status (h.sees e.snapshot) e.own) k found → HeapFollows h (step.Get s k) (reply.Found found) h
+    → FindsOfKey h.version (ReaderSees h.status (StatementSees h e.isolation) e.own) k found → HeapFollows h (step.Get s k) (reply.Found found) h
 Follows-get h s e k found at sound finds w agrees = let open_ = agrees.opened s e at in (
   (open_.0, record { there = open_.1; sound = sym open_.2.same_failed ∙ sound }, found_is_view h w s e k found at agrees finds),
   Agrees-stepped h w s agrees,
@@ -129,7 +142,7 @@ Follows-commit_failed h s e status' sees' session' only at failed finishes same 
     ((open_.0, open_.1, sym open_.2.same_failed ∙ failed), Agrees-abort h w s e status' sees' session' only at (finishes w agrees) same agrees)
 
 pub Follows-commit : (h : Heap) (s : ℕ) (e : SeenSession) (status' : ℕ → Option Status) (sees' : Snap → ℕ → Type 0) (session' : ℕ → Option SeenSession)
-    → OnlyIs h.session session' s None → h.session s ≡ Some e → e.failed ≡ false → ((w : World) → HeapAgrees h w → FinishesIds h.status status' (λ x. Contains e.own x) Committed) → SameSights h sees' → ((x : ℕ) → h.sees e.snapshot x ⊎ (¬ h.sees e.snapshot x))
+    → OnlyIs h.session session' s None → h.session s ≡ Some e → e.failed ≡ false → ((w : World) → HeapAgrees h w → FinishesIds h.status status' (λ x. Contains e.own x) Committed) → SameSights h sees' → ((snap : Snap) (x : ℕ) → h.sees snap x ⊎ (¬ h.sees snap x))
     → HeapFollows h (step.Commit s) reply.Committed (record h { status = status'; sees = sees'; session = session' })
 Follows-commit h s e status' sees' session' only at sound finishes same decided w agrees = let open_ = agrees.opened s e at in (
   (open_.0, record { there = open_.1; sound = sym open_.2.same_failed ∙ sound }),

@@ -9,8 +9,9 @@ use Rattle.xid_circle.specs.declared.Tid.{Tid}
 use Rattle.tuple_header.specs.declared.version.Row.{Row}
 use Rattle.tuple_header.specs.Version.{Version}
 use Rattle.commit_status.specs.declared.status.Status.{Status}
+use Rattle.snapshot.specs.Snap.{Snap}
 use Rattle.history.specs.History.{Transaction}
-use Rattle.history.specs.World.{World, OpenSession, Cursor, by_index, by_heap, view, IsReady, world_sessions, start_now}
+use Rattle.history.specs.World.{World, Isolation, by_snapshot, by_statement, OpenSession, Cursor, by_index, by_heap, joined, view, IsReady, world_sessions, start_now}
 use Rattle.history.specs.Cursors.{rows_within, keys_of}
 use Rattle.history.specs.Moves.{change, past, with_taken}
 use Rattle.calls.specs.declared.step.Step.{Step}
@@ -22,38 +23,43 @@ use Rattle.calls.specs.declared.reply.Refusal.TheVariants as refusal
 use Rattle.calls.specs.Bars.{BarsFree, BarsWithCursor}
 use Rattle.calls.proofs.BarsLemmas.{of_free, of_with_cursor}
 use Rattle.refinement.specs.Allowed.{Allows, next}
-use Rattle.refinement.specs.Heap.{RowPosition, Position, in_index, in_heap, SeenSession, Heap, seen_sessions}
-use Rattle.refinement.specs.Visible.{ReaderSees, At}
+use Rattle.refinement.specs.Heap.{RowPosition, Position, in_index, in_heap, SeenIsolation, seen_by_snapshot, seen_by_statement, SeenSession, Heap, kept_snapshot, StatementSees, CursorSees, seen_sessions}
+use Rattle.refinement.specs.Visible.{ReaderSees, IsFreshSnapshot, At}
 use Rattle.refinement.specs.Cursors.{heap_start, Comes, Remains, CursorAgrees, WalksOver, Gathers}
-use Rattle.refinement.specs.Agrees.{Shows, SessionAgrees, HeapAgrees}
+use Rattle.refinement.specs.Agrees.{Shows, ReaderAgrees, IsSameIsolation, CursorReads, SessionAgrees, HeapAgrees}
 use Rattle.refinement.specs.Finds.{HeapFollows}
-use Rattle.refinement.proofs.Statuses.{Finishes-none}
+use Rattle.refinement.proofs.Statuses.{Finishes-none, none_given, some_of}
 use Rattle.refinement.proofs.CursorsLemmas.{CursorAgrees-none, CursorAgrees-some, some_model}
 use Rattle.refinement.proofs.CursorWalks.{from_first}
 use Rattle.refinement.proofs.Rests.{within_is, within_kept, none_left}
 use Rattle.refinement.proofs.Handing.{next_met, rest_met, SeenOnce, part_gathered, rest_gathered}
+use Rattle.refinement.proofs.ByStatement.{ReaderAgrees-opens}
 use Rattle.refinement.proofs.Readers.{Levels-top}
 use Rattle.refinement.proofs.Steps.{OnlyIs, same_sights}
 use Rattle.refinement.proofs.Savepoints.{Agrees-change}
 use Rattle.refinement.proofs.Follows.{allows_barred, allows_bare, Agrees-stepped}
 use Rattle.refinement.proofs.Hindrances.{writer}
 
--- the versions that a session sees
+-- the versions that a session's cursor sees
 abbrev pub seen_by : Heap → SeenSession → Version → Type 0
-seen_by h e = ReaderSees h.status (h.sees e.snapshot) e.own
+seen_by h e = ReaderSees h.status (CursorSees h e.isolation) e.own
 
 -- the session has not failed
 ready : (h : Heap) (w : World) (s : ℕ) (e : SeenSession) (at : h.session s ≡ Some e) (agrees : HeapAgrees h w) → e.failed ≡ false → IsReady w s (agrees.opened s e at).0
 ready h w s e at agrees sound = let open_ = agrees.opened s e at in record { there = open_.1; sound = sym open_.2.same_failed ∙ sound }
 
--- the cursor alone changes, on both sides
-SessionAgrees-cursor : {status : ℕ → Option Status} {store : Tid → Option Version} {history : List Transaction} {sees : ℕ → Type 0} {start : ℕ} {e : SeenSession} {m : OpenSession} (position : Option Position) (c : Option Cursor)
-    → CursorAgrees store (ReaderSees status sees e.own) position c
-    → SessionAgrees status store history sees start sees e m → SessionAgrees status store history sees start sees (record e { cursor = position }) (record m { cursor = c })
-SessionAgrees-cursor {status} {store} {history} {sees} {start} {e} {m} position c now mine = record {
+-- the cursor alone changes, on both sides, and the snapshot that is kept for it
+SessionAgrees-cursor : {status : ℕ → Option Status} {store : Tid → Option Version} {history : List Transaction} {sees cursor_sees cursor_sees' : ℕ → Type 0} {start : ℕ} {e : SeenSession} {m : OpenSession}
+    (isolation : SeenIsolation) (position : Option Position) (c : Option Cursor) → IsSameIsolation isolation m.isolation → (IsSome position → IsSome (kept_snapshot isolation))
+    → CursorAgrees store (ReaderSees status cursor_sees' e.own) position c → (IsSome position → CursorReads status store history cursor_sees' e.own (joined m.levels))
+    → SessionAgrees status store history sees start cursor_sees e m
+    → SessionAgrees status store history sees start cursor_sees' (record e { isolation = isolation; cursor = position }) (record m { cursor = c })
+SessionAgrees-cursor {status} {store} {history} {sees} {cursor_sees} {cursor_sees'} {start} {e} {m} isolation position c same kept now reads mine = record {
   same_failed = mine.same_failed;
-  isolation = mine.isolation;
+  isolation = same;
+  kept = kept;
   cursor = now;
+  cursor_reads = reads;
   levels = mine.levels;
   level_traces = mine.level_traces;
   traces = mine.traces;
@@ -63,13 +69,17 @@ SessionAgrees-cursor {status} {store} {history} {sees} {start} {e} {m} position 
   own_active = mine.own_active;
 }
 
-Agrees-cursor : (h : Heap) (w : World) (s : ℕ) (e : SeenSession) (position : Option Position) (f : OpenSession → Option Cursor) (session' : ℕ → Option SeenSession)
-    → OnlyIs h.session session' s (Some (record e { cursor = position })) → h.session s ≡ Some e
-    → ((m : OpenSession) → SessionAgrees h.status h.version w.history (h.sees e.snapshot) (start_now w.history m) (h.sees e.snapshot) e m → CursorAgrees h.version (seen_by h e) position (f m))
+-- an open session, and what it is in the model
+abbrev AgreesAs : Heap → World → SeenSession → OpenSession → Type 0
+AgreesAs h w e m = SessionAgrees h.status h.version w.history (StatementSees h e.isolation) (start_now w.history m) (CursorSees h e.isolation) e m
+
+Agrees-cursor : (h : Heap) (w : World) (s : ℕ) (e : SeenSession) (isolation : SeenIsolation) (position : Option Position) (f : OpenSession → Option Cursor) (session' : ℕ → Option SeenSession)
+    → OnlyIs h.session session' s (Some (record e { isolation = isolation; cursor = position })) → h.session s ≡ Some e
+    → ((m : OpenSession) → AgreesAs h w e m → AgreesAs h w (record e { isolation = isolation; cursor = position }) (record m { cursor = f m }))
     → HeapAgrees h w → HeapAgrees (record h { session = session' }) (change w s (λ m. record m { cursor = f m }))
-Agrees-cursor h w s e position f session' only at now agrees =
-    Agrees-change h w s e (record e { cursor = position }) (λ m. record m { cursor = f m }) h.status h.sees session' only at (Finishes-none h.status e.own) (same_sights h) (λ m mine x ours. ours)
-    (λ m k wrote. wrote) (λ m mine. SessionAgrees-cursor position (f m) (now m mine) mine) agrees
+Agrees-cursor h w s e isolation position f session' only at now agrees =
+    Agrees-change h w s e (record e { isolation = isolation; cursor = position }) (λ m. record m { cursor = f m }) h.status h.sees session' only at (Finishes-none h.status e.own) (same_sights h) (λ m mine x ours. ours)
+    (λ m k wrote. wrote) now agrees
 
 -- Opening.
 
@@ -101,25 +111,71 @@ remains_heap {store} {seen} {rows} shows = record {
   there = λ k row is. let some = shown k row shows is in (record { place = some.0; version = some.1; here = some.2; shown = some.3; same_row = some.4; to_come = from_first some.0 }, some.5);
 }
 
+-- By which snapshot a session reads when it has opened a cursor: by its own, as before; or by statement, and it keeps one that was
+-- taken now.
+abbrev pub OpensBy : Heap → SeenIsolation → SeenIsolation → Type 0
+OpensBy h (seen_by_snapshot snap) isolation = isolation ≡ seen_by_snapshot snap
+OpensBy h (seen_by_statement kept) isolation = (snap : Snap) × (isolation ≡ seen_by_statement (Some snap)) × IsFreshSnapshot h.status (h.sees snap)
+
+-- the session with this cursor
+abbrev pub with_cursor : SeenIsolation → Position → SeenSession → SeenSession
+with_cursor isolation position e = record e { isolation = isolation; cursor = Some position }
+
+abbrev with_model_cursor : Cursor → OpenSession → OpenSession
+with_model_cursor c m = record m { cursor = Some c }
+
+-- the cursor reads what the session's statement does
+opens : (h : Heap) (w : World) (e : SeenSession) (m : OpenSession) (position : Position) (c : Cursor) (before after : SeenIsolation) (model : Isolation) → OpensBy h before after → IsSameIsolation before model → m.isolation ≡ model
+    → ((seen : Version → Type 0) → Shows h.version seen (view w.history m) → Remains h.version seen position c)
+    → SessionAgrees h.status h.version w.history (StatementSees h before) (start_now w.history m) (CursorSees h before) e m
+    → SessionAgrees h.status h.version w.history (StatementSees h after) (start_now w.history m) (CursorSees h after) (with_cursor after position e) (with_model_cursor c m)
+opens h w e m position c (seen_by_snapshot snap) after (by_snapshot start) by same is remains mine =
+    subst (λ after. SessionAgrees h.status h.version w.history (StatementSees h after) (start_now w.history m) (CursorSees h after) (with_cursor after position e) (with_model_cursor c m)) (sym by)
+    (SessionAgrees-cursor (seen_by_snapshot snap) (Some position) (Some c) (subst (λ model. IsSameIsolation (seen_by_snapshot snap) model) (sym is) tt) (λ some. refl) (CursorAgrees-some (remains (ReaderSees h.status (h.sees snap) e.own) top.rows))
+    (λ some. record { start = start_now w.history m; began = mine.began; reads = top; active_unseen = mine.active_unseen }) mine)
+  where
+    top : ReaderAgrees h.status h.version w.history (h.sees snap) (start_now w.history m) e.own (joined m.levels)
+    top = Levels-top e.own e.saved m.levels mine.levels
+opens h w e m position c (seen_by_snapshot snap) after by_statement by same is remains mine = absurd same
+opens h w e m position c (seen_by_statement kept) after (by_snapshot start) by same is remains mine = absurd same
+opens h w e m position c (seen_by_statement kept) after by_statement by same is remains mine =
+    subst (λ after. SessionAgrees h.status h.version w.history (StatementSees h after) (start_now w.history m) (CursorSees h after) (with_cursor after position e) (with_model_cursor c m)) (sym by.1)
+    (SessionAgrees-cursor (seen_by_statement (Some by.0)) (Some position) (Some c) (subst (λ model. IsSameIsolation (seen_by_statement (Some by.0)) model) (sym is) tt) (λ some. refl) (CursorAgrees-some (remains (ReaderSees h.status (h.sees by.0) e.own) top.rows))
+    (λ some. record { start = start_now w.history m; began = mine.began; reads = top; active_unseen = by.2.active }) mine)
+  where
+    top : ReaderAgrees h.status h.version w.history (h.sees by.0) (start_now w.history m) e.own (joined m.levels)
+    top = ReaderAgrees-opens by.2 (Levels-top e.own e.saved m.levels mine.levels)
+
 -- as `HeapFollows` has it, of the worlds of P
 abbrev pub FollowsWhere : (World → Type 0) → Heap → Step → Reply → Heap → Type 0
 FollowsWhere P old step reply new = (w : World) → P w → HeapAgrees old w → Allows w step reply × HeapAgrees new (next w step reply)
 
-pub Follows-open_index : (h : Heap) (s : ℕ) (e : SeenSession) (index : ℕ) (low high : ℤ) (session' : ℕ → Option SeenSession) → OnlyIs h.session session' s (Some (record e { cursor = Some (in_index index low high None) }))
+pub Follows-open_index : (h : Heap) (s : ℕ) (e : SeenSession) (index : ℕ) (low high : ℤ) (isolation : SeenIsolation) (session' : ℕ → Option SeenSession)
+    → OnlyIs h.session session' s (Some (with_cursor isolation (in_index index low high None) e)) → ((w : World) → HeapAgrees h w → OpensBy h e.isolation isolation)
     → h.session s ≡ Some e → e.failed ≡ false → e.cursor ≡ None → low ≤ℤ high → FollowsWhere (λ w. w.has_index index ≡ true) h (step.OpenIndex s index low high) reply.Done (record h { session = session' })
-Follows-open_index h s e index low high session' only at sound bare order w there agrees = (
+Follows-open_index h s e index low high isolation session' only by at sound bare order w there agrees = (
   ((agrees.opened s e at).0, writer h w s e at agrees sound bare, there, order),
-  Agrees-cursor h w s e (Some (in_index index low high None)) (λ m. Some (record { order = by_index index; rest = rows_within index low high (view w.history m) })) session' only at
-      (λ m mine. CursorAgrees-some (remains_index index low high (Levels-top e.own e.saved m.levels mine.levels).rows)) agrees,
+  Agrees-cursor h w s e isolation (Some (in_index index low high None)) (λ m. Some (record { order = by_index index; rest = rows_within index low high (view w.history m) })) session' only at
+      (λ m mine. opens h w e m (in_index index low high None) (record { order = by_index index; rest = rows_within index low high (view w.history m) }) e.isolation isolation m.isolation (by w agrees) mine.isolation refl
+      (λ seen shows. remains_index index low high shows) mine) agrees,
 )
 
-pub Follows-open_heap : (h : Heap) (s : ℕ) (e : SeenSession) (session' : ℕ → Option SeenSession) → OnlyIs h.session session' s (Some (record e { cursor = Some (in_heap heap_start) }))
-    → h.session s ≡ Some e → e.failed ≡ false → e.cursor ≡ None → HeapFollows h (step.OpenHeap s) reply.Done (record h { session = session' })
-Follows-open_heap h s e session' only at sound bare w agrees = (
+pub Follows-open_heap : (h : Heap) (s : ℕ) (e : SeenSession) (isolation : SeenIsolation) (session' : ℕ → Option SeenSession) → OnlyIs h.session session' s (Some (with_cursor isolation (in_heap heap_start) e))
+    → ((w : World) → HeapAgrees h w → OpensBy h e.isolation isolation) → h.session s ≡ Some e → e.failed ≡ false → e.cursor ≡ None → HeapFollows h (step.OpenHeap s) reply.Done (record h { session = session' })
+Follows-open_heap h s e isolation session' only by at sound bare w agrees = (
   ((agrees.opened s e at).0, writer h w s e at agrees sound bare),
-  Agrees-cursor h w s e (Some (in_heap heap_start)) (λ m. Some (record { order = by_heap; rest = view w.history m })) session' only at
-      (λ m mine. CursorAgrees-some (remains_heap (Levels-top e.own e.saved m.levels mine.levels).rows)) agrees,
+  Agrees-cursor h w s e isolation (Some (in_heap heap_start)) (λ m. Some (record { order = by_heap; rest = view w.history m })) session' only at
+      (λ m mine. opens h w e m (in_heap heap_start) (record { order = by_heap; rest = view w.history m }) e.isolation isolation m.isolation (by w agrees) mine.isolation refl (λ seen shows. remains_heap shows) mine) agrees,
 )
+
+-- there is no memory for a list of the ids in progress
+
+pub Follows-open_index_no_memory : (h : Heap) (s : ℕ) (e : SeenSession) (index : ℕ) (low high : ℤ) → h.session s ≡ Some e → e.failed ≡ false → e.cursor ≡ None → low ≤ℤ high
+    → FollowsWhere (λ w. w.has_index index ≡ true) h (step.OpenIndex s index low high) (reply.Refused refusal.NoMemory) h
+Follows-open_index_no_memory h s e index low high at sound bare order w there agrees = (((agrees.opened s e at).0, writer h w s e at agrees sound bare, there, order), Agrees-stepped h w s agrees)
+
+pub Follows-open_heap_no_memory : (h : Heap) (s : ℕ) (e : SeenSession) → h.session s ≡ Some e → e.failed ≡ false → e.cursor ≡ None → HeapFollows h (step.OpenHeap s) (reply.Refused refusal.NoMemory) h
+Follows-open_heap_no_memory h s e at sound bare w agrees = (((agrees.opened s e at).0, writer h w s e at agrees sound bare), Agrees-stepped h w s agrees)
 
 pub Follows-no_such_index : (h : Heap) (s : ℕ) (e : SeenSession) (index : ℕ) (low high : ℤ) → h.session s ≡ Some e → e.failed ≡ false → e.cursor ≡ None
     → FollowsWhere (λ w. w.has_index index ≡ false) h (step.OpenIndex s index low high) (reply.Refused refusal.NoSuchIndex) h
@@ -145,8 +201,8 @@ model_at : (h : Heap) (w : World) (s : ℕ) (e : SeenSession) (position : Positi
 model_at h w s e position at agrees is = (agrees.opened s e at).2.cursor.opened position is
 
 -- of each key it sees one version
-seen_once : (h : Heap) (w : World) (s : ℕ) (e : SeenSession) → h.session s ≡ Some e → HeapAgrees h w → SeenOnce h.version (seen_by h e)
-seen_once h w s e at agrees = let open_ = agrees.opened s e at in (Levels-top e.own e.saved open_.0.levels open_.2.levels).rows.one
+seen_once : (h : Heap) (w : World) (s : ℕ) (e : SeenSession) (position : Position) → h.session s ≡ Some e → HeapAgrees h w → e.cursor ≡ Some position → SeenOnce h.version (seen_by h e)
+seen_once h w s e position at agrees is = ((agrees.opened s e at).2.cursor_reads (some_of position e.cursor is)).reads.rows.one
 
 -- these rows are handed out, and those that come at the new position are left
 Agrees-taken : (h : Heap) (w : World) (s : ℕ) (e : SeenSession) (position position' : Position) (rows : List Row) (session' : ℕ → Option SeenSession)
@@ -154,9 +210,11 @@ Agrees-taken : (h : Heap) (w : World) (s : ℕ) (e : SeenSession) (position posi
     → ((c : Cursor) → Remains h.version (seen_by h e) position c → Remains h.version (seen_by h e) position' (past (keys_of rows) c))
     → HeapAgrees h w → HeapAgrees (record h { session = session' }) (change w s (with_taken (keys_of rows)))
 Agrees-taken h w s e position position' rows session' only at is left agrees =
-    Agrees-cursor h w s e (Some position') (λ m. option_map (past (keys_of rows)) m.cursor) session' only at
+    Agrees-cursor h w s e e.isolation (Some position') (λ m. option_map (past (keys_of rows)) m.cursor) session' only at
     (λ m mine. let model = mine.cursor.opened position is in
-    subst (λ o. CursorAgrees h.version (seen_by h e) (Some position') (option_map (past (keys_of rows)) o)) (sym model.1) (CursorAgrees-some (left model.0 model.2))) agrees
+    SessionAgrees-cursor e.isolation (Some position') (option_map (past (keys_of rows)) m.cursor) mine.isolation (λ some. mine.kept (some_of position e.cursor is))
+    (subst (λ o. CursorAgrees h.version (seen_by h e) (Some position') (option_map (past (keys_of rows)) o)) (sym model.1) (CursorAgrees-some (left model.0 model.2)))
+    (λ some. mine.cursor_reads (some_of position e.cursor is)) mine) agrees
 
 -- the rows that a walk in the index meets, the first that come: as many as were asked for, or all
 pub Follows-next_in_index : (h : Heap) (s : ℕ) (e : SeenSession) (index : ℕ) (low high : ℤ) (from to : Option RowPosition) (n : ℕ) (rows : Vec Row Global) (session' : ℕ → Option SeenSession)
@@ -175,7 +233,7 @@ pub Follows-next_in_heap : (h : Heap) (s : ℕ) (e : SeenSession) (from to : Tid
     → OnlyIs h.session session' s (Some (record e { cursor = Some (in_heap to) })) → h.session s ≡ Some e → e.failed ≡ false → e.cursor ≡ Some (in_heap from)
     → Gathers h.version (seen_by h e) from to rows.items → 0 < length rows.items → HeapFollows h (step.Next s n) (reply.Rows rows) (record h { session = session' })
 Follows-next_in_heap h s e from to n rows session' only at sound is gathers some w agrees =
-    let model = model_at h w s e (in_heap from) at agrees is in let one = seen_once h w s e at agrees in (
+    let model = model_at h w s e (in_heap from) at agrees is in let one = seen_once h w s e (in_heap from) at agrees is in (
       ((agrees.opened s e at).0, model.0, ready h w s e at agrees sound, model.1, part_gathered model.2 gathers one n some),
       Agrees-taken h w s e (in_heap from) (in_heap to) rows.items session' only at is (λ c remains. rest_gathered remains gathers one) agrees,
     )
@@ -202,11 +260,27 @@ Follows-bare_next h s n r is w agrees =
 
 -- Close.
 
-pub Follows-close : (h : Heap) (s : ℕ) (e : SeenSession) (session' : ℕ → Option SeenSession) → OnlyIs h.session session' s (Some (record e { cursor = None }))
+-- by statement, it keeps no snapshot any more
+abbrev pub without_kept : SeenIsolation → SeenIsolation
+without_kept (seen_by_snapshot snap) = seen_by_snapshot snap
+without_kept (seen_by_statement kept) = seen_by_statement None
+
+closes : (h : Heap) (w : World) (e : SeenSession) (m : OpenSession) (before : SeenIsolation) (model : Isolation) → IsSameIsolation before model → m.isolation ≡ model
+    → SessionAgrees h.status h.version w.history (StatementSees h before) (start_now w.history m) (CursorSees h before) e m
+    → SessionAgrees h.status h.version w.history (StatementSees h (without_kept before)) (start_now w.history m) (CursorSees h (without_kept before)) (record e { isolation = without_kept before; cursor = None }) (record m { cursor = None })
+closes h w e m (seen_by_snapshot snap) (by_snapshot start) same is mine =
+    SessionAgrees-cursor (seen_by_snapshot snap) None None (subst (λ model. IsSameIsolation (seen_by_snapshot snap) model) (sym is) tt) (λ some. refl) (CursorAgrees-none refl refl) (λ some. absurd (none_given {A = Position} None refl some)) mine
+closes h w e m (seen_by_snapshot snap) by_statement same is mine = absurd same
+closes h w e m (seen_by_statement kept) (by_snapshot start) same is mine = absurd same
+closes h w e m (seen_by_statement kept) by_statement same is mine =
+    SessionAgrees-cursor (seen_by_statement None) None None (subst (λ model. IsSameIsolation (seen_by_statement None) model) (sym is) tt) (λ some. absurd (none_given {A = Position} None refl some)) (CursorAgrees-none refl refl)
+    (λ some. absurd (none_given {A = Position} None refl some)) mine
+
+pub Follows-close : (h : Heap) (s : ℕ) (e : SeenSession) (session' : ℕ → Option SeenSession) → OnlyIs h.session session' s (Some (record e { isolation = without_kept e.isolation; cursor = None }))
     → h.session s ≡ Some e → e.failed ≡ false → IsSome e.cursor → HeapFollows h (step.Close s) reply.Done (record h { session = session' })
 Follows-close h s e session' only at sound some w agrees = let open_ = agrees.opened s e at in (
   (open_.0, ready h w s e at agrees sound, some_model some open_.2.cursor),
-  Agrees-cursor h w s e None (λ m. None) session' only at (λ m mine. CursorAgrees-none refl refl) agrees,
+  Agrees-cursor h w s e (without_kept e.isolation) None (λ m. None) session' only at (λ m mine. closes h w e m e.isolation m.isolation mine.isolation refl mine) agrees,
 )
 
 pub Follows-bare_close : (h : Heap) (s : ℕ) (r : Refusal) → BarsWithCursor (seen_sessions h) s r → HeapFollows h (step.Close s) (reply.Refused r) h

@@ -19,7 +19,8 @@ use Rattle.refinement.specs.Agrees.{HeapAgrees}
 use Rattle.refinement.specs.Finds.{HeapFollows}
 use Rattle.refinement.proofs.CursorsLemmas.{some_model}
 use Rattle.refinement.proofs.Itself.{levels_count}
-use Rattle.refinement.proofs.Steps.{OnlyIs, SameSights}
+use Rattle.refinement.proofs.Isolations.{SameSights}
+use Rattle.refinement.proofs.Steps.{OnlyIs}
 use Rattle.refinement.proofs.Savepoints.{Agrees-save, Agrees-roll_back, Agrees-release}
 use Rattle.refinement.proofs.Follows.{allows_closed, allows_barred, Agrees-stepped}
 use Rattle.refinement.proofs.Hindrances.{writer}

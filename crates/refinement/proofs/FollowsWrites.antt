@@ -15,7 +15,7 @@ use Rattle.calls.specs.declared.reply.Reply.TheVariants as reply
 use Rattle.calls.specs.Words.{RowToWrite, FitsRow, row_of}
 use Rattle.calls.specs.Writes.{inserts, updates, deletes}
 use Rattle.refinement.specs.Allowed.{Allows, next}
-use Rattle.refinement.specs.Heap.{SeenSession, Heap}
+use Rattle.refinement.specs.Heap.{SeenSession, Heap, StatementSees, CursorSees}
 use Rattle.refinement.specs.Visible.{ReaderSees, At}
 use Rattle.refinement.specs.Changes.{AddsVersion, Alters}
 use Rattle.refinement.specs.Agrees.{SessionAgrees, HeapAgrees}
@@ -28,10 +28,10 @@ use Rattle.refinement.proofs.Updating.{Agrees-update}
 use Rattle.refinement.proofs.Hindrances.{allows_write}
 
 -- the session and its model in the engine as it is now
-agrees_now : (now : Heap) (w : World) (s : ℕ) (e : SeenSession) (m : OpenSession) → HeapAgrees now w → now.session s ≡ Some e → w.session s ≡ Some m → SessionAgrees now.status now.version w.history (now.sees e.snapshot) (start_now w.history m) (now.sees e.snapshot) e m
+agrees_now : (now : Heap) (w : World) (s : ℕ) (e : SeenSession) (m : OpenSession) → HeapAgrees now w → now.session s ≡ Some e → w.session s ≡ Some m → SessionAgrees now.status now.version w.history (StatementSees now e.isolation) (start_now w.history m) (CursorSees now e.isolation) e m
 agrees_now now w s e m agrees at there =
     let open_ = agrees.opened s e at in
-    subst (λ (n : OpenSession). SessionAgrees now.status now.version w.history (now.sees e.snapshot) (start_now w.history n) (now.sees e.snapshot) e n) (same_Some open_.0 m (sym open_.1 ∙ there)) open_.2
+    subst (λ (n : OpenSession). SessionAgrees now.status now.version w.history (StatementSees now e.isolation) (start_now w.history n) (CursorSees now e.isolation) e n) (same_Some open_.0 m (sym open_.1 ∙ there)) open_.2
 
 pub insert_done : (h now : Heap) (w : World) (s : ℕ) (e e' : SeenSession) (row : RowToWrite) (x : ℕ) (place : Tid) (new : Version) (store' : Tid → Option Version)
     → Free h s e row.key None → FitsRow row → HeapAgrees h w → HeapAgrees now w → now.session s ≡ Some e' → IsCurrent e' x
@@ -52,7 +52,7 @@ insert_done h now w s e e' row x place new store' free fits agrees still at curr
 -- the new version is added, and then the old one is deleted
 pub update_done : (h now : Heap) (w : World) (s : ℕ) (e e' : SeenSession) (row : RowToWrite) (found : Option Row) (x : ℕ) (place q : Tid) (old old' new : Version) (added altered : Tid → Option Version)
     → Free h s e row.key found → FitsRow row → IsSome found → HeapAgrees h w → HeapAgrees now w → now.session s ≡ Some e' → IsCurrent e' x
-    → At now.version place old → ReaderSees now.status (now.sees e'.snapshot) e'.own old → old.row.key ≡ row.key
+    → At now.version place old → ReaderSees now.status (StatementSees now e'.isolation) e'.own old → old.row.key ≡ row.key
     → AddsVersion now.version added q new → IsNew x new → new.row ≡ row_of row → Alters added altered place old old' → IsDeleted x old old'
     → Allows w (step.Update s row) reply.Done × HeapAgrees (record now { version = altered }) (next w (step.Update s row) reply.Done)
 update_done h now w s e e' row found x place q old old' new added altered free fits some agrees still at current stood seen key adds is_new same alters deleted =
@@ -69,7 +69,7 @@ update_done h now w s e e' row found x place q old old' new added altered free f
 
 pub delete_done : (h now : Heap) (w : World) (s : ℕ) (e e' : SeenSession) (key : ℕ) (found : Option Row) (x : ℕ) (place : Tid) (old old' : Version) (store' : Tid → Option Version)
     → Free h s e key found → IsSome found → HeapAgrees h w → HeapAgrees now w → now.session s ≡ Some e' → IsCurrent e' x
-    → ReaderSees now.status (now.sees e'.snapshot) e'.own old → old.row.key ≡ key → Alters now.version store' place old old' → IsDeleted x old old'
+    → ReaderSees now.status (StatementSees now e'.isolation) e'.own old → old.row.key ≡ key → Alters now.version store' place old old' → IsDeleted x old old'
     → Allows w (step.Delete s key) reply.Done × HeapAgrees (record now { version = store' }) (next w (step.Delete s key) reply.Done)
 delete_done h now w s e e' key found x place old old' store' free some agrees still at current seen same alters deleted =
     let allows = allows_write h w s e (deletes key) found free some agrees in

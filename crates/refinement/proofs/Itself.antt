@@ -8,36 +8,36 @@ use Rattle.xid_circle.proofs.Members.{Contains-none}
 use Rattle.tuple_header.specs.Version.{Version}
 use Rattle.commit_status.specs.declared.status.Status.{Status}
 use Rattle.commit_status.specs.declared.status.Status.TheVariants.{InProgress, Committed}
-use Rattle.snapshot.specs.Snap.{Snap}
 use Rattle.history.specs.History.{Write, Transaction, committed, written, reading, IsLate}
-use Rattle.history.specs.World.{World, by_snapshot, OpenSession, joined, start_now}
+use Rattle.history.specs.World.{Isolation, OpenSession, joined, start_now}
 use Rattle.history.specs.Moves.{new_session as new_model, add_write, with_row, without_row, as_failed}
 use Rattle.history.proofs.HistoryLemmas.{IsLate-now, joined-add_write}
-use Rattle.refinement.specs.Heap.{SeenSession}
+use Rattle.refinement.specs.Heap.{SeenIsolation, SeenSession, Position}
 use Rattle.visibility.specs.Seeing.{HasCommitted, IsRunning, Reads, by_itself, by_others, VisibleBy, Touches, inserter, deleter}
 use Rattle.refinement.specs.Visible.{IsFreshSnapshot, ReaderSees, At}
 use Rattle.snapshot.specs.Own.{saved_with}
 use Rattle.refinement.specs.Changes.{AddsVersion, Alters, GivesNext, SameSight, with_id}
-use Rattle.refinement.specs.Agrees.{Shows, ReaderAgrees, LevelsAgree, IsOfNewest, SessionAgrees}
+use Rattle.refinement.specs.Agrees.{Shows, ReaderAgrees, LevelsAgree, IsOfNewest, IsSameIsolation, SessionAgrees}
 use Rattle.refinement.proofs.ShowsLemmas.{Shows-same}
 use Rattle.refinement.proofs.Statuses.{keeps-give, none_given, IsCommitted-give, IsActive-give_cases}
 use Rattle.visibility.proofs.Verdicts.{VisibleBy-same}
 use Rattle.refinement.proofs.Versions.{own-untouched}
-use Rattle.refinement.proofs.CursorsLemmas.{CursorAgrees-keeps, CursorAgrees-bare, CursorAgrees-none, KeepsSeen-same}
+use Rattle.refinement.proofs.CursorsLemmas.{CursorAgrees-keeps, CursorAgrees-bare, CursorAgrees-none, KeepsSeen-same, bare_position}
 use Rattle.refinement.proofs.Readers.{IsNew, IsDeleted, ReaderAgrees-same, ReaderAgrees-add_other, ReaderAgrees-delete_other, ReaderAgrees-insert, ReaderAgrees-delete, Levels-map, Levels-within, Levels-count, wrote_before}
 use Rattle.refinement.proofs.LevelTraces.{Traced-none, Traced-add_other, Traced-delete_other, Traced-insert, Traced-delete, nested_of, LevelTraces-write, LevelTraces-give}
 use Rattle.refinement.proofs.Traces.{TracesAgree-same, TracesAgree-add, TracesAgree-delete, unseen_still}
-use Rattle.refinement.proofs.Others.{same_reader, reads_before}
+use Rattle.refinement.proofs.Isolations.{CursorReads-map}
+use Rattle.refinement.proofs.Others.{same_reader, reads_before, unseen-given}
 
 -- what its newest savepoint had, the session has
-pub saved_within : {status : ℕ → Option Status} {store : Tid → Option Version} {history : List Transaction} {sees : ℕ → Type 0} {start : ℕ} {e : SeenSession} {m : OpenSession} (before : List ℕ)
-    → SessionAgrees status store history sees start sees e m → slice_get e.saved 0 ≡ Some before → (x : ℕ) → Contains before x → Contains e.own x
-saved_within {status} {store} {history} {sees} {start} {e} {m} before h is = Levels-within status store history sees start e.own e.saved m.levels before h.levels is
+pub saved_within : {status : ℕ → Option Status} {store : Tid → Option Version} {history : List Transaction} {sees cursor_sees : ℕ → Type 0} {start : ℕ} {e : SeenSession} {m : OpenSession} (before : List ℕ)
+    → SessionAgrees status store history sees start cursor_sees e m → slice_get e.saved 0 ≡ Some before → (x : ℕ) → Contains before x → Contains e.own x
+saved_within {status} {store} {history} {sees} {cursor_sees} {start} {e} {m} before h is = Levels-within status store history sees start e.own e.saved m.levels before h.levels is
 
 -- it has one level more than it has savepoints
-pub levels_count : {status : ℕ → Option Status} {store : Tid → Option Version} {history : List Transaction} {sees : ℕ → Type 0} {start : ℕ} {e : SeenSession} {m : OpenSession}
-    → SessionAgrees status store history sees start sees e m → length m.levels ≡ suc (length e.saved)
-levels_count {status} {store} {history} {sees} {start} {e} {m} h = Levels-count status store history sees start e.own e.saved m.levels h.levels
+pub levels_count : {status : ℕ → Option Status} {store : Tid → Option Version} {history : List Transaction} {sees cursor_sees : ℕ → Type 0} {start : ℕ} {e : SeenSession} {m : OpenSession}
+    → SessionAgrees status store history sees start cursor_sees e m → length m.levels ≡ suc (length e.saved)
+levels_count {status} {store} {history} {sees} {cursor_sees} {start} {e} {m} h = Levels-count status store history sees start e.own e.saved m.levels h.levels
 
 -- the id is the session's, of its newest level
 pub record IsCurrent (e : SeenSession) (x : ℕ) : Type 0 where
@@ -71,13 +71,15 @@ in_time-write history start new levels in_time before k wrote late = elim (cases
   | inr ne ↦ before k (wrote_before (joined levels) new k ne (subst (λ ws. IsSome (written ws k)) (joined-add_write new levels) wrote)) late
 ]
 
-pub SessionAgrees-insert : {status : ℕ → Option Status} {store store' : Tid → Option Version} {history : List Transaction} {sees : ℕ → Type 0} {start : ℕ} {e : SeenSession} {m : OpenSession} (x : ℕ) (place : Tid) (new : Version)
+pub SessionAgrees-insert : {status : ℕ → Option Status} {store store' : Tid → Option Version} {history : List Transaction} {sees cursor_sees : ℕ → Type 0} {start : ℕ} {e : SeenSession} {m : OpenSession} (x : ℕ) (place : Tid) (new : Version)
     → AddsVersion store store' place new → IsNew x new → IsCurrent e x → m.cursor ≡ None → reading history start (joined m.levels) new.row.key ≡ None → ¬ IsLate history start new.row.key
-    → SessionAgrees status store history sees start sees e m → SessionAgrees status store' history sees start sees e (with_row history new.row m)
-SessionAgrees-insert {status} {store} {store'} {history} {sees} {start} {e} {m} x place new adds is_new current bare none in_time h = record {
+    → SessionAgrees status store history sees start cursor_sees e m → SessionAgrees status store' history sees start cursor_sees e (with_row history new.row m)
+SessionAgrees-insert {status} {store} {store'} {history} {sees} {cursor_sees} {start} {e} {m} x place new adds is_new current bare none in_time h = record {
   same_failed = h.same_failed;
   isolation = h.isolation;
+  kept = h.kept;
   cursor = CursorAgrees-bare bare h.cursor;
+  cursor_reads = λ some. absurd (bare_position bare h.cursor some);
   levels = levels_write (record { start = start_now history m; key = new.row.key; row = Some new.row }) e.own e.saved m.levels
       (λ r. ReaderAgrees-insert (start_now history m) x place new adds is_new current.mine none r)
       (λ before own' writes is subset among r. ReaderAgrees-add_other x place new adds is_new (h.own_active x current.mine) (λ mine. current.newest before is (among x mine)) r) h.levels;
@@ -90,13 +92,15 @@ SessionAgrees-insert {status} {store} {store'} {history} {sees} {start} {e} {m} 
   own_active = h.own_active;
 }
 
-pub SessionAgrees-delete : {status : ℕ → Option Status} {store store' : Tid → Option Version} {history : List Transaction} {sees : ℕ → Type 0} {start : ℕ} {e : SeenSession} {m : OpenSession} (x : ℕ) (place : Tid) (old new : Version)
+pub SessionAgrees-delete : {status : ℕ → Option Status} {store store' : Tid → Option Version} {history : List Transaction} {sees cursor_sees : ℕ → Type 0} {start : ℕ} {e : SeenSession} {m : OpenSession} (x : ℕ) (place : Tid) (old new : Version)
     → Alters store store' place old new → IsDeleted x old new → IsCurrent e x → m.cursor ≡ None → ReaderSees status sees e.own old → ¬ IsLate history start old.row.key → ((y : ℕ) → deleter old.header ≡ Some y → ¬ HasCommitted status y)
-    → SessionAgrees status store history sees start sees e m → SessionAgrees status store' history sees start sees e (without_row history old.row.key m)
-SessionAgrees-delete {status} {store} {store'} {history} {sees} {start} {e} {m} x place old new alters deleted current bare seen in_time dead h = record {
+    → SessionAgrees status store history sees start cursor_sees e m → SessionAgrees status store' history sees start cursor_sees e (without_row history old.row.key m)
+SessionAgrees-delete {status} {store} {store'} {history} {sees} {cursor_sees} {start} {e} {m} x place old new alters deleted current bare seen in_time dead h = record {
   same_failed = h.same_failed;
   isolation = h.isolation;
+  kept = h.kept;
   cursor = CursorAgrees-bare bare h.cursor;
+  cursor_reads = λ some. absurd (bare_position bare h.cursor some);
   levels = levels_write (record { start = start_now history m; key = old.row.key; row = None }) e.own e.saved m.levels
       (λ r. ReaderAgrees-delete (start_now history m) x place old new alters deleted current.mine seen r)
       (λ before own' writes is subset among r. ReaderAgrees-delete_other x place old new alters deleted (h.own_active x current.mine) (λ mine. current.newest before is (among x mine))
@@ -111,44 +115,53 @@ SessionAgrees-delete {status} {store} {store'} {history} {sees} {start} {e} {m} 
   own_active = h.own_active;
 }
 
+-- what is read when the reader has been given an id that touches nothing
+
+reads_given : {status status' : ℕ → Option Status} {sees sees' : ℕ → Type 0} {x : ℕ} → GivesNext status status' x → SameSight status sees sees'
+    → (own : List ℕ) (y : ℕ) → Reads status sees own y → Reads status' sees' (own ++ x ∷ []) y
+reads_given {status} {status'} {sees} {sees'} {x} gives same own y (by_itself mine) = by_itself (Contains-append_left own (x ∷ []) y mine)
+reads_given gives same own y (by_others seen done) = by_others ((same y Committed done).0 seen) (keeps-give gives y Committed done)
+
+read_given : {status status' : ℕ → Option Status} {store : Tid → Option Version} {sees sees' : ℕ → Type 0} {x : ℕ} → GivesNext status status' x → SameSight status sees sees' → ((p : Tid) (v : Version) → At store p v → ¬ Touches x v.header)
+    → (own : List ℕ) (p : Tid) (y : ℕ) (v : Version) → At store p v → Touches y v.header → Reads status' sees' (own ++ x ∷ []) y → Reads status sees own y
+read_given {status} {status'} {store} {sees} {sees'} {x} gives same untouched own p y v at touch (by_itself mine) = by_itself (own-untouched x own untouched p y v at touch mine)
+read_given gives same untouched own p y v at touch (by_others seen done) = let was = IsCommitted-give gives y done in by_others ((same y Committed was).1 seen) was
+
+ReaderAgrees-given : {status status' : ℕ → Option Status} {store : Tid → Option Version} {history : List Transaction} {sees sees' : ℕ → Type 0} {start x : ℕ} → GivesNext status status' x → SameSight status sees sees' → ((p : Tid) (v : Version) → At store p v → ¬ Touches x v.header)
+    → (own : List ℕ) (writes : List Write) → ReaderAgrees status store history sees start own writes → ReaderAgrees status' store history sees' start (own ++ x ∷ []) writes
+ReaderAgrees-given gives same untouched own writes r = ReaderAgrees-same (λ p y v at touch. reads_given gives same own y) (read_given gives same untouched own) (λ k. refl) (λ k. refl) r
+
 -- the session is given an id, of any of its levels
-pub SessionAgrees-give : {status status' : ℕ → Option Status} {store : Tid → Option Version} {history : List Transaction} {sees sees' : ℕ → Type 0} {start : ℕ} {e : SeenSession} {m : OpenSession} (n x : ℕ)
-    → GivesNext status status' x → SameSight status sees sees' → ¬ sees' x → ((p : Tid) (y : ℕ) (v : Version) → At store p v → Touches y v.header → IsSome (status y))
-    → SessionAgrees status store history sees start sees e m
-    → SessionAgrees status' store history sees' start sees' (with_id n x e) m
-SessionAgrees-give {status} {status'} {store} {history} {sees} {sees'} {start} {e} {m} n x gives same unseen given h = record {
+pub SessionAgrees-give : {status status' : ℕ → Option Status} {store : Tid → Option Version} {history : List Transaction} {sees sees' cursor_sees cursor_sees' : ℕ → Type 0} {start : ℕ} {e : SeenSession} {m : OpenSession} (n x : ℕ)
+    → GivesNext status status' x → SameSight status sees sees' → ¬ sees' x → (IsSome e.cursor → SameSight status cursor_sees cursor_sees') → (IsSome e.cursor → ¬ cursor_sees' x)
+    → ((p : Tid) (y : ℕ) (v : Version) → At store p v → Touches y v.header → IsSome (status y))
+    → SessionAgrees status store history sees start cursor_sees e m
+    → SessionAgrees status' store history sees' start cursor_sees' (with_id n x e) m
+SessionAgrees-give {status} {status'} {store} {history} {sees} {sees'} {cursor_sees} {cursor_sees'} {start} {e} {m} n x gives same unseen cursor_same cursor_unseen given h = record {
   same_failed = h.same_failed;
   isolation = h.isolation;
-  cursor = CursorAgrees-keeps (KeepsSeen-same (λ p v at seen. VisibleBy-same (λ y touch. to e.own y) (λ y touch. back e.own p y v at touch) seen)
-      (λ p v at seen. VisibleBy-same (λ y touch. back e.own p y v at touch) (λ y touch. to e.own y) seen)) h.cursor;
+  kept = h.kept;
+  cursor = CursorAgrees-keeps (λ some. KeepsSeen-same (λ p v at seen. VisibleBy-same (λ y touch. reads_given gives (cursor_same some) e.own y) (λ y touch. read_given gives (cursor_same some) untouched e.own p y v at touch) seen)
+      (λ p v at seen. VisibleBy-same (λ y touch. read_given gives (cursor_same some) untouched e.own p y v at touch) (λ y touch. reads_given gives (cursor_same some) e.own y) seen)) h.cursor;
+  cursor_reads = λ some. CursorReads-map (λ start le. le) (λ start le r. ReaderAgrees-given gives (cursor_same some) untouched e.own (joined m.levels) r)
+      (unseen-given gives (cursor_same some) (cursor_unseen some)) (h.cursor_reads some);
   levels = levels n e.own e.saved m.levels h.levels;
-  level_traces = LevelTraces-give n x e.own e.saved m.levels (λ p v at touch. none_given (status x) gives.fresh (given p x v at touch)) h.level_traces;
+  level_traces = LevelTraces-give n x e.own e.saved m.levels untouched h.level_traces;
   traces = TracesAgree-same (λ y done. keeps-give gives y Committed done) (λ y done. IsCommitted-give gives y done) same h.traces;
   began = h.began;
   in_time = h.in_time;
-  active_unseen = λ y active. elim (IsActive-give_cases gives y active) [
-    | inl old ↦ unseen_still same y InProgress old (h.active_unseen y old)
-    | inr now ↦ λ seen. unseen (subst (λ z. sees' z) now seen)
-  ];
+  active_unseen = unseen-given gives same unseen h.active_unseen;
   own_active = λ y mine. elim (Contains-push_cases e.own x y mine) [
     | inl old ↦ keeps-give gives y InProgress (h.own_active y old)
     | inr now ↦ subst (λ z. IsRunning status' z) now gives.active
   ];
 }
   where
-    old_own : (own : List ℕ) (p : Tid) (y : ℕ) (v : Version) → At store p v → Touches y v.header → Contains (own ++ x ∷ []) y → Contains own y
-    old_own own = own-untouched x own (λ p v at touch. none_given (status x) gives.fresh (given p x v at touch))
-
-    to : (own : List ℕ) (y : ℕ) → Reads status sees own y → Reads status' sees' (own ++ x ∷ []) y
-    to own y (by_itself mine) = by_itself (Contains-append_left own (x ∷ []) y mine)
-    to own y (by_others seen done) = by_others ((same y Committed done).0 seen) (keeps-give gives y Committed done)
-
-    back : (own : List ℕ) (p : Tid) (y : ℕ) (v : Version) → At store p v → Touches y v.header → Reads status' sees' (own ++ x ∷ []) y → Reads status sees own y
-    back own p y v at touch (by_itself mine) = by_itself (old_own own p y v at touch mine)
-    back own p y v at touch (by_others seen done) = (let was = IsCommitted-give gives y done in by_others ((same y Committed was).1 seen) was)
+    untouched : (p : Tid) (v : Version) → At store p v → ¬ Touches x v.header
+    untouched p v at touch = none_given (status x) gives.fresh (given p x v at touch)
 
     top : (own : List ℕ) (writes : List Write) → ReaderAgrees status store history sees start own writes → ReaderAgrees status' store history sees' start (own ++ x ∷ []) writes
-    top own writes r = ReaderAgrees-same (λ p y v at touch. to own y) (back own) (λ k. refl) (λ k. refl) r
+    top own writes r = ReaderAgrees-given gives same untouched own writes r
 
     levels : (n : ℕ) (own : List ℕ) (saved : List (List ℕ)) (levels : List (List Write)) → LevelsAgree status store history sees start own saved levels
         → LevelsAgree status' store history sees' start (own ++ x ∷ []) (saved_with n x saved) levels
@@ -172,12 +185,14 @@ SessionAgrees-give {status} {status'} {store} {history} {sees} {sees'} {start} {
     )
 
 -- the session fails
-pub SessionAgrees-fail : {status : ℕ → Option Status} {store : Tid → Option Version} {history : List Transaction} {sees : ℕ → Type 0} {start : ℕ} {e : SeenSession} {m : OpenSession}
-    → SessionAgrees status store history sees start sees e m → SessionAgrees status store history sees start sees (record e { failed = true }) (as_failed m)
+pub SessionAgrees-fail : {status : ℕ → Option Status} {store : Tid → Option Version} {history : List Transaction} {sees cursor_sees : ℕ → Type 0} {start : ℕ} {e : SeenSession} {m : OpenSession}
+    → SessionAgrees status store history sees start cursor_sees e m → SessionAgrees status store history sees start cursor_sees (record e { failed = true }) (as_failed m)
 SessionAgrees-fail h = record {
   same_failed = refl;
   isolation = h.isolation;
+  kept = h.kept;
   cursor = h.cursor;
+  cursor_reads = h.cursor_reads;
   levels = h.levels;
   level_traces = h.level_traces;
   traces = h.traces;
@@ -188,28 +203,28 @@ SessionAgrees-fail h = record {
 }
 
 -- a session as it begins
-abbrev pub new_session : Snap → SeenSession
-new_session snapshot = record { snapshot = snapshot; own = []; saved = []; failed = false; cursor = None }
+abbrev pub new_session : SeenIsolation → SeenSession
+new_session isolation = record { isolation = isolation; own = []; saved = []; failed = false; cursor = None }
 
-abbrev pub fresh_model : World → OpenSession
-fresh_model w = new_model (by_snapshot (length w.history))
-
-pub SessionAgrees-begin : {status : ℕ → Option Status} {store : Tid → Option Version} {sees : ℕ → Type 0} (snapshot : Snap) (w : World)
-    → IsFreshSnapshot status sees
-    → Shows store (λ v. VisibleBy (HasCommitted status) v.header) (committed w.history (length w.history))
+-- it reads what has committed
+pub SessionAgrees-begin : {status : ℕ → Option Status} {store : Tid → Option Version} {history : List Transaction} {sees cursor_sees : ℕ → Type 0} (isolation : SeenIsolation) (model : Isolation)
+    → IsSameIsolation isolation model → IsFreshSnapshot status sees
+    → Shows store (λ v. VisibleBy (HasCommitted status) v.header) (committed history (length history))
     → ((p : Tid) (y : ℕ) (v : Version) → At store p v → deleter v.header ≡ Some y → HasCommitted status y → (x : ℕ) → inserter v.header ≡ Some x → HasCommitted status x)
-    → SessionAgrees status store w.history sees (length w.history) sees (new_session snapshot) (fresh_model w)
-SessionAgrees-begin {status} {store} {sees} snapshot w fresh current made = record {
+    → SessionAgrees status store history sees (length history) cursor_sees (new_session isolation) (new_model model)
+SessionAgrees-begin {status} {store} {history} {sees} {cursor_sees} isolation model same fresh current made = record {
   same_failed = refl;
-  isolation = refl;
+  isolation = same;
+  kept = λ some. absurd (none_given {A = Position} None refl some);
   cursor = CursorAgrees-none refl refl;
+  cursor_reads = λ some. absurd (none_given {A = Position} None refl some);
   levels = record {
     rows = Shows-same (λ p v at seen. VisibleBy-same (λ x touch. to x) (λ x touch. back x) seen) (λ p v at seen. VisibleBy-same (λ x touch. back x) (λ x touch. to x) seen) (λ k. refl) current;
     whole = λ p y v at is reads x inserter. to x (made p y v at is (back y reads) x inserter);
   };
   level_traces = Traced-none Contains-none;
   traces = record {
-    late_missed = λ k late. absurd (IsLate-now w.history k late);
+    late_missed = λ k late. absurd (IsLate-now history k late);
     missed_late = λ p v at missed. absurd (missed.1.2 (fresh.finished missed.0 missed.1.1));
   };
   began = omega arith;

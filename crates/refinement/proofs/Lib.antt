@@ -5,6 +5,7 @@ pub mod Rests
 pub mod CursorWalks
 pub mod Handing
 pub mod Statuses
+pub mod Isolations
 pub mod Readers
 pub mod SessionsLemmas
 pub mod Traces

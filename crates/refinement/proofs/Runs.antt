@@ -2,7 +2,7 @@
 use Rattle.std.proofs.Common.{◌≡◌, ℕ, ◌<◌, ◌≤◌, length, arith, List, [], ◌∷◌, Option, Some, None, Bool}
 use Rattle.history.specs.World.{World, OpenSession, beginning}
 use Rattle.history.specs.Moves.{stepped}
-use Rattle.history.specs.Events.{Happens, passes, begins, conflicts, saves, rolls_back_to, releases, commits, aborts, opens_index, opens_heap, takes, closes, StepsReach, stays, goes_on}
+use Rattle.history.specs.Events.{Happens, passes, begins, begins_by_statement, conflicts, saves, rolls_back_to, releases, commits, aborts, opens_index, opens_heap, takes, closes, StepsReach, stays, goes_on}
 use Rattle.history.specs.Events as events
 use Rattle.history.proofs.RunLemmas.{Lawful-beginning, Lawful-run, indexes-run}
 use Rattle.calls.specs.declared.step.Step.{Step}
@@ -35,6 +35,7 @@ passes_on from w (Some s) led = goes_on w (stepped w s) s led passes
 -- each step that is allowed leads on as a step of the history does; where `next` has no case of its own, the session only goes on
 leads_on : (from w : World) (step : Step) (reply : Reply) → StepsReach from w → Allows w step reply → StepsReach from (next w step reply)
 leads_on from w (step.Begin s) reply.Done led allows = goes_on w (next w (step.Begin s) reply.Done) s led (begins allows.0 allows.1)
+leads_on from w (step.BeginReadCommitted s) reply.Done led allows = goes_on w (next w (step.BeginReadCommitted s) reply.Done) s led (begins_by_statement allows.0 allows.1)
 leads_on from w (step.Insert s row) reply.Done led allows = goes_on w (next w (step.Insert s row) reply.Done) s led (events.inserts (row_of row) allows.0 allows.2 allows.1.asks.1)
 leads_on from w (step.Insert s row) (reply.Refused r) led allows = goes_on w (after_refused_write w s r) s led (refused_happens w s (inserts row) r allows)
 leads_on from w (step.Update s row) reply.Done led allows = goes_on w (next w (step.Update s row) reply.Done) s led (events.updates (row_of row) allows.0 allows.2 allows.1.asks.1)

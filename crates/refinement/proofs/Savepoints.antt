@@ -6,7 +6,7 @@ use Rattle.std.proofs.lemmas.List.{append-nil}
 use Rattle.xid_circle.specs.declared.Tid.{Tid}
 use Rattle.tuple_header.specs.Version.{Version}
 use Rattle.commit_status.specs.declared.status.Status.{Status}
-use Rattle.commit_status.specs.declared.status.Status.TheVariants.{InProgress, Aborted}
+use Rattle.commit_status.specs.declared.status.Status.TheVariants.{Aborted}
 use Rattle.snapshot.specs.Snap.{Snap}
 use Rattle.history.specs.History.{Write, Transaction, written}
 use Rattle.history.specs.World.{World, OpenSession, joined, own_write, start_now}
@@ -15,17 +15,18 @@ use Rattle.history.specs.Cursors.{kept_where}
 use Rattle.history.proofs.HistoryLemmas.{joined-join_newest}
 use Rattle.history.proofs.HistoryLemmas.{fewer-written}
 use Rattle.history.proofs.RunLemmas.{fewer-empty_newest}
-use Rattle.refinement.specs.Heap.{SeenSession, Heap}
+use Rattle.refinement.specs.Heap.{SeenSession, Heap, SightOfStatement, SightOfCursor, StatementSees, CursorSees}
 use Rattle.refinement.specs.Changes.{FinishesIds, SameSight}
 use Rattle.refinement.specs.Agrees.{ReaderAgrees, LevelsAgree, LevelTraces, SessionAgrees, HeapAgrees}
-use Rattle.refinement.proofs.Statuses.{IsCommitted-finish_old, IsCommitted-abort, IsActive-finish, IsActive-finish_other, Finishes-none}
+use Rattle.refinement.proofs.Statuses.{IsCommitted-finish_old, IsCommitted-abort, IsActive-finish_other, Finishes-none, none_given}
 use Rattle.refinement.proofs.CursorsLemmas.{CursorAgrees-bare}
 use Rattle.refinement.proofs.Readers.{Levels-map, Levels-top}
 use Rattle.refinement.proofs.LevelTraces.{Traced-none, Traced-join, Nested, nested_of}
-use Rattle.refinement.proofs.Traces.{TracesAgree-same, unseen_still}
-use Rattle.refinement.proofs.Others.{same_reader, reads_before}
+use Rattle.refinement.proofs.Traces.{TracesAgree-same}
+use Rattle.refinement.proofs.Isolations.{SameSights, CursorReads-to, statement_same, committed_sight-abort}
+use Rattle.refinement.proofs.Others.{same_reader, reads_before, unseen-finished}
 use Rattle.refinement.proofs.Itself.{saved_within}
-use Rattle.refinement.proofs.Steps.{OnlyIs, SameSights, same_sights, cases_Contains, Agrees-put}
+use Rattle.refinement.proofs.Steps.{OnlyIs, same_sights, cases_Contains, Agrees-put}
 
 -- without the newest level no more keys are written
 fewer_keys : (levels : List (List Write)) (k : ℕ) → IsSome (written (joined (empty_newest levels)) k) → IsSome (written (joined levels) k)
@@ -36,12 +37,14 @@ joined-empty : (levels : List (List Write)) → joined ([] ∷ levels) ≡ joine
 joined-empty levels = append-nil (joined levels)
 
 -- the session as it is could be returned to
-pub SessionAgrees-save : {status : ℕ → Option Status} {store : Tid → Option Version} {history : List Transaction} {sees : ℕ → Type 0} {start : ℕ} {e : SeenSession} {m : OpenSession}
-    → SessionAgrees status store history sees start sees e m → SessionAgrees status store history sees start sees (record e { saved = e.own ∷ e.saved }) (with_savepoint m)
-SessionAgrees-save {status} {store} {history} {sees} {start} {e} {m} h = record {
+pub SessionAgrees-save : {status : ℕ → Option Status} {store : Tid → Option Version} {history : List Transaction} {sees cursor_sees : ℕ → Type 0} {start : ℕ} {e : SeenSession} {m : OpenSession}
+    → SessionAgrees status store history sees start cursor_sees e m → SessionAgrees status store history sees start cursor_sees (record e { saved = e.own ∷ e.saved }) (with_savepoint m)
+SessionAgrees-save {status} {store} {history} {sees} {cursor_sees} {start} {e} {m} h = record {
   same_failed = h.same_failed;
   isolation = h.isolation;
+  kept = h.kept;
   cursor = h.cursor;
+  cursor_reads = λ some. CursorReads-to (λ start r. subst (λ writes. ReaderAgrees status store history cursor_sees start e.own writes) (sym (joined-empty m.levels)) r) (h.cursor_reads some);
   levels = (subst (λ writes. ReaderAgrees status store history sees start e.own writes) (sym (joined-empty m.levels)) (Levels-top e.own e.saved m.levels h.levels), λ x mine. mine, h.levels);
   level_traces = (Traced-none (λ x is. is.1 is.0), h.level_traces);
   traces = h.traces;
@@ -57,20 +60,22 @@ emptied _ own before older [] h = absurd h
 emptied _ own before older (ws ∷ levels) h = (Traced-none (λ x is. is.1 is.0), h.1)
 
 -- the ids since the newest savepoint are rolled back, and the writes since forgotten
-pub SessionAgrees-roll_back : {status status' : ℕ → Option Status} {store : Tid → Option Version} {history : List Transaction} {sees sees' : ℕ → Type 0} {start : ℕ} {e : SeenSession} {m : OpenSession} (before : List ℕ) (older : List (List ℕ))
+pub SessionAgrees-roll_back : {status status' : ℕ → Option Status} {store : Tid → Option Version} {history : List Transaction} {sees sees' cursor_sees cursor_sees' : ℕ → Type 0} {start : ℕ} {e : SeenSession} {m : OpenSession} (before : List ℕ) (older : List (List ℕ))
     → e.saved ≡ before ∷ older → e.cursor ≡ None → FinishesIds status status' (λ x. Contains e.own x × (¬ Contains before x)) Aborted → SameSight status sees sees'
-    → SessionAgrees status store history sees start sees e m → SessionAgrees status' store history sees' start sees' (record e { own = before; failed = false }) (to_savepoint m)
-SessionAgrees-roll_back {status} {status'} {store} {history} {sees} {sees'} {start} {e} {m} before older is bare finishes same h = record {
+    → SessionAgrees status store history sees start cursor_sees e m → SessionAgrees status' store history sees' start cursor_sees' (record e { own = before; failed = false }) (to_savepoint m)
+SessionAgrees-roll_back {status} {status'} {store} {history} {sees} {sees'} {cursor_sees} {cursor_sees'} {start} {e} {m} before older is bare finishes same h = record {
   same_failed = refl;
   isolation = h.isolation;
+  kept = h.kept;
   cursor = CursorAgrees-bare (h.cursor.closed bare) h.cursor;
+  cursor_reads = λ some. absurd (none_given e.cursor bare some);
   levels = subst (λ saved. LevelsAgree status' store history sees' start before saved (empty_newest m.levels)) (sym is)
       (back e.own m.levels (subst (λ saved. LevelsAgree status store history sees start e.own saved m.levels) is h.levels));
   level_traces = subst (λ saved. LevelTraces store before saved (empty_newest m.levels)) (sym is) (emptied store e.own before older m.levels (subst (λ saved. LevelTraces store e.own saved m.levels) is h.level_traces));
   traces = TracesAgree-same (λ y done. IsCommitted-finish_old finishes y done) (λ y done. IsCommitted-abort finishes y done) same h.traces;
   began = h.began;
   in_time = λ k wrote. h.in_time k (fewer_keys m.levels k wrote);
-  active_unseen = λ y after. let old = (IsActive-finish (λ e. cc) finishes y after).0 in unseen_still same y InProgress old (h.active_unseen y old);
+  active_unseen = unseen-finished (λ is. cc) finishes same h.active_unseen;
   own_active = λ y mine. IsActive-finish_other finishes y (λ p. p.1 mine) (h.own_active y (saved_within before h (ap (λ saved. slice_get saved 0) is) y mine));
 }
   where
@@ -96,12 +101,14 @@ joined_traces _ own before (first ∷ older) (ws ∷ (vs ∷ levels)) nested h =
 )
 
 -- the newest savepoint is forgotten, and its level joins the one below
-pub SessionAgrees-release : {status : ℕ → Option Status} {store : Tid → Option Version} {history : List Transaction} {sees : ℕ → Type 0} {start : ℕ} {e : SeenSession} {m : OpenSession} (before : List ℕ) (older : List (List ℕ))
-    → e.saved ≡ before ∷ older → SessionAgrees status store history sees start sees e m → SessionAgrees status store history sees start sees (record e { saved = older }) (without_savepoint m)
-SessionAgrees-release {status} {store} {history} {sees} {start} {e} {m} before older is h = record {
+pub SessionAgrees-release : {status : ℕ → Option Status} {store : Tid → Option Version} {history : List Transaction} {sees cursor_sees : ℕ → Type 0} {start : ℕ} {e : SeenSession} {m : OpenSession} (before : List ℕ) (older : List (List ℕ))
+    → e.saved ≡ before ∷ older → SessionAgrees status store history sees start cursor_sees e m → SessionAgrees status store history sees start cursor_sees (record e { saved = older }) (without_savepoint m)
+SessionAgrees-release {status} {store} {history} {sees} {cursor_sees} {start} {e} {m} before older is h = record {
   same_failed = h.same_failed;
   isolation = h.isolation;
+  kept = h.kept;
   cursor = h.cursor;
+  cursor_reads = λ some. CursorReads-to (λ start r. subst (λ writes. ReaderAgrees status store history cursor_sees start e.own writes) (sym (joined-join_newest m.levels)) r) (h.cursor_reads some);
   levels = joins older m.levels (subst (λ saved. LevelsAgree status store history sees start e.own saved m.levels) is h.levels);
   level_traces = joined_traces store e.own before older m.levels (subst (λ saved. Nested e.own saved) is (nested_of status store history sees start e.own e.saved m.levels h.levels)) (subst (λ saved. LevelTraces store e.own saved m.levels) is h.level_traces);
   traces = h.traces;
@@ -125,9 +132,9 @@ SessionAgrees-release {status} {store} {history} {sees} {start} {e} {m} before o
 -- one session alone changes, as the model's does
 pub Agrees-change : (h : Heap) (w : World) (s : ℕ) (e e' : SeenSession) (f : OpenSession → OpenSession) (status' : ℕ → Option Status) (sees' : Snap → ℕ → Type 0) (session' : ℕ → Option SeenSession)
     → OnlyIs h.session session' s (Some e') → h.session s ≡ Some e → FinishesIds h.status status' (λ x. Contains e.own x × (¬ Contains e'.own x)) Aborted → SameSights h sees'
-    → ((m : OpenSession) → SessionAgrees h.status h.version w.history (h.sees e.snapshot) (start_now w.history m) (h.sees e.snapshot) e m → (x : ℕ) → Contains e'.own x → Contains e.own x)
+    → ((m : OpenSession) → SessionAgrees h.status h.version w.history (StatementSees h e.isolation) (start_now w.history m) (CursorSees h e.isolation) e m → (x : ℕ) → Contains e'.own x → Contains e.own x)
     → ((m : OpenSession) (k : ℕ) → IsSome (own_write (f m) k) → IsSome (own_write m k))
-    → ((m : OpenSession) → SessionAgrees h.status h.version w.history (h.sees e.snapshot) (start_now w.history m) (h.sees e.snapshot) e m → SessionAgrees status' h.version w.history (sees' e'.snapshot) (start_now w.history (f m)) (sees' e'.snapshot) e' (f m))
+    → ((m : OpenSession) → SessionAgrees h.status h.version w.history (StatementSees h e.isolation) (start_now w.history m) (CursorSees h e.isolation) e m → SessionAgrees status' h.version w.history (SightOfStatement status' sees' e'.isolation) (start_now w.history (f m)) (SightOfCursor status' sees' e'.isolation) e' (f m))
     → HeapAgrees h w → HeapAgrees (record h { status = status'; sees = sees'; session = session' }) (change w s f)
 Agrees-change h w s e e' f status' sees' session' only at finishes same fewer kept mine agrees =
     let open_ = agrees.opened s e at in
@@ -165,7 +172,7 @@ Agrees-roll_back h w s e before older status' sees' session' only at is bare fin
     Agrees-awaited_no_more (record h { status = status'; sees = sees'; session = session' }) (change w s to_savepoint) s
     (Agrees-change h w s e (record e { own = before; failed = false }) to_savepoint status' sees' session' only at finishes same
     (λ m mine. saved_within before mine (ap (λ saved. slice_get saved 0) is))
-    (λ m k wrote. fewer_keys m.levels k wrote) (λ m mine. SessionAgrees-roll_back before older is bare finishes (same s e at) mine) agrees)
+    (λ m k wrote. fewer_keys m.levels k wrote) (λ m mine. SessionAgrees-roll_back before older is bare finishes (statement_same h status' sees' s e at same (committed_sight-abort (λ x. Contains e.own x × (¬ Contains before x)) finishes)) mine) agrees)
 
 -- a session forgets its newest savepoint
 pub Agrees-release : (h : Heap) (w : World) (s : ℕ) (e : SeenSession) (before : List ℕ) (older : List (List ℕ)) (session' : ℕ → Option SeenSession)

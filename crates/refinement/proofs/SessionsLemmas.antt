@@ -4,7 +4,7 @@ use Rattle.std.specs.Prelude.{Contains}
 use Rattle.std.proofs.lemmas.Bool.{cases_eq}
 use Rattle.std.proofs.lemmas.Option.{same_Some}
 use Rattle.history.specs.World.{World, OpenSession, Holds, start_now}
-use Rattle.refinement.specs.Heap.{SeenSession, Heap}
+use Rattle.refinement.specs.Heap.{SeenSession, Heap, StatementSees, CursorSees}
 use Rattle.visibility.specs.Seeing.{IsRunning}
 use Rattle.refinement.specs.Agrees.{SessionAgrees, HeapAgrees}
 
@@ -14,13 +14,13 @@ at_value P o x y is p is' = subst P (same_Some x y (sym is ∙ is')) p
 
 -- the session and its model agree
 abbrev pub Matches : Heap → World → ℕ → SeenSession → Type 0
-Matches h w s e = (m : OpenSession) × (w.session s ≡ Some m) × SessionAgrees h.status h.version w.history (h.sees e.snapshot) (start_now w.history m) (h.sees e.snapshot) e m
+Matches h w s e = (m : OpenSession) × (w.session s ≡ Some m) × SessionAgrees h.status h.version w.history (StatementSees h e.isolation) (start_now w.history m) (CursorSees h e.isolation) e m
 
 module _ (h h' : Heap) (w w' : World) (s : ℕ) (agrees : HeapAgrees h w)
     (others : (o : ℕ) → o ≢ s → h'.session o ≡ h.session o)
     (models : (o : ℕ) → o ≢ s → w'.session o ≡ w.session o) where
   pub opened-change :
-      ((o : ℕ) (e : SeenSession) (m : OpenSession) → o ≢ s → h.session o ≡ Some e → w.session o ≡ Some m → SessionAgrees h.status h.version w.history (h.sees e.snapshot) (start_now w.history m) (h.sees e.snapshot) e m → SessionAgrees h'.status h'.version w'.history (h'.sees e.snapshot) (start_now w'.history m) (h'.sees e.snapshot) e m)
+      ((o : ℕ) (e : SeenSession) (m : OpenSession) → o ≢ s → h.session o ≡ Some e → w.session o ≡ Some m → SessionAgrees h.status h.version w.history (StatementSees h e.isolation) (start_now w.history m) (CursorSees h e.isolation) e m → SessionAgrees h'.status h'.version w'.history (StatementSees h' e.isolation) (start_now w'.history m) (CursorSees h' e.isolation) e m)
       → ((e : SeenSession) → h'.session s ≡ Some e → Matches h' w' s e)
       → (o : ℕ) (e : SeenSession) → h'.session o ≡ Some e → Matches h' w' o e
   opened-change keep mine o e at = elim (cases_eq o s) [

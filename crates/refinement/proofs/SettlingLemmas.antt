@@ -6,14 +6,16 @@ use Rattle.xid_circle.specs.declared.Tid.{Tid}
 use Rattle.tuple_header.specs.declared.version.Row.{Row}
 use Rattle.tuple_header.specs.Version.{Version}
 use Rattle.commit_status.specs.declared.status.Status.{Status}
+use Rattle.snapshot.specs.Snap.{Snap}
 use Rattle.history.specs.History.{Write, Transaction, written, IsLate}
 use Rattle.history.specs.World.{World, OpenSession}
-use Rattle.refinement.specs.Heap.{SeenSession, Heap}
+use Rattle.refinement.specs.Heap.{SeenSession, Heap, kept_snapshot, IsKeptSnapshot, StatementSees, CursorSees}
 use Rattle.visibility.specs.Seeing.{HasCommitted, HasAborted, IsRunning, Reads, by_itself, by_others, VisibleBy, Touches, made_by, deleted_by, inserter, deleter}
 use Rattle.refinement.specs.Visible.{At}
 use Rattle.refinement.specs.Agrees.{Shows, ReaderAgrees, Traced, SessionAgrees, HeapAgrees}
 use Rattle.refinement.proofs.CursorsLemmas.{KeepsSeen, CursorAgrees-keeps}
 use Rattle.refinement.proofs.Readers.{Levels-map}
+use Rattle.refinement.proofs.Isolations.{of_statement, of_cursor, CursorReads-to}
 use Rattle.refinement.proofs.LevelTraces.{nested_of, LevelTraces-map}
 use Rattle.refinement.specs.Settling.{MakerSettles, DeleterSettles, VersionSettles, Settles}
 
@@ -27,9 +29,13 @@ committed_not_active : (status : ℕ → Option Status) (x : ℕ) → HasCommitt
 committed_not_active status x done active = cc
 
 module _ (h : Heap) where
+  -- every snapshot that is kept sees the id
+  abbrev IsSeenByAll : ℕ → Type 0
+  IsSeenByAll x = (snap : Snap) → IsKeptSnapshot h.session snap → h.sees snap x
+
   -- what is read settles, and what was rolled back isn't read: so for a set of ids that is read or counted
   pub record Counts (R : ℕ → Type 0) : Type 0 where
-    pub settled : (x : ℕ) → HasCommitted h.status x → ((s : ℕ) (e : SeenSession) → h.session s ≡ Some e → h.sees e.snapshot x) → R x
+    pub settled : (x : ℕ) → HasCommitted h.status x → IsSeenByAll x → R x
     pub none_aborted : (x : ℕ) → HasAborted h.status x → ¬ R x
 
   seen-forth : {R : ℕ → Type 0} → Counts R → (v u : Version) → VersionSettles h v u → VisibleBy R v.header → VisibleBy R u.header
@@ -68,7 +74,7 @@ module _ (h : Heap) where
       kept (DeleterSettles.goes z at none gone) = absurd (none-some x (sym none ∙ is))
 
   -- and before does afterwards, unless its making is settled or it was rolled back
-  touch-forth : (x : ℕ) (v u : Version) → VersionSettles h v u → (HasCommitted h.status x → ((s : ℕ) (e : SeenSession) → h.session s ≡ Some e → h.sees e.snapshot x) → ⊥)
+  touch-forth : (x : ℕ) (v u : Version) → VersionSettles h v u → (HasCommitted h.status x → IsSeenByAll x → ⊥)
       → (HasAborted h.status x → ⊥) → Touches x v.header → Touches x u.header
   touch-forth x v u s open_ alive (made_by is) = made s.inserter
     where
@@ -76,7 +82,7 @@ module _ (h : Heap) where
       made (MakerSettles.stays e) = made_by (e ∙ is)
       made (MakerSettles.settles y at none done all) =
           let same = same_Some y x (sym at ∙ is) in
-          absurd (open_ (subst (λ y. HasCommitted h.status y) same done) (λ s e at'. subst (λ y. h.sees e.snapshot y) same (all s e at')))
+          absurd (open_ (subst (λ y. HasCommitted h.status y) same done) (λ snap kept. subst (λ y. h.sees snap y) same (all snap kept)))
   touch-forth x v u s open_ alive (deleted_by is) = kept s.deleter
     where
       kept : DeleterSettles h v u → Touches x u.header
@@ -114,41 +120,47 @@ module _ (h : Heap) where
           subst (λ (r : Row). IsSome (written writes r.key)) (sym v.2.row) (t.there_written p v.0 v.1 (by.0, touch-back by.0 v.0 u v.2 by.1, by.2));
     }
 
-    counts-for : (s : ℕ) (e : SeenSession) (own : List ℕ) → h.session s ≡ Some e → ((x : ℕ) → Contains own x → IsRunning h.status x) → Counts (Reads h.status (h.sees e.snapshot) own)
-    counts-for s e own at active = record { settled = λ x done all. by_others (all s e at) done; none_aborted = λ x gone reads. unread x gone reads }
+    -- a sight that has what has committed and every snapshot sees, which is kept
+    abbrev Settles-for : (ℕ → Type 0) → Type 0
+    Settles-for sight = (x : ℕ) → HasCommitted h.status x → IsSeenByAll x → sight x
+
+    counts-for : {sight : ℕ → Type 0} (own : List ℕ) → Settles-for sight → ((x : ℕ) → Contains own x → IsRunning h.status x) → Counts (Reads h.status sight own)
+    counts-for {sight} own over active = record { settled = λ x done all. by_others (over x done all) done; none_aborted = λ x gone reads. unread x gone reads }
       where
-        unread : (x : ℕ) → HasAborted h.status x → Reads h.status (h.sees e.snapshot) own x → ⊥
+        unread : (x : ℕ) → HasAborted h.status x → Reads h.status sight own x → ⊥
         unread x gone (by_itself mine) = aborted_not_active h.status x gone (active x mine)
         unread x gone (by_others sees done) = aborted_not_committed h.status x gone done
 
-    ReaderAgrees-settles : {history : List Transaction} {start : ℕ} {writes : List Write} (s : ℕ) (e : SeenSession) (own : List ℕ) → h.session s ≡ Some e → ((x : ℕ) → Contains own x → IsRunning h.status x)
-        → ReaderAgrees h.status h.version history (h.sees e.snapshot) start own writes → ReaderAgrees h.status store' history (h.sees e.snapshot) start own writes
-    ReaderAgrees-settles s e own at active r = record {
-      rows = Shows-settles (counts-for s e own at active) r.rows;
+    ReaderAgrees-settles : {history : List Transaction} {sight : ℕ → Type 0} {start : ℕ} {writes : List Write} (own : List ℕ) → Settles-for sight → ((x : ℕ) → Contains own x → IsRunning h.status x)
+        → ReaderAgrees h.status h.version history sight start own writes → ReaderAgrees h.status store' history sight start own writes
+    ReaderAgrees-settles {history} {sight} own over active r = record {
+      rows = Shows-settles (counts-for own over active) r.rows;
       whole = λ p y u bt is reads x made. let v = settles.back p u bt in
           whole p y v.0 u v.1 v.2 v.2.inserter v.2.deleter is reads x made;
     }
       where
-        whole : (p : Tid) (y : ℕ) (v u : Version) → At h.version p v → VersionSettles h v u → MakerSettles h v u → DeleterSettles h v u → deleter u.header ≡ Some y → Reads h.status (h.sees e.snapshot) own y
-            → (x : ℕ) → inserter u.header ≡ Some x → Reads h.status (h.sees e.snapshot) own x
+        whole : (p : Tid) (y : ℕ) (v u : Version) → At h.version p v → VersionSettles h v u → MakerSettles h v u → DeleterSettles h v u → deleter u.header ≡ Some y → Reads h.status sight own y
+            → (x : ℕ) → inserter u.header ≡ Some x → Reads h.status sight own x
         whole p y v u bt vs (MakerSettles.stays m) (DeleterSettles.stays d) is reads x made = r.whole p y v bt (sym d ∙ is) reads x (sym m ∙ made)
         whole p y v u bt vs (MakerSettles.stays m) (DeleterSettles.goes z at' none gone) is reads x made = absurd (none-some y (sym none ∙ is))
         whole p y v u bt vs (MakerSettles.settles z at' none done all) d is reads x made = absurd (none-some x (sym none ∙ made))
 
-    SessionAgrees-settles : {history : List Transaction} {start : ℕ} (s : ℕ) (e : SeenSession) (m : OpenSession) → h.session s ≡ Some e
-        → SessionAgrees h.status h.version history (h.sees e.snapshot) start (h.sees e.snapshot) e m → SessionAgrees h.status store' history (h.sees e.snapshot) start (h.sees e.snapshot) e m
-    SessionAgrees-settles {history} {start} s e m at a = record {
+    SessionAgrees-settles : {history : List Transaction} {sight cursor_sight : ℕ → Type 0} {start : ℕ} (e : SeenSession) (m : OpenSession) → Settles-for sight → (IsSome e.cursor → Settles-for cursor_sight)
+        → SessionAgrees h.status h.version history sight start cursor_sight e m → SessionAgrees h.status store' history sight start cursor_sight e m
+    SessionAgrees-settles {history} {sight} {cursor_sight} {start} e m over cursor_over a = record {
       same_failed = a.same_failed;
       isolation = a.isolation;
-      cursor = CursorAgrees-keeps (KeepsSeen-settles (counts-for s e e.own at a.own_active)) a.cursor;
-      levels = Levels-map e.own e.saved m.levels (λ own writes among r. ReaderAgrees-settles s e own at (λ x mine. a.own_active x (among x mine)) r) a.levels;
-      level_traces = LevelTraces-map e.own e.saved m.levels (nested_of h.status h.version history (h.sees e.snapshot) start e.own e.saved m.levels a.levels)
+      kept = a.kept;
+      cursor = CursorAgrees-keeps (λ some. KeepsSeen-settles (counts-for e.own (cursor_over some) a.own_active)) a.cursor;
+      cursor_reads = λ some. CursorReads-to (λ start r. ReaderAgrees-settles e.own (cursor_over some) a.own_active r) (a.cursor_reads some);
+      levels = Levels-map e.own e.saved m.levels (λ own writes among r. ReaderAgrees-settles own over (λ x mine. a.own_active x (among x mine)) r) a.levels;
+      level_traces = LevelTraces-map e.own e.saved m.levels (nested_of h.status h.version history sight start e.own e.saved m.levels a.levels)
           (λ P writes within t. Traced-settles (λ x p. a.own_active x (within x p)) t) a.level_traces;
       traces = record {
         late_missed = λ k late. let some = a.traces.late_missed k late in
             let u = settles.forth some.0 some.1 some.2 in
             let missed = some.4 in
-            (some.0, u.0, u.1, ap (λ (r : Row). r.key) u.2.row ∙ some.3, (missed.0, (touch-forth missed.0 some.1 u.0 u.2 (λ done all. missed.1.2 (all s e at)) (λ gone. aborted_not_committed h.status missed.0 gone missed.1.1) missed.1.0, missed.1.1, missed.1.2)));
+            (some.0, u.0, u.1, ap (λ (r : Row). r.key) u.2.row ∙ some.3, (missed.0, (touch-forth missed.0 some.1 u.0 u.2 (λ done all. missed.1.2 (over missed.0 done all)) (λ gone. aborted_not_committed h.status missed.0 gone missed.1.1) missed.1.0, missed.1.1, missed.1.2)));
         missed_late = λ p u bt missed. let v = settles.back p u bt in
             subst (λ (r : Row). IsLate history start r.key) (sym v.2.row) (a.traces.missed_late p v.0 v.1 (missed.0, (touch-back missed.0 v.0 u v.2 missed.1.0, missed.1.1, missed.1.2)));
       };
@@ -158,9 +170,15 @@ module _ (h : Heap) where
       own_active = a.own_active;
     }
 
+    statement_settles : (s : ℕ) (e : SeenSession) → h.session s ≡ Some e → Settles-for (StatementSees h e.isolation)
+    statement_settles s e at x done all = of_statement (λ sees sees'. sees' x) h.status h.status h.sees h.sees e.isolation done (λ snap is. all snap (s, e, at, is))
+
+    cursor_settles : (s : ℕ) (e : SeenSession) → h.session s ≡ Some e → IsSome (kept_snapshot e.isolation) → Settles-for (CursorSees h e.isolation)
+    cursor_settles s e at some x done all = of_cursor (λ sees sees'. sees' x) h.status h.status h.sees h.sees e.isolation some (λ snap is. all snap (s, e, at, is))
+
     pub Agrees-settles : (w : World) → HeapAgrees h w → HeapAgrees (record h { version = store' }) w
     Agrees-settles w agrees = record {
-      opened = λ s e at. let open_ = agrees.opened s e at in (open_.0, open_.1, SessionAgrees-settles s e open_.0 at open_.2);
+      opened = λ s e at. let open_ = agrees.opened s e at in (open_.0, open_.1, SessionAgrees-settles e open_.0 (statement_settles s e at) (λ some. cursor_settles s e at (open_.2.kept some)) open_.2);
       idle = agrees.idle;
       waits = agrees.waits;
       current = Shows-settles (record { settled = λ x done all. done; none_aborted = λ x gone done. aborted_not_committed h.status x gone done }) agrees.current;

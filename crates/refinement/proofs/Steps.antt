@@ -1,5 +1,5 @@
 -- Each step keeps the engine's agreement with the model.
-use Rattle.std.proofs.Common.{◌≡◌, ◌≢◌, ℕ, List, [], ◌∷◌, ◌++◌, Option, Some, None, Bool, true, cond, nat_eq, refl, sym, ap, ◌∙◌, subst, ◌⊎◌, inl, inr}
+use Rattle.std.proofs.Common.{◌≡◌, ◌≢◌, ℕ, List, [], ◌∷◌, ◌++◌, length, Option, Some, None, Bool, true, cond, nat_eq, refl, sym, ap, ◌∙◌, subst, ◌⊎◌, inl, inr}
 use Rattle.std.specs.Prelude.{IsSome, Contains}
 use Rattle.std.proofs.lemmas.Bool.{cases_eq}
 use Rattle.std.proofs.lemmas.Option.{same_Some, none-some}
@@ -11,34 +11,31 @@ use Rattle.commit_status.specs.declared.status.Status.{Status}
 use Rattle.commit_status.specs.declared.status.Status.TheVariants.{InProgress, Committed, Aborted}
 use Rattle.snapshot.specs.Snap.{Snap}
 use Rattle.history.specs.History.{Write, Transaction, written, reading, IsLate}
-use Rattle.history.specs.World.{World, OpenSession, joined, own_write, Holds, beginning, start_now}
-use Rattle.history.specs.Moves.{put, stepped, begun, with_row, as_failed, aborted}
+use Rattle.history.specs.World.{World, Isolation, by_snapshot, by_statement, OpenSession, joined, own_write, Holds, beginning, start_by, start_now}
+use Rattle.history.specs.Moves.{put, stepped, new_session as new_model, begun, begun_by_statement, with_row, as_failed, aborted}
 use Rattle.history.specs.Cursors.{kept_where}
 use Rattle.std.specs.Prelude.{not, ◌==◌}
 use Rattle.history.proofs.HistoryLemmas.{at_same, at_other, joined-add_write}
-use Rattle.refinement.specs.Heap.{SeenSession, Heap}
+use Rattle.refinement.specs.Heap.{SeenIsolation, seen_by_snapshot, seen_by_statement, SeenSession, Heap, SightOfStatement, SightOfCursor, StatementSees, CursorSees}
 use Rattle.visibility.specs.Seeing.{HasCommitted, IsRunning, Touches, deleter}
 use Rattle.refinement.specs.Visible.{IsFreshSnapshot}
-use Rattle.refinement.specs.Changes.{AddsVersion, GivesNext, FinishesIds, SameSight, with_id}
-use Rattle.refinement.specs.Agrees.{Traced, LevelTraces, SessionAgrees, HeapAgrees}
+use Rattle.refinement.specs.Changes.{AddsVersion, GivesNext, FinishesIds, with_id}
+use Rattle.refinement.specs.Agrees.{Traced, LevelTraces, IsSameIsolation, SessionAgrees, HeapAgrees}
 use Rattle.refinement.proofs.ShowsLemmas.{Shows-same, Shows-add_unseen}
 use Rattle.refinement.proofs.Statuses.{keeps-give, none_given, some_of, IsCommitted-give, IsActive-give_cases, IsCommitted-finish_old, IsCommitted-abort, IsActive-finish, given-finish, given-give, Finishes-none}
 use Rattle.visibility.proofs.Verdicts.{VisibleBy-same}
 use Rattle.refinement.proofs.Versions.{Adds-cases, active_not_committed}
 use Rattle.refinement.proofs.Readers.{IsNew, touches_new, wrote_before}
 use Rattle.refinement.proofs.LevelTraces.{Traced-join, Nested, nested_of}
+use Rattle.refinement.proofs.Isolations.{SameSights, IsUnseen, statement_same, cursor_same, statement_unseen, cursor_unseen, committed-fresh, committed_sight-give, committed_sight-abort}
 use Rattle.refinement.proofs.Others.{SessionAgrees-add_other, SessionAgrees-give_other, SessionAgrees-abort_other}
-use Rattle.refinement.proofs.Itself.{IsCurrent, new_session, fresh_model, SessionAgrees-begin, SessionAgrees-fail, SessionAgrees-insert, SessionAgrees-give}
+use Rattle.refinement.proofs.Itself.{IsCurrent, new_session, SessionAgrees-begin, SessionAgrees-fail, SessionAgrees-insert, SessionAgrees-give}
 use Rattle.refinement.proofs.SessionsLemmas.{at_value, Matches, opened-change, idle-change, owned-change, apart-change, alone-change}
 
 -- one session alone changed, and is this now
 pub record OnlyIs (before after : ℕ → Option SeenSession) (s : ℕ) (now : Option SeenSession) : Type 0 where
   pub others : (o : ℕ) → o ≢ s → after o ≡ before o
   pub itself : after s ≡ now
-
--- the sight of the open snapshots is as it was
-abbrev pub SameSights : Heap → (Snap → ℕ → Type 0) → Type 0
-SameSights h sees' = (o : ℕ) (e : SeenSession) → h.session o ≡ Some e → SameSight h.status (h.sees e.snapshot) (sees' e.snapshot)
 
 pub waits-put : (w : World) (s : ℕ) → ((t : ℕ) → w.waits_for t ≡ None) → (t : ℕ) → (stepped w s).waits_for t ≡ None
 waits-put w s none t = elim (cases_eq t s) [
@@ -72,49 +69,64 @@ levels_traced store own (before ∷ saved) (ws ∷ levels) nested h =
     Traced-join ws (joined levels) (λ x mine. elim (cases_Contains before x) [ inl old ↦ inr old | inr new ↦ inl (mine, new) ]) (λ x new. new.0) (λ x old. nested.0 x old)
     h.0 (levels_traced store before saved levels nested.1 h.1)
 
-pub own_traced : {status : ℕ → Option Status} {store : Tid → Option Version} {history : List Transaction} {sees : ℕ → Type 0} {start : ℕ} {e : SeenSession} {m : OpenSession}
-    → SessionAgrees status store history sees start sees e m → Traced store (λ x. Contains e.own x) (joined m.levels)
-own_traced {status} {store} {history} {sees} {start} {e} {m} h =
+pub own_traced : {status : ℕ → Option Status} {store : Tid → Option Version} {history : List Transaction} {sees cursor_sees : ℕ → Type 0} {start : ℕ} {e : SeenSession} {m : OpenSession}
+    → SessionAgrees status store history sees start cursor_sees e m → Traced store (λ x. Contains e.own x) (joined m.levels)
+own_traced {status} {store} {history} {sees} {cursor_sees} {start} {e} {m} h =
     levels_traced store e.own e.saved m.levels (nested_of status store history sees start e.own e.saved m.levels h.levels) h.level_traces
 
--- a session begins
-pub Agrees-begin : (h : Heap) (w : World) (s : ℕ) (snapshot : Snap) (session' : ℕ → Option SeenSession)
-    → OnlyIs h.session session' s (Some (new_session snapshot)) → h.session s ≡ None → IsFreshSnapshot h.status (h.sees snapshot)
-    → HeapAgrees h w → HeapAgrees (record h { session = session' }) (begun w s)
-Agrees-begin h w s snapshot session' only idle fresh agrees = record {
+-- a session begins, by a snapshot that is taken now or by statement
+Agrees-opens : (h : Heap) (w : World) (s : ℕ) (isolation : SeenIsolation) (model : Isolation) (session' : ℕ → Option SeenSession)
+    → OnlyIs h.session session' s (Some (new_session isolation)) → h.session s ≡ None → IsSameIsolation isolation model → start_by model w.history ≡ length w.history → IsFreshSnapshot h.status (StatementSees h isolation)
+    → HeapAgrees h w → HeapAgrees (record h { session = session' }) (put w s (Some (new_model model)))
+Agrees-opens h w s isolation model session' only idle same start fresh agrees = record {
   opened = opened-change h h' w w' s agrees only.others models (λ o e m ne at there old. old)
-      (λ e. at_value (λ e. Matches h' w' s e) (session' s) (new_session snapshot) e only.itself
-      (fresh_model w, at_same s (Some (fresh_model w)) (w.session s), SessionAgrees-begin snapshot w fresh agrees.current agrees.made));
-  idle = idle-change h h' w w' s agrees only.others models (λ at. absurd (none-some (new_session snapshot) (sym at ∙ only.itself)));
+      (λ e. at_value (λ e. Matches h' w' s e) (session' s) (new_session isolation) e only.itself (
+        new_model model,
+        at_same s (Some (new_model model)) (w.session s),
+        subst (λ start. SessionAgrees h.status h.version w.history (StatementSees h isolation) start (CursorSees h isolation) (new_session isolation) (new_model model)) (sym start)
+            (SessionAgrees-begin isolation model same fresh agrees.current agrees.made),
+      ));
+  idle = idle-change h h' w w' s agrees only.others models (λ at. absurd (none-some (new_session isolation) (sym at ∙ only.itself)));
   waits = waits-put w s agrees.waits;
   current = agrees.current;
   made = agrees.made;
   given = agrees.given;
   owned = owned-change h h' w w' s agrees only.others models (λ x active. inl (active, λ e at. absurd (none-some e (sym idle ∙ at))));
-  apart = apart-change h h' w w' s agrees only.others models (λ o x e f ne at bt own own'. let is : e ≡ new_session snapshot = same_Some e (new_session snapshot) (sym at ∙ only.itself) in Contains-none x (subst (λ (e : SeenSession). Contains e.own x) is own));
-  alone = alone-change h h' w w' s agrees only.others models (λ o k ne p q. let is : p.0 ≡ fresh_model w = same_Some p.0 (fresh_model w) (sym p.1 ∙ at_same s (Some (fresh_model w)) (w.session s)) in
-      (let wrote : IsSome (own_write (fresh_model w) k) = subst (λ m. IsSome (own_write m k)) is p.2 in cc));
+  apart = apart-change h h' w w' s agrees only.others models (λ o x e f ne at bt own own'. let is : e ≡ new_session isolation = same_Some e (new_session isolation) (sym at ∙ only.itself) in Contains-none x (subst (λ (e : SeenSession). Contains e.own x) is own));
+  alone = alone-change h h' w w' s agrees only.others models (λ o k ne p q. let is : p.0 ≡ new_model model = same_Some p.0 (new_model model) (sym p.1 ∙ at_same s (Some (new_model model)) (w.session s)) in
+      (let wrote : IsSome (own_write (new_model model) k) = subst (λ m. IsSome (own_write m k)) is p.2 in cc));
 }
   where
     h' : Heap
     h' = record h { session = session' }
 
     w' : World
-    w' = begun w s
+    w' = put w s (Some (new_model model))
 
     models : (o : ℕ) → o ≢ s → w'.session o ≡ w.session o
-    models o ne = at_other o s (Some (fresh_model w)) (w.session o) ne
+    models o ne = at_other o s (Some (new_model model)) (w.session o) ne
+
+pub Agrees-begin : (h : Heap) (w : World) (s : ℕ) (snapshot : Snap) (session' : ℕ → Option SeenSession)
+    → OnlyIs h.session session' s (Some (new_session (seen_by_snapshot snapshot))) → h.session s ≡ None → IsFreshSnapshot h.status (h.sees snapshot)
+    → HeapAgrees h w → HeapAgrees (record h { session = session' }) (begun w s)
+Agrees-begin h w s snapshot session' only idle fresh agrees = Agrees-opens h w s (seen_by_snapshot snapshot) (by_snapshot (length w.history)) session' only idle tt refl fresh agrees
+
+pub Agrees-begin_by_statement : (h : Heap) (w : World) (s : ℕ) (session' : ℕ → Option SeenSession)
+    → OnlyIs h.session session' s (Some (new_session (seen_by_statement None))) → h.session s ≡ None
+    → HeapAgrees h w → HeapAgrees (record h { session = session' }) (begun_by_statement w s)
+Agrees-begin_by_statement h w s session' only idle agrees = Agrees-opens h w s (seen_by_statement None) by_statement session' only idle tt refl (committed-fresh h.status) agrees
 
 -- one session alone changes: some of its ids may be rolled back, and it keeps only keys that it had
 pub Agrees-put : (h : Heap) (w : World) (s : ℕ) (e e' : SeenSession) (m m' : OpenSession) (status' : ℕ → Option Status) (sees' : Snap → ℕ → Type 0) (session' : ℕ → Option SeenSession)
     → OnlyIs h.session session' s (Some e') → h.session s ≡ Some e → w.session s ≡ Some m
     → FinishesIds h.status status' (λ x. Contains e.own x × (¬ Contains e'.own x)) Aborted → SameSights h sees'
     → ((x : ℕ) → Contains e'.own x → Contains e.own x) → ((k : ℕ) → IsSome (own_write m' k) → IsSome (own_write m k))
-    → SessionAgrees status' h.version w.history (sees' e'.snapshot) (start_now w.history m') (sees' e'.snapshot) e' m'
+    → SessionAgrees status' h.version w.history (SightOfStatement status' sees' e'.isolation) (start_now w.history m') (SightOfCursor status' sees' e'.isolation) e' m'
     → HeapAgrees h w → HeapAgrees (record h { status = status'; sees = sees'; session = session' }) (put w s (Some m'))
 Agrees-put h w s e e' m m' status' sees' session' only at there finishes same fewer kept mine agrees = record {
   opened = opened-change h h' w w' s agrees only.others models
-      (λ o f n ne bt there' old. SessionAgrees-abort_other (λ x. Contains e.own x × (¬ Contains e'.own x)) finishes (same o f bt) (λ x p theirs. ne (agrees.apart o s f e x bt at theirs p.0)) old)
+      (λ o f n ne bt there' old. SessionAgrees-abort_other (λ x. Contains e.own x × (¬ Contains e'.own x)) finishes (statement_same h status' sees' o f bt same (committed_sight-abort (λ x. Contains e.own x × (¬ Contains e'.own x)) finishes))
+      (λ some. cursor_same h status' sees' o f bt same (old.kept some)) (λ x p theirs. ne (agrees.apart o s f e x bt at theirs p.0)) old)
       (λ f. at_value (λ f. Matches h' w' s f) (session' s) e' f only.itself (m', at_same s (Some m') (w.session s), mine));
   idle = idle-change h h' w w' s agrees only.others models (λ at'. absurd (none-some e' (sym at' ∙ only.itself)));
   waits = waits-put w s agrees.waits;
@@ -148,12 +160,12 @@ Agrees-put h w s e e' m m' status' sees' session' only at there finishes same fe
 
 -- the sight of each snapshot stays
 pub same_sights : (h : Heap) → SameSights h h.sees
-same_sights h o e at x status is = (λ sees. sees, λ sees. sees)
+same_sights h snap kept x status is = (λ sees. sees, λ sees. sees)
 
 -- the session fails
 pub Agrees-fail : (h : Heap) (w : World) (s : ℕ) (e : SeenSession) (m : OpenSession) (session' : ℕ → Option SeenSession)
     → OnlyIs h.session session' s (Some (record e { failed = true })) → h.session s ≡ Some e → w.session s ≡ Some m
-    → SessionAgrees h.status h.version w.history (h.sees e.snapshot) (start_now w.history m) (h.sees e.snapshot) e m
+    → SessionAgrees h.status h.version w.history (StatementSees h e.isolation) (start_now w.history m) (CursorSees h e.isolation) e m
     → HeapAgrees h w → HeapAgrees (record h { session = session' }) (put w s (Some (as_failed m)))
 Agrees-fail h w s e m session' only at there mine agrees =
     Agrees-put h w s e (record e { failed = true }) m (as_failed m) h.status h.sees session' only at there (Finishes-none h.status e.own) (same_sights h) (λ x ours. ours) (λ k wrote. wrote) (SessionAgrees-fail mine) agrees
@@ -161,12 +173,18 @@ Agrees-fail h w s e m session' only at there mine agrees =
 -- to be given an id, of any level, is no step of the model
 pub Agrees-give_below : (h : Heap) (w : World) (s : ℕ) (e : SeenSession) (n x : ℕ) (status' : ℕ → Option Status) (sees' : Snap → ℕ → Type 0) (session' : ℕ → Option SeenSession)
     → OnlyIs h.session session' s (Some (with_id n x e)) → h.session s ≡ Some e
-    → GivesNext h.status status' x → SameSights h sees' → ((o : ℕ) (f : SeenSession) → h.session o ≡ Some f → ¬ sees' f.snapshot x)
+    → GivesNext h.status status' x → SameSights h sees' → IsUnseen h sees' x
     → HeapAgrees h w → HeapAgrees (record h { status = status'; sees = sees'; session = session' }) w
 Agrees-give_below h w s e n x status' sees' session' only at gives same unseen agrees = record {
-  opened = opened-change h h' w w s agrees only.others (λ o ne. refl) (λ o f m ne bt there old. SessionAgrees-give_other x gives (same o f bt) (unseen o f bt) old)
-      (λ f. let old = agrees.opened s e at in at_value (λ f. Matches h' w s f) (session' s) new f only.itself
-      (old.0, old.1, SessionAgrees-give n x gives (same s e at) (unseen s e at) agrees.given old.2));
+  opened = opened-change h h' w w s agrees only.others (λ o ne. refl)
+      (λ o f m ne bt there old. SessionAgrees-give_other x gives (statement_same h status' sees' o f bt same (committed_sight-give x gives)) (statement_unseen h status' sees' o f x bt unseen gives.active)
+      (λ some. cursor_same h status' sees' o f bt same (old.kept some)) (λ some. cursor_unseen h status' sees' o f x bt unseen (old.kept some)) old)
+      (λ f. let old = agrees.opened s e at in at_value (λ f. Matches h' w s f) (session' s) new f only.itself (
+        old.0,
+        old.1,
+        SessionAgrees-give n x gives (statement_same h status' sees' s e at same (committed_sight-give x gives)) (statement_unseen h status' sees' s e x at unseen gives.active)
+            (λ some. cursor_same h status' sees' s e at same (old.2.kept some)) (λ some. cursor_unseen h status' sees' s e x at unseen (old.2.kept some)) agrees.given old.2,
+      ));
   idle = idle-change h h' w w s agrees only.others (λ o ne. refl) (λ at'. absurd (none-some new (sym at' ∙ only.itself)));
   waits = agrees.waits;
   current = Shows-same (λ p v bt seen. VisibleBy-same (λ y touch. to y) (λ y touch. back y) seen) (λ p v bt seen. VisibleBy-same (λ y touch. back y) (λ y touch. to y) seen) (λ k. refl) agrees.current;
@@ -204,7 +222,7 @@ Agrees-give_below h w s e n x status' sees' session' only at gives same unseen a
 pub Agrees-insert : (h : Heap) (w : World) (s : ℕ) (e : SeenSession) (m : OpenSession) (x : ℕ) (place : Tid) (new : Version) (store' : Tid → Option Version)
     → AddsVersion h.version store' place new → IsNew x new → h.session s ≡ Some e → IsCurrent e x → w.session s ≡ Some m → m.cursor ≡ None
     → reading w.history (start_now w.history m) (joined m.levels) new.row.key ≡ None → ¬ IsLate w.history (start_now w.history m) new.row.key → ((o : ℕ) → o ≢ s → ¬ Holds w o new.row.key)
-    → SessionAgrees h.status h.version w.history (h.sees e.snapshot) (start_now w.history m) (h.sees e.snapshot) e m
+    → SessionAgrees h.status h.version w.history (StatementSees h e.isolation) (start_now w.history m) (CursorSees h e.isolation) e m
     → HeapAgrees h w → HeapAgrees (record h { version = store' }) (put w s (Some (with_row w.history new.row m)))
 Agrees-insert h w s e m x place new store' adds is_new at current there bare none in_time unheld mine agrees = record {
   opened = opened-change h h' w w' s agrees (λ o ne. refl) models
@@ -258,7 +276,8 @@ pub Agrees-abort : (h : Heap) (w : World) (s : ℕ) (e : SeenSession) (status' :
     → HeapAgrees h w → HeapAgrees (record h { status = status'; sees = sees'; session = session' }) (aborted w s)
 Agrees-abort h w s e status' sees' session' only at finishes same agrees = record {
   opened = opened-change h h' w w' s agrees only.others models
-      (λ o f m ne bt there old. SessionAgrees-abort_other (λ x. Contains e.own x) finishes (same o f bt) (λ x mine theirs. ne (agrees.apart o s f e x bt at theirs mine)) old)
+      (λ o f m ne bt there old. SessionAgrees-abort_other (λ x. Contains e.own x) finishes (statement_same h status' sees' o f bt same (committed_sight-abort (λ x. Contains e.own x) finishes))
+      (λ some. cursor_same h status' sees' o f bt same (old.kept some)) (λ x mine theirs. ne (agrees.apart o s f e x bt at theirs mine)) old)
       (λ e' at'. absurd (none-some e' (sym only.itself ∙ at')));
   idle = idle-change h h' w w' s agrees only.others models (λ at'. at_same s None (w.session s));
   waits = waits-aborted w s agrees.waits;

@@ -9,24 +9,24 @@ use Rattle.commit_status.specs.declared.status.Status.{Status}
 use Rattle.commit_status.specs.declared.status.Status.TheVariants.{InProgress, Committed, Aborted}
 use Rattle.snapshot.specs.Snap.{Snap}
 use Rattle.history.specs.World.{World}
-use Rattle.refinement.specs.Heap.{SeenSession, Heap}
+use Rattle.refinement.specs.Heap.{SeenSession, Heap, SightOfStatement, StatementSees}
 use Rattle.visibility.specs.Seeing.{HasCommitted, HasAborted, Reads, by_itself, by_others, Touches, deleted_by, inserter, deleter}
 use Rattle.refinement.specs.Visible.{ReaderSees, At}
-use Rattle.refinement.specs.Changes.{GivesNext, MayRemove, IsPast}
+use Rattle.refinement.specs.Changes.{GivesNext, SameSight, MayRemove, IsPast}
 use Rattle.refinement.specs.Agrees.{HeapAgrees}
 use Rattle.refinement.specs.Finds.{Free}
 use Rattle.refinement.proofs.Statuses.{keeps-give, none_given, IsCommitted-give}
 use Rattle.visibility.proofs.Verdicts.{VisibleBy-same}
-use Rattle.refinement.proofs.Pruning.{past_unseen}
-use Rattle.refinement.proofs.Steps.{SameSights}
+use Rattle.refinement.proofs.Isolations.{SameSights, statement_same, committed_sight-give}
+use Rattle.refinement.proofs.Pruning.{past_unseen, statement_reader}
 
 -- who made it has committed, or is the session itself
-pub maker_of : (h : Heap) (e : SeenSession) (old : Version) → ReaderSees h.status (h.sees e.snapshot) e.own old → (y : ℕ) → inserter old.header ≡ Some y → HasCommitted h.status y ⊎ Contains e.own y
+pub maker_of : (h : Heap) (e : SeenSession) (old : Version) → ReaderSees h.status (StatementSees h e.isolation) e.own old → (y : ℕ) → inserter old.header ≡ Some y → HasCommitted h.status y ⊎ Contains e.own y
 maker_of h e old seen y is = elim (seen.made y is) [ by_itself mine ↦ inr mine | by_others sees done ↦ inl done ]
 
 -- where nothing keeps the session from the key, who deleted the version before, if anyone did, was rolled back
 pub untaken_of : (h : Heap) (w : World) (s : ℕ) (e : SeenSession) (k : ℕ) (found : Option Row) (place : Tid) (old : Version) → Free h s e k found → HeapAgrees h w
-    → At h.version place old → old.row.key ≡ k → ReaderSees h.status (h.sees e.snapshot) e.own old → (y : ℕ) → deleter old.header ≡ Some y → HasAborted h.status y
+    → At h.version place old → old.row.key ≡ k → ReaderSees h.status (StatementSees h e.isolation) e.own old → (y : ℕ) → deleter old.header ≡ Some y → HasAborted h.status y
 untaken_of h w s e k found place old free agrees at key seen y is = of (h.status y) refl (agrees.given place y old at (deleted_by is))
   where
     of : (o : Option Status) → h.status y ≡ o → IsSome (h.status y) → h.status y ≡ Some Aborted
@@ -38,25 +38,28 @@ untaken_of h w s e k found place old free agrees at key seen y is = of (h.status
 -- the session still sees it when it has been given an id
 pub visible_given : (h : Heap) (w : World) (s : ℕ) (e : SeenSession) (x : ℕ) (place : Tid) (old : Version) (status' : ℕ → Option Status) (sees' : Snap → ℕ → Type 0)
     → h.session s ≡ Some e → GivesNext h.status status' x → SameSights h sees' → HeapAgrees h w → At h.version place old
-    → ReaderSees h.status (h.sees e.snapshot) e.own old → ReaderSees status' (sees' e.snapshot) (e.own ++ x ∷ []) old
+    → ReaderSees h.status (StatementSees h e.isolation) e.own old → ReaderSees status' (SightOfStatement status' sees' e.isolation) (e.own ++ x ∷ []) old
 visible_given h w s e x place old status' sees' at gives sights agrees stood seen = VisibleBy-same (λ y touch. to y) back seen
   where
-    to : (y : ℕ) → Reads h.status (h.sees e.snapshot) e.own y → Reads status' (sees' e.snapshot) (e.own ++ x ∷ []) y
-    to y (by_itself mine) = by_itself (Contains-append_left e.own (x ∷ []) y mine)
-    to y (by_others sees done) = by_others ((sights s e at y Committed done).0 sees) (keeps-give gives y Committed done)
+    same : SameSight h.status (StatementSees h e.isolation) (SightOfStatement status' sees' e.isolation)
+    same = statement_same h status' sees' s e at sights (committed_sight-give x gives)
 
-    back : (y : ℕ) → Touches y old.header → Reads status' (sees' e.snapshot) (e.own ++ x ∷ []) y → Reads h.status (h.sees e.snapshot) e.own y
+    to : (y : ℕ) → Reads h.status (StatementSees h e.isolation) e.own y → Reads status' (SightOfStatement status' sees' e.isolation) (e.own ++ x ∷ []) y
+    to y (by_itself mine) = by_itself (Contains-append_left e.own (x ∷ []) y mine)
+    to y (by_others sees done) = by_others ((same y Committed done).0 sees) (keeps-give gives y Committed done)
+
+    back : (y : ℕ) → Touches y old.header → Reads status' (SightOfStatement status' sees' e.isolation) (e.own ++ x ∷ []) y → Reads h.status (StatementSees h e.isolation) e.own y
     back y touch (by_itself mine) = elim (Contains-push_cases e.own x y mine) [
       | inl old' ↦ by_itself old'
       | inr now ↦ absurd (none_given (h.status x) gives.fresh (subst (λ z. IsSome (h.status z)) (sym now) (agrees.given place y old stood touch)))
     ]
-    back y touch (by_others sees done) = (let was = IsCommitted-give gives y done in by_others ((sights s e at y Committed was).1 sees) was)
+    back y touch (by_others sees done) = (let was = IsCommitted-give gives y done in by_others ((same y Committed was).1 sees) was)
 
 -- cleaning leaves it where it is
 pub visible_stays : (h : Heap) (w : World) (s : ℕ) (e : SeenSession) (place : Tid) (old : Version) (store' : Tid → Option Version)
     → h.session s ≡ Some e → MayRemove h.version store' (IsPast h.status h.sees h.session) → HeapAgrees h w → At h.version place old
-    → ReaderSees h.status (h.sees e.snapshot) e.own old → At store' place old
+    → ReaderSees h.status (StatementSees h e.isolation) e.own old → At store' place old
 visible_stays h w s e place old store' at removes agrees stood seen = elim (removes.gone place old stood) [
   | inl stays ↦ stays
-  | inr past ↦ absurd (past_unseen (record { active = (agrees.opened s e at).2.own_active; number = s; is = e; at = at; same = refl }) old past seen)
+  | inr past ↦ absurd (past_unseen (statement_reader h s e e.own at (agrees.opened s e at).2.own_active) old past seen)
 ]

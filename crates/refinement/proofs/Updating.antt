@@ -11,11 +11,12 @@ use Rattle.history.specs.History.{Write, Transaction, committed, written, own_or
 use Rattle.history.specs.World.{World, OpenSession, joined, own_write, view, Holds, start_now}
 use Rattle.history.specs.Moves.{put, add_write, with_row, without_row}
 use Rattle.history.proofs.HistoryLemmas.{at_same, at_other, joined-add_write}
-use Rattle.refinement.specs.Heap.{SeenSession, Heap}
+use Rattle.refinement.specs.Heap.{SeenSession, Heap, StatementSees, CursorSees}
 use Rattle.refinement.specs.Visible.{ReaderSees, At}
 use Rattle.refinement.specs.Changes.{AddsVersion, Alters}
 use Rattle.refinement.specs.Agrees.{ReaderAgrees, LevelsAgree, Traced, LevelTraces, SessionAgrees, HeapAgrees}
 use Rattle.refinement.proofs.Readers.{IsNew, IsDeleted, ReaderAgrees-same, written-push_same, written-push_other}
+use Rattle.refinement.proofs.Isolations.{CursorReads-to}
 use Rattle.refinement.proofs.LevelTraces.{Traced-same}
 use Rattle.refinement.proofs.Itself.{IsCurrent}
 use Rattle.refinement.proofs.Steps.{waits-put, Agrees-insert}
@@ -61,12 +62,14 @@ traces_forget _ old new own (before ∷ saved) (ws ∷ levels) same h = (level_f
 abbrev adding : Write → OpenSession → OpenSession
 adding write m = record m { levels = add_write write m.levels }
 
-SessionAgrees-forget : {status : ℕ → Option Status} {store : Tid → Option Version} {history : List Transaction} {sees : ℕ → Type 0} {start : ℕ} {e : SeenSession} (old new : Write) (m : OpenSession) → new.key ≡ old.key
-    → SessionAgrees status store history sees start sees e (adding new (adding old m)) → SessionAgrees status store history sees start sees e (adding new m)
-SessionAgrees-forget {status} {store} {history} {sees} {start} {e} old new m same h = record {
+SessionAgrees-forget : {status : ℕ → Option Status} {store : Tid → Option Version} {history : List Transaction} {sees cursor_sees : ℕ → Type 0} {start : ℕ} {e : SeenSession} (old new : Write) (m : OpenSession) → new.key ≡ old.key
+    → SessionAgrees status store history sees start cursor_sees e (adding new (adding old m)) → SessionAgrees status store history sees start cursor_sees e (adding new m)
+SessionAgrees-forget {status} {store} {history} {sees} {cursor_sees} {start} {e} old new m same h = record {
   same_failed = h.same_failed;
   isolation = h.isolation;
+  kept = h.kept;
   cursor = h.cursor;
+  cursor_reads = λ some. CursorReads-to (λ start r. reader_forget e.own (joined (add_write new (add_write old m.levels))) (joined (add_write new m.levels)) (alike old new m.levels same) r) (h.cursor_reads some);
   levels = levels_forget status store history sees start old new e.own e.saved m.levels same h.levels;
   level_traces = traces_forget store old new e.own e.saved m.levels same h.level_traces;
   traces = h.traces;
@@ -85,10 +88,10 @@ Agrees-forget h w w' s old new m same history waits there now others agrees = re
     | inl is ↦ (let model : before.0 ≡ adding new (adding old m) = same_Some before.0 (adding new (adding old m)) (sym before.1 ∙ (ap w.session is ∙ there)) in (
       adding new m,
       ap w'.session is ∙ now,
-      subst (λ history. SessionAgrees h.status h.version history (h.sees e.snapshot) (start_now history (adding new m)) (h.sees e.snapshot) e (adding new m)) (sym history)
-          (SessionAgrees-forget old new m same (subst (λ (n : OpenSession). SessionAgrees h.status h.version w.history (h.sees e.snapshot) (start_now w.history n) (h.sees e.snapshot) e n) model before.2)),
+      subst (λ history. SessionAgrees h.status h.version history (StatementSees h e.isolation) (start_now history (adding new m)) (CursorSees h e.isolation) e (adding new m)) (sym history)
+          (SessionAgrees-forget old new m same (subst (λ (n : OpenSession). SessionAgrees h.status h.version w.history (StatementSees h e.isolation) (start_now w.history n) (CursorSees h e.isolation) e n) model before.2)),
     ))
-    | inr ne ↦ (before.0, others o ne ∙ before.1, subst (λ history. SessionAgrees h.status h.version history (h.sees e.snapshot) (start_now history before.0) (h.sees e.snapshot) e before.0) (sym history) before.2)
+    | inr ne ↦ (before.0, others o ne ∙ before.1, subst (λ history. SessionAgrees h.status h.version history (StatementSees h e.isolation) (start_now history before.0) (CursorSees h e.isolation) e before.0) (sym history) before.2)
   ];
   idle = λ o at. elim (cases_eq o s) [
     | inl is ↦ absurd (none-some (adding new (adding old m)) (sym (agrees.idle o at) ∙ (ap w.session is ∙ there)))
@@ -114,8 +117,8 @@ Agrees-forget h w w' s old new m same history waits there now others agrees = re
 pub Agrees-replace : (h : Heap) (w : World) (s : ℕ) (e : SeenSession) (m : OpenSession) (x : ℕ) (place q : Tid) (old old' new : Version) (between store' : Tid → Option Version)
     → Alters h.version between place old old' → IsDeleted x old old' → AddsVersion between store' q new → IsNew x new → new.row.key ≡ old.row.key
     → h.session s ≡ Some e → IsCurrent e x → w.session s ≡ Some m → m.cursor ≡ None
-    → ReaderSees h.status (h.sees e.snapshot) e.own old → ¬ IsLate w.history (start_now w.history m) old.row.key → ((o : ℕ) → o ≢ s → ¬ Holds w o old.row.key)
-    → SessionAgrees h.status h.version w.history (h.sees e.snapshot) (start_now w.history m) (h.sees e.snapshot) e m
+    → ReaderSees h.status (StatementSees h e.isolation) e.own old → ¬ IsLate w.history (start_now w.history m) old.row.key → ((o : ℕ) → o ≢ s → ¬ Holds w o old.row.key)
+    → SessionAgrees h.status h.version w.history (StatementSees h e.isolation) (start_now w.history m) (CursorSees h e.isolation) e m
     → HeapAgrees h w → HeapAgrees (record h { version = store' }) (put w s (Some (with_row w.history new.row m)))
 Agrees-replace h w s e m x place q old old' new between store' alters deleted adds is_new key at current there bare seen in_time unheld mine agrees =
     Agrees-forget (record h { version = store' }) w₂ (put w s (Some (with_row w.history new.row m))) s (record { start = start_now w.history m; key = old.row.key; row = None }) (record { start = start_now w.history m; key = new.row.key; row = Some new.row }) m key
@@ -138,8 +141,8 @@ Agrees-replace h w s e m x place q old old' new between store' alters deleted ad
     there₁ : w₁.session s ≡ Some m₁
     there₁ = at_same s (Some m₁) (w.session s)
 
-    mine₁ : SessionAgrees h.status between w.history (h.sees e.snapshot) (start_now w.history m₁) (h.sees e.snapshot) e m₁
-    mine₁ = let open_ = gone.opened s e at in subst (λ (n : OpenSession). SessionAgrees h.status between w.history (h.sees e.snapshot) (start_now w.history n) (h.sees e.snapshot) e n) (same_Some open_.0 m₁ (sym open_.1 ∙ there₁)) open_.2
+    mine₁ : SessionAgrees h.status between w.history (StatementSees h e.isolation) (start_now w.history m₁) (CursorSees h e.isolation) e m₁
+    mine₁ = let open_ = gone.opened s e at in subst (λ (n : OpenSession). SessionAgrees h.status between w.history (StatementSees h e.isolation) (start_now w.history n) (CursorSees h e.isolation) e n) (same_Some open_.0 m₁ (sym open_.1 ∙ there₁)) open_.2
 
     deleted_now : own_write m₁ old.row.key ≡ Some None
     deleted_now = ap (λ ws. written ws old.row.key) (joined-add_write (record { start = start_now w.history m; key = old.row.key; row = None }) m.levels) ∙ written-push_same (joined m.levels) (record { start = start_now w.history m; key = old.row.key; row = None })
@@ -171,8 +174,8 @@ chosen-right (inr q) a b right = refl
 pub Agrees-update : (h : Heap) (w : World) (s : ℕ) (e : SeenSession) (m : OpenSession) (x : ℕ) (place q : Tid) (old old' new : Version) (added altered : Tid → Option Version)
     → At h.version place old → AddsVersion h.version added q new → IsNew x new → new.row.key ≡ old.row.key → Alters added altered place old old' → IsDeleted x old old'
     → h.session s ≡ Some e → IsCurrent e x → w.session s ≡ Some m → m.cursor ≡ None
-    → ReaderSees h.status (h.sees e.snapshot) e.own old → ¬ IsLate w.history (start_now w.history m) old.row.key → ((o : ℕ) → o ≢ s → ¬ Holds w o old.row.key)
-    → SessionAgrees h.status h.version w.history (h.sees e.snapshot) (start_now w.history m) (h.sees e.snapshot) e m
+    → ReaderSees h.status (StatementSees h e.isolation) e.own old → ¬ IsLate w.history (start_now w.history m) old.row.key → ((o : ℕ) → o ≢ s → ¬ Holds w o old.row.key)
+    → SessionAgrees h.status h.version w.history (StatementSees h e.isolation) (start_now w.history m) (CursorSees h e.isolation) e m
     → HeapAgrees h w → HeapAgrees (record h { version = altered }) (put w s (Some (with_row w.history new.row m)))
 Agrees-update h w s e m x place q old old' new added altered stood adds is_new key alters deleted =
     Agrees-replace h w s e m x place q old old' new between altered alters' deleted adds' is_new key

@@ -7,7 +7,7 @@ use Rattle.tuple_header.specs.Version.{Version}
 use Rattle.commit_status.specs.declared.status.Status.{Status}
 use Rattle.history.specs.History.{Write, Transaction, written, committed, reading, IsLate}
 use Rattle.history.specs.World.{World, Isolation, by_snapshot, by_statement, OpenSession, joined, own_write, start_now, Holds}
-use Rattle.refinement.specs.Heap.{SeenIsolation, seen_by_snapshot, seen_by_statement, SeenSession, Heap, StatementSees, CursorSees}
+use Rattle.refinement.specs.Heap.{SeenIsolation, seen_by_snapshot, seen_by_statement, SeenSession, Heap, kept_snapshot, StatementSees, CursorSees}
 use Rattle.visibility.specs.Seeing.{HasCommitted, IsRunning, Reads, VisibleBy, Touches, inserter, deleter}
 use Rattle.refinement.specs.Visible.{ReaderSees, HasMissed, IsBy, At, SomeVersion}
 use Rattle.refinement.specs.Cursors.{CursorAgrees}
@@ -71,6 +71,8 @@ pub record SessionAgrees (status : ℕ → Option Status) (store : Tid → Optio
     (sees : ℕ → Type 0) (start : ℕ) (cursor_sees : ℕ → Type 0) (e : SeenSession) (m : OpenSession) : Type 0 where
   pub same_failed : e.failed ≡ m.failed
   pub isolation : IsSameIsolation e.isolation m.isolation
+  -- while its cursor is open, it keeps a snapshot
+  pub kept : IsSome e.cursor → IsSome (kept_snapshot e.isolation)
   -- what its cursor has still to hand out is what the model's has
   pub cursor : CursorAgrees store (ReaderSees status cursor_sees e.own) e.cursor m.cursor
   pub cursor_reads : IsSome e.cursor → CursorReads status store history cursor_sees e.own (joined m.levels)

@@ -6,7 +6,7 @@ use Rattle.tuple_header.specs.Version.{Version}
 use Rattle.commit_status.specs.declared.status.Status.{Status}
 use Rattle.snapshot.specs.Snap.{Snap}
 use Rattle.snapshot.specs.Own.{saved_with}
-use Rattle.refinement.specs.Heap.{SeenSession, IsKept}
+use Rattle.refinement.specs.Heap.{SeenSession, IsKeptSnapshot}
 use Rattle.visibility.specs.Seeing.{IsRunning, HasCommitted, HasAborted, inserter, deleter}
 use Rattle.refinement.specs.Visible.{At}
 
@@ -26,7 +26,7 @@ pub record Alters (store store' : Tid → Option Version) (p : Tid) (v new : Ver
 -- snapshot that is kept. (The manual's "Routine Vacuuming": a version is removed once no transaction can see it.)
 pub data IsPast (status : ℕ → Option Status) (sees : Snap → ℕ → Type 0) (session : ℕ → Option SeenSession) (v : Version) : Type 0 where
   never_was : (x : ℕ) → inserter v.header ≡ Some x → HasAborted status x → IsPast status sees session v
-  is_over : (y : ℕ) → deleter v.header ≡ Some y → HasCommitted status y → ((snap : Snap) → IsKept session snap → sees snap y)
+  is_over : (y : ℕ) → deleter v.header ≡ Some y → HasCommitted status y → ((snap : Snap) → IsKeptSnapshot session snap → sees snap y)
       → IsPast status sees session v
 
 -- versions of P may go; no other does, and none comes or moves

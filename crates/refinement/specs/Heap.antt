@@ -50,19 +50,26 @@ kept_snapshot (seen_by_snapshot snap) = Some snap
 kept_snapshot (seen_by_statement kept) = kept
 
 -- an open session keeps this snapshot
-abbrev pub IsKept : (ℕ → Option SeenSession) → Snap → Type 0
-IsKept session snap = (s : ℕ) × (e : SeenSession) × (session s ≡ Some e) × (kept_snapshot e.isolation ≡ Some snap)
+abbrev pub IsKeptSnapshot : (ℕ → Option SeenSession) → Snap → Type 0
+IsKeptSnapshot session snap = (s : ℕ) × (e : SeenSession) × (session s ≡ Some e) × (kept_snapshot e.isolation ≡ Some snap)
 
--- whether a statement of a session sees an id: by its snapshot, or where the id has committed
+-- whether a statement sees an id: by the snapshot of its session, or where the id has committed
+abbrev pub SightOfStatement : (status : ℕ → Option Status) → (sees : Snap → ℕ → Type 0) → SeenIsolation → ℕ → Type 0
+SightOfStatement status sees (seen_by_snapshot snap) x = sees snap x
+SightOfStatement status sees (seen_by_statement kept) x = HasCommitted status x
+
+-- whether a cursor does: by the snapshot that its session keeps
+abbrev pub SightOfCursor : (status : ℕ → Option Status) → (sees : Snap → ℕ → Type 0) → SeenIsolation → ℕ → Type 0
+SightOfCursor status sees (seen_by_snapshot snap) x = sees snap x
+SightOfCursor status sees (seen_by_statement (Some snap)) x = sees snap x
+SightOfCursor status sees (seen_by_statement None) x = HasCommitted status x
+
+-- whether a statement of a session of this engine sees an id, and whether its cursor does
 abbrev pub StatementSees : Heap → SeenIsolation → ℕ → Type 0
-StatementSees h (seen_by_snapshot snap) x = h.sees snap x
-StatementSees h (seen_by_statement kept) x = HasCommitted h.status x
+StatementSees h isolation = SightOfStatement h.status h.sees isolation
 
--- whether its cursor does
 abbrev pub CursorSees : Heap → SeenIsolation → ℕ → Type 0
-CursorSees h (seen_by_snapshot snap) x = h.sees snap x
-CursorSees h (seen_by_statement (Some snap)) x = h.sees snap x
-CursorSees h (seen_by_statement None) x = HasCommitted h.status x
+CursorSees h isolation = SightOfCursor h.status h.sees isolation
 
 -- its sessions, as far as what bars one from a step looks at them
 abbrev pub seen_sessions : Heap → SessionLooks SeenSession Position

@@ -6,7 +6,7 @@ use Rattle.commit_status.specs.declared.status.Status.{Status}
 use Rattle.commit_status.specs.declared.status.Status.TheVariants.{Aborted}
 use Rattle.snapshot.specs.Snap.{Snap}
 use Rattle.history.specs.World.{World}
-use Rattle.refinement.specs.Heap.{Heap, IsKept}
+use Rattle.refinement.specs.Heap.{Heap, IsKeptSnapshot}
 use Rattle.visibility.specs.Seeing.{HasCommitted, HasAborted, IsRunning, Touches, inserter, deleter}
 use Rattle.refinement.specs.Visible.{At}
 use Rattle.refinement.specs.Agrees.{HeapAgrees}
@@ -14,7 +14,7 @@ use Rattle.refinement.specs.Agrees.{HeapAgrees}
 -- the inserter stays, or counts for everybody: it committed, and every snapshot that is kept sees it
 pub data MakerSettles (h : Heap) (v u : Version) : Type 0 where
   stays : inserter u.header ≡ inserter v.header → MakerSettles h v u
-  settles : (x : ℕ) → inserter v.header ≡ Some x → inserter u.header ≡ None → HasCommitted h.status x → ((snap : Snap) → IsKept h.session snap → h.sees snap x) → MakerSettles h v u
+  settles : (x : ℕ) → inserter v.header ≡ Some x → inserter u.header ≡ None → HasCommitted h.status x → ((snap : Snap) → IsKeptSnapshot h.session snap → h.sees snap x) → MakerSettles h v u
 
 -- the deleter stays, or was rolled back and leaves no trace
 pub data DeleterSettles (h : Heap) (v u : Version) : Type 0 where
@@ -39,7 +39,7 @@ pub record ForgetsIds (h : Heap) (status' : ℕ → Option Status) (sees' : Snap
   pub each : (x : ℕ) → (status' x ≡ h.status x) ⊎ (status' x ≡ None)
   pub touched : (p : Tid) (v : Version) (x : ℕ) → At h.version p v → Touches x v.header → status' x ≡ h.status x
   pub active : (x : ℕ) → IsRunning h.status x → status' x ≡ h.status x
-  pub sight : (snap : Snap) → IsKept h.session snap → (x : ℕ) (status : Status)
+  pub sight : (snap : Snap) → IsKeptSnapshot h.session snap → (x : ℕ) (status : Status)
       → status ≢ Aborted → status' x ≡ Some status → h.sees snap x ↔ sees' snap x
 
 abbrev pub ForgettingIsUnseen : Type 1
