@@ -51,13 +51,13 @@ use Rattle.session_steps.specs.Agrees.{Agrees, Sound, Follows, SessionKeeps, Kee
 use Rattle.table_scans.specs.declared.progress.Scan.{Scan}
 use Rattle.table_scans.specs.declared.progress.Scan.TheVariants.{Index, Heap}
 use Rattle.session_steps.specs.Changes.{Opens, Closes}
+use Rattle.session_steps.specs.Tests.{BarsBegin}
 use Rattle.refinement.proofs.Runs.{same_indexes}
 use Rattle.refinement.specs.Heap.{seen_sessions}
 use Rattle.session_steps.proofs.InUse.{GoesAlong, used-still, no-cursor, cursors-put, agree}
 use Rattle.session_steps.proofs.OwnIdsLemmas.{open-within, open-set_cases}
 use Rattle.session_steps.proofs.StateLemmas.{only-set}
-use Rattle.session_steps.proofs.Windows.{Finishes-from, SameSight-finish}
-use Rattle.session_steps.proofs.Statements.{statement-decided}
+use Rattle.session_steps.proofs.Windows.{Finishes-from, SameSight-finish, decided}
 use Rattle.session_steps.proofs.Owns.{reader-is, now_taken, taken-fresh, taken-within}
 use Rattle.session_steps.proofs.Horizons.{back-cases, held-in, horizon-above, horizon-next, horizon-low, horizon-upto, upto-horizon, taken-late}
 use Rattle.session_steps.proofs.Ends.{commits-sound, aborts-sound}
@@ -117,30 +117,21 @@ Follows-closed_abort st s r is = Follows-same st (step.Abort s) (reply.Refused r
 pub Follows-unready_get : (st : State) (s k : ℕ) (r : Refusal) → BarsReady (engine_sessions st) s r → Follows st (step.Get s k) (reply.Refused r) st
 Follows-unready_get st s k r is = Follows-same st (step.Get s k) (reply.Refused r) (theory.Follows-unready_get (seen st) s k r (unready_by st s r is))
 
-pub Follows-already_open : (st : State) (s : ℕ) (e : Session) → session_at st s ≡ Some e → Follows st (step.Begin s) (reply.Refused refusal.AlreadyOpen) st
-Follows-already_open st s e at = Follows-same st (step.Begin s) (reply.Refused refusal.AlreadyOpen) (theory.Follows-already_open (seen st) s (reader_of e) (reader-is st s e at))
-
 pub Follows-begin_no_memory : (st : State) (s : ℕ) → s < 64 → session_at st s ≡ None → Follows st (step.Begin s) (reply.Refused refusal.NoMemory) st
 Follows-begin_no_memory st s within idle =
     Follows-same st (step.Begin s) (reply.Refused refusal.NoMemory) (theory.Follows-begin_refused (seen st) s refusal.NoMemory (λ w agrees. (within, agrees.idle s (ap (option_map reader_of) idle))))
 
-pub Follows-no_such_session : (st : State) (s : ℕ) → 64 ≤ s → Follows st (step.Begin s) (reply.Refused refusal.NoSuchSession) st
-Follows-no_such_session st s past = Follows-same st (step.Begin s) (reply.Refused refusal.NoSuchSession) (theory.Follows-begin_refused (seen st) s refusal.NoSuchSession (λ w agrees. past))
+pub Follows-barred_begin : (st : State) (s : ℕ) (r : Refusal) → BarsBegin st s r → Follows st (step.Begin s) (reply.Refused r) st
+Follows-barred_begin st s refusal.NoSuchSession is = Follows-same st (step.Begin s) (reply.Refused refusal.NoSuchSession) (theory.Follows-begin_refused (seen st) s refusal.NoSuchSession (λ w agrees. is))
+Follows-barred_begin st s refusal.AlreadyOpen is = Follows-same st (step.Begin s) (reply.Refused refusal.AlreadyOpen) (theory.Follows-already_open (seen st) s (reader_of is.0) (reader-is st s is.0 is.1))
+Follows-barred_begin st s _ is = absurd is
 
-pub Follows-closed_begin : (st : State) (s : ℕ) (r : Refusal) → (r ≡ refusal.NotOpen → ⊥) → BarsOpen (engine_sessions st) s r → Follows st (step.Begin s) (reply.Refused r) st
-Follows-closed_begin st s refusal.NoSuchSession ne is = Follows-no_such_session st s is
-Follows-closed_begin st s refusal.NotOpen ne is = absurd (ne refl)
-Follows-closed_begin st s _ ne is = absurd is
-
-pub Follows-already_open_by_statement : (st : State) (s : ℕ) (e : Session) → session_at st s ≡ Some e → Follows st (step.BeginReadCommitted s) (reply.Refused refusal.AlreadyOpen) st
-Follows-already_open_by_statement st s e at =
-    Follows-same st (step.BeginReadCommitted s) (reply.Refused refusal.AlreadyOpen) (theory.Follows-already_open_by_statement (seen st) s (reader_of e) (reader-is st s e at))
-
-pub Follows-closed_begin_by_statement : (st : State) (s : ℕ) (r : Refusal) → (r ≡ refusal.NotOpen → ⊥) → BarsOpen (engine_sessions st) s r → Follows st (step.BeginReadCommitted s) (reply.Refused r) st
-Follows-closed_begin_by_statement st s refusal.NoSuchSession ne is =
+pub Follows-barred_begin_by_statement : (st : State) (s : ℕ) (r : Refusal) → BarsBegin st s r → Follows st (step.BeginReadCommitted s) (reply.Refused r) st
+Follows-barred_begin_by_statement st s refusal.NoSuchSession is =
     Follows-same st (step.BeginReadCommitted s) (reply.Refused refusal.NoSuchSession) (theory.Follows-begin_by_statement_refused (seen st) s refusal.NoSuchSession (λ w agrees. is))
-Follows-closed_begin_by_statement st s refusal.NotOpen ne is = absurd (ne refl)
-Follows-closed_begin_by_statement st s _ ne is = absurd is
+Follows-barred_begin_by_statement st s refusal.AlreadyOpen is =
+    Follows-same st (step.BeginReadCommitted s) (reply.Refused refusal.AlreadyOpen) (theory.Follows-already_open_by_statement (seen st) s (reader_of is.0) (reader-is st s is.0 is.1))
+Follows-barred_begin_by_statement st s _ is = absurd is
 
 -- Begin.
 
@@ -279,7 +270,7 @@ Follows-commit_failed st st' s e at failed closes w agrees =
 pub Follows-commit : (st st' : State) (s : ℕ) (e : Session) → session_at st s ≡ Some e → e.failed ≡ false → Closes st st' s Committed → Follows st (step.Commit s) reply.Committed st'
 Follows-commit st st' s e at sound closes w agrees =
     let f = theory.Follows-commit (seen st) s (reader_of e) (seen st').status (seen st').sees (seen st').session (only-closes st st' s e Committed at closes) (reader-is st s e at) sound
-    (own-finishes st st' s e Committed at closes) (same-sights st st' s e Committed at closes) (statement-decided st e.isolation) w agrees.found in
+    (own-finishes st st' s e Committed at closes) (same-sights st st' s e Committed at closes) (λ snap x. decided snap st.heap.statuses x) w agrees.found in
     let sound' = commits-sound st st' s e w at closes agrees in
     (f.0, agree agrees closes.settings refl (closed-with st st' s e Committed at closes (next w (step.Commit s) reply.Committed) f.1) sound'.0, sound'.1)
 

@@ -89,11 +89,11 @@ module _ (st st' : State) (s n : ℕ) (e : Session) (after : Scan) (rows : Vec R
       → ((w : World) → Agrees st w → finds.HeapFollows (seen st) (step.Next s n) (reply.Rows rows) (seen now)) → Follows st (step.Next s n) (reply.Rows rows) st'
   put-after along follows w agrees =
       let f = follows w agrees w agrees.found in
-      subst (λ st'. Allows w (step.Next s n) (reply.Rows rows) × Agrees st' (next w (step.Next s n) (reply.Rows rows)) × KeepsAllTargets st st') (sym (moved st st' s e (Some after) at is))
-      (f.0, agree agrees refl refl f.1 (sound-cursor st st' s e (Some after) at is along agrees.sound), led-same st w agrees)
+      subst (λ st'. Allows w (step.Next s n) (reply.Rows rows) × Agrees st' (next w (step.Next s n) (reply.Rows rows)) × KeepsAllTargets st st') (sym (moved st st' s e after at is))
+      (f.0, agree agrees refl refl f.1 (sound-cursor st st' s e after at is along agrees.sound), led-same st w agrees)
 
   only-at : (position : Position) → position_of (Some after) ≡ Some position → OnlyIs (seen st).session (seen now).session s (Some (record (reader_of e) { cursor = Some position }))
-  only-at position same = subst (λ p. OnlyIs (seen st).session (seen now).session s (Some (record (reader_of e) { cursor = p }))) same (only-cursor st st' s e (Some after) at is)
+  only-at position same = subst (λ p. OnlyIs (seen st).session (seen now).session s (Some (record (reader_of e) { cursor = p }))) same (only-cursor st st' s e after at is)
 
 -- where the cursor is after a walk in an index
 walked-to : (span left : IndexRange) → left ≡ record span { last = left.last } → position_of (Some (Index left)) ≡ Some (in_index span.index span.low span.high (seen_position left.last))
@@ -158,7 +158,7 @@ hands-out takes st st' s n e cursor after rows at opened taken is = record {
   at = opened;
   after = after;
   takes = taken;
-  is = moved st st' s e (Some after) at is;
+  is = moved st st' s e after at is;
 }
 
 pub bare-next_rows : (st : State) (s n : ℕ) (r : Refusal) → BarsWithCursor (engine_sessions st) s r → ExactNextRows st s n (reply.Refused r) st

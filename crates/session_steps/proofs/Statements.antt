@@ -4,8 +4,7 @@ use Rattle.std.specs.Prelude.{◌↔◌, IsSome}
 use Rattle.std.proofs.lemmas.Option.{same_Some, none-some}
 use Rattle.tuple_header.specs.declared.version.Header.{Header}
 use Rattle.tuple_header.specs.Version.{Version}
-use Rattle.commit_status.specs.declared.status.Status.{Status}
-use Rattle.commit_status.specs.declared.status.Status.TheVariants.{InProgress, Committed, Aborted}
+use Rattle.commit_status.specs.declared.status.Status.TheVariants.{Committed}
 use Rattle.commit_status.specs.Window.{Window, IsWindow, next_id}
 use Rattle.snapshot.specs.Snap.{Snap, Sees, empty_at}
 use Rattle.visibility.specs.Seeing.{HasCommitted, Reads, VisibleBy, by_itself, by_others}
@@ -19,7 +18,6 @@ use Rattle.session_steps.specs.declared.session.Isolation.{Isolation}
 use Rattle.session_steps.specs.declared.session.Isolation.TheVariants.{BySnapshot, ByStatement}
 use Rattle.session_steps.specs.State.{State, session_at, seen, reader_of, isolation_of, kept_by, lent_to, statement_snapshot, cursor_snapshot, keeping, kept_xmin, IsByStatement}
 use Rattle.session_steps.proofs.Owns.{reader-at}
-use Rattle.session_steps.proofs.Windows.{decided}
 
 -- what a statement of the session sees of the ids, and what its cursor does
 abbrev pub statement_sight : State → Isolation → ℕ → Type 0
@@ -80,17 +78,6 @@ pub kept-sight : (st : State) (i : Isolation) (snap : Snap) → kept_by i ≡ So
 kept-sight st (BySnapshot s) snap is = ap (λ (s : Snap) (x : ℕ). Sees s st.heap.statuses x) (same_Some s snap is)
 kept-sight st (ByStatement (Some s)) snap is = ap (λ (s : Snap) (x : ℕ). Sees s st.heap.statuses x) (same_Some s snap is)
 kept-sight st (ByStatement None) snap is = absurd (none-some snap is)
-
--- whether a statement sees an id is decided
-decided-status : (o : Option Status) → (o ≡ Some Committed) ⊎ (¬ (o ≡ Some Committed))
-decided-status None = inr (λ e. absurd (none-some Committed e))
-decided-status (Some InProgress) = inr (λ e. let f = same_Some InProgress Committed e in cc)
-decided-status (Some Committed) = inl refl
-decided-status (Some Aborted) = inr (λ e. let f = same_Some Aborted Committed e in cc)
-
-pub statement-decided : (st : State) (i : Isolation) (x : ℕ) → statement_sight st i x ⊎ (¬ statement_sight st i x)
-statement-decided st (BySnapshot snap) x = decided snap st.heap.statuses x
-statement-decided st (ByStatement kept) x = decided-status (state_of st.heap.statuses x)
 
 -- What a session keeps.
 

@@ -1,6 +1,6 @@
 -- The tests of a write, in their order. What they look for is found through the index by key.
 use Rattle.table_indexes.specs.Indexes.{entries_in}
-use Rattle.std.specs.Prelude.{◌≡◌, ◌<◌, ℕ, pos, Option, Some, None, false, Contains}
+use Rattle.std.specs.Prelude.{◌≡◌, ◌<◌, ◌≤◌, ℕ, pos, Option, Some, None, false, Contains}
 use Rattle.xid_circle.specs.declared.Tid.{Tid}
 use Rattle.visibility.specs.Visible.{IsVisible, IsOtherWriterIn, IsNewerCommitIn}
 use Rattle.index_lookup.specs.Looking.{FirstPlace, SomeOf}
@@ -10,6 +10,12 @@ use Rattle.calls.specs.declared.reply.Refusal.TheVariants as refusal
 use Rattle.session_steps.specs.declared.session.Session.{Session}
 use Rattle.session_steps.specs.State.{State, session_at, statement_snapshot}
 use Rattle.calls.specs.declared.step.TheConstants.{MOST_SESSIONS}
+
+-- what bars a session from a beginning, by snapshot or by statement
+abbrev pub BarsBegin : State → ℕ → Refusal → Type 0
+BarsBegin st s refusal.NoSuchSession = MOST_SESSIONS ≤ s
+BarsBegin st s refusal.AlreadyOpen = (e : Session) × (session_at st s ≡ Some e)
+BarsBegin st s refusal = ⊥
 
 -- the session is open, has not failed and has no cursor: it may do anything but a step of a cursor
 abbrev pub MayAct : State → ℕ → Session → Type 0

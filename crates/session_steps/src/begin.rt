@@ -1,10 +1,12 @@
 //! A session begins, by snapshot or by statement; and the snapshot that is taken.
 
-ghost use Rattle.std.specs.Prelude.{◌≡◌, ◌<◌, length, IfOk, OnErr};
+ghost use Rattle.std.specs.Prelude.{◌≡◌, ◌<◌, length, None, IfOk, OnErr, MatchResult};
 ghost use Rattle.snapshot.specs.Snap.{taken};
 ghost use Rattle.xid_circle.specs.Circle.{IsNormal};
 ghost use Rattle.commit_status.specs.Window.{next_id};
-ghost use Rattle.session_steps.specs.State.{owns_of};
+ghost use Rattle.session_steps.specs.State.{owns_of, session_at};
+ghost use Rattle.session_steps.specs.Tests.{BarsBegin};
+ghost use Rattle.calls.specs.declared.step.TheConstants.{MOST_SESSIONS};
 ghost use Rattle.calls.specs.declared.step.Step.{Step};
 ghost use Rattle.session_steps.specs.Exact.{MustList, AnswersStep};
 ghost use Rattle.session_steps.specs.Replies.{reply_to};
@@ -50,23 +52,33 @@ impl SessionEngine {
         )
     }
 
+    /// That the session may begin. Refusals in order: NoSuchSession, AlreadyOpen.
+    fn may_begin(&self, s: u8) -> Result<(), Refusal>
+        ensures { MatchResult result
+            (λ _. (s < MOST_SESSIONS) × (session_at self.now s ≡ None))
+            (λ refusal. BarsBegin self.now s refusal) }
+    {
+        match self.open_session(s) {
+            Ok(_) => Err(Refusal::AlreadyOpen),
+            Err(refusal) => match refusal {
+                Refusal::NotOpen => Ok(()),
+                _ => Err(refusal),
+            },
+        }
+    }
+
     /// Opens the session: it reads what was committed by now. Refusals in order: NoSuchSession, AlreadyOpen, and NoMemory,
     /// which comes only where its snapshot lists more than 8 ids.
     pub(crate) fn begin(&mut self, s: u8) -> Result<Ack, Refusal>
         ensures { AnswersStep self.old (Step.Begin s) (reply_to result) self.new }
     {
-        match self.open_session(s) {
-            Ok(_) => Err(Refusal::AlreadyOpen),
-            Err(refusal) => match refusal {
-                Refusal::NotOpen => match self.snapshot() {
-                    Ok(snapshot) => {
-                        self.open(s, Isolation::BySnapshot(snapshot));
-                        Ok(Ack::Done)
-                    }
-                    Err(_) => Err(Refusal::NoMemory),
-                },
-                _ => Err(refusal),
-            },
+        self.may_begin(s)?;
+        match self.snapshot() {
+            Ok(snapshot) => {
+                self.open(s, Isolation::BySnapshot(snapshot));
+                Ok(Ack::Done)
+            }
+            Err(_) => Err(Refusal::NoMemory),
         }
     }
 
@@ -75,15 +87,8 @@ impl SessionEngine {
     pub(crate) fn begin_read_committed(&mut self, s: u8) -> Result<Ack, Refusal>
         ensures { AnswersStep self.old (Step.BeginReadCommitted s) (reply_to result) self.new }
     {
-        match self.open_session(s) {
-            Ok(_) => Err(Refusal::AlreadyOpen),
-            Err(refusal) => match refusal {
-                Refusal::NotOpen => {
-                    self.open(s, Isolation::ByStatement(None));
-                    Ok(Ack::Done)
-                }
-                _ => Err(refusal),
-            },
-        }
+        self.may_begin(s)?;
+        self.open(s, Isolation::ByStatement(None));
+        Ok(Ack::Done)
     }
 }

@@ -64,7 +64,7 @@ impl SessionEngine {
             (reply_to result) self.new }
     {
         let session = self.free(s)?;
-        match self.heap.index(index) {
+        match self.index(index) {
             Some(_) => {}
             None => return Err(Refusal::NoSuchIndex),
         }

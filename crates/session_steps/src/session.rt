@@ -1,13 +1,15 @@
 //! An open session, and how it reads.
 
 ghost use Rattle.std.specs.Prelude.{◌≡◌, option_copied};
-ghost use Rattle.session_steps.specs.State.{kept_by, keeping, lent_to, statement_snapshot, cursor_snapshot};
+ghost use Rattle.snapshot.specs.Snap.{earliest};
+ghost use Rattle.session_steps.specs.State.{kept_by, kept_xmin, keeping, lent_to, statement_snapshot, cursor_snapshot};
 ghost use Rattle.session_steps.specs.Takes.{ReadsBy};
 
 use crate::engine::SessionEngine;
-use snapshot::{OwnIds, Snapshot};
+use snapshot::{OwnIds, Snapshot, earlier};
 use table_scans::Scan;
 use visibility::Reader;
+use xid_circle::Xid;
 
 /// By which snapshot a session reads.
 #[derive(Drop)]
@@ -27,6 +29,16 @@ impl Isolation {
         match self {
             Isolation::BySnapshot(snapshot) => Some(snapshot),
             Isolation::ByStatement(kept) => kept.as_ref(),
+        }
+    }
+
+    /// The earlier of an id and the xmin of that snapshot, if there is one.
+    pub(crate) fn earlier_xmin(&self, x: Xid) -> Xid
+        ensures { result.0 ≡ earliest x.0 (kept_xmin (kept_by self.now)) }
+    {
+        match self.kept() {
+            Some(snapshot) => earlier(x, snapshot.xmin()),
+            None => x,
         }
     }
 
