@@ -26,7 +26,7 @@ use Rattle.visibility.specs.Visible.{state_of}
 use Rattle.session_steps.specs.State.{State, seen, statement_snapshot, reader_of, horizon_of}
 use Rattle.session_steps.specs.Agrees.{Agrees}
 use Rattle.session_steps.specs.declared.session.Session.{Session}
-use Rattle.session_steps.specs.declared.session.Isolation.{Isolation}
+use Rattle.session_steps.specs.declared.session.SessionIsolation.{SessionIsolation}
 use Rattle.session_steps.specs.Laws.{IsFound, FindsRows, FindsAtEach, FindsLevels, ViewsByIndex}
 use Rattle.session_steps.proofs.Owns.{reader-is, now_taken, taken-fresh}
 use Rattle.session_steps.proofs.Statements.{statement_sight, cursor_sight, statement-sees}
@@ -75,7 +75,7 @@ fresh st w agrees = record {
     }
 
 -- what a statement of a session sees on the heap, by its snapshot
-shows-by : (st : State) (i : Isolation) (own : List ℕ) (row : ℕ → Option Row) → window.IsWindow st.heap.statuses
+shows-by : (st : State) (i : SessionIsolation) (own : List ℕ) (row : ℕ → Option Row) → window.IsWindow st.heap.statuses
     → relation.Shows (seen st).version (ReaderSees (state_of st.heap.statuses) (statement_sight st i) own) row
     → relation.Shows (seen st).version (ReaderSees (state_of st.heap.statuses) (λ x. Sees (statement_snapshot st.heap.statuses i) st.heap.statuses x) own) row
 shows-by st i own row is shows = record {
@@ -85,7 +85,7 @@ shows-by st i own row is shows = record {
 }
 
 -- at each savepoint
-at-each : (st : State) (w : World) (n : ℕ) (i : Isolation) (start : ℕ) (own : List ℕ) (saved : List (List ℕ)) (levels : List (List Write)) → Agrees st w → IsInUse st.heap.indexes n
+at-each : (st : State) (w : World) (n : ℕ) (i : SessionIsolation) (start : ℕ) (own : List ℕ) (saved : List (List ℕ)) (levels : List (List Write)) → Agrees st w → IsInUse st.heap.indexes n
     → ((x : ℕ) → Contains own x → window.IsActive st.heap.statuses x)
     → relation.LevelsAgree (state_of st.heap.statuses) (seen st).version w.history (statement_sight st i) start own saved levels
     → FindsAtEach st.heap (statement_snapshot st.heap.statuses i) n w.history start saved levels

@@ -40,8 +40,8 @@ use Rattle.refinement.specs.Changes as change
 use Rattle.refinement.proofs.Readers.{Levels-top}
 use Rattle.refinement.proofs.Follows as theory
 use Rattle.session_steps.specs.declared.session.Session.{Session}
-use Rattle.session_steps.specs.declared.session.Isolation.{Isolation}
-use Rattle.session_steps.specs.declared.session.Isolation.TheVariants.{BySnapshot, ByStatement}
+use Rattle.session_steps.specs.declared.session.SessionIsolation.{SessionIsolation}
+use Rattle.session_steps.specs.declared.session.SessionIsolation.TheVariants.{BySnapshot, ByStatement}
 use Rattle.session_steps.specs.State.{State, session_at, seen, seen_in, reader_of, kept_by, IsByStatement, horizon_of, held_back}
 use Rattle.session_steps.specs.Agrees.{Agrees, Follows}
 use Rattle.session_steps.specs.Exact.{Cleans}
@@ -99,7 +99,7 @@ kept-reader st w agrees s e snap at kept = of e.isolation refl
       reads = subst (λ sees. relation_agrees.ReaderAgrees (state_of st.heap.statuses) (seen st).version w.history sees start e.own.ids (joined found.0.levels)) same reads;
     }
 
-    of : (i : Isolation) → e.isolation ≡ i → KeptReader st w snap
+    of : (i : SessionIsolation) → e.isolation ≡ i → KeptReader st w snap
     of (BySnapshot t) is = reads-by (statement_sight st e.isolation) (start_now w.history found.0)
         (ap (statement_sight st) is ∙ ap (λ (s : Snap) (x : ℕ). Sees s st.heap.statuses x) (same_Some t snap (ap kept_by (sym is) ∙ kept)))
         (Levels-top e.own.ids e.own.saved found.0.levels found.2.levels)

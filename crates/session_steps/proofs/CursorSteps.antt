@@ -25,13 +25,13 @@ use Rattle.refinement.specs.Allowed.{Allows, next}
 use Rattle.refinement.proofs.Steps.{OnlyIs}
 use Rattle.refinement.proofs.FollowsCursors as cursors
 use Rattle.session_steps.specs.declared.session.Session.{Session}
-use Rattle.session_steps.specs.declared.session.Isolation.{Isolation}
-use Rattle.session_steps.specs.declared.session.Isolation.TheVariants.{BySnapshot, ByStatement}
+use Rattle.session_steps.specs.declared.session.SessionIsolation.{SessionIsolation}
+use Rattle.session_steps.specs.declared.session.SessionIsolation.TheVariants.{BySnapshot, ByStatement}
 use Rattle.session_steps.specs.Exact.{HasCursor, OpensCursor}
 use Rattle.table_scans.specs.declared.progress.Scan.{Scan}
 use Rattle.table_scans.specs.declared.progress.Scan.TheVariants.{Index, Heap}
 use Rattle.index_lookup.specs.declared.index_scan.IndexRange.{IndexRange}
-use Rattle.session_steps.specs.State.{State, session_at, put_session, map_session, with_cursor, with_kept, keeping, kept_by, kept_xmin, holds_back, horizon_of, IsByStatement, isolation_of, seen, position_of, reader_of, engine_sessions}
+use Rattle.session_steps.specs.State.{State, session_at, put_session, map_session, with_cursor, with_kept, keeping, kept_by, kept_xmin, holds_back, horizon_of, IsByStatement, isolation_seen, seen, position_of, reader_of, engine_sessions}
 use Rattle.session_steps.specs.Agrees.{Agrees, Sound, SessionKeeps, Follows, KeepsAllTargets}
 use Rattle.session_steps.proofs.InUse.{GoesAlong, used-still, no-cursor, cursors-put, agree}
 use Rattle.session_steps.proofs.OwnIdsLemmas.{open-within, open-set_cases}
@@ -107,7 +107,7 @@ abbrev pub with_both : Option Scan → Option Snap → Session → Session
 with_both cursor kept e = with_kept kept (with_cursor cursor e)
 
 -- by statement it keeps one only where it has a cursor
-for-both : (i : Isolation) (cursor : Option Scan) (kept : Option Snap) → (IsSome kept → IsSome cursor) → IsByStatement (keeping kept i) → IsSome (kept_by (keeping kept i)) → IsSome cursor
+for-both : (i : SessionIsolation) (cursor : Option Scan) (kept : Option Snap) → (IsSome kept → IsSome cursor) → IsByStatement (keeping kept i) → IsSome (kept_by (keeping kept i)) → IsSome cursor
 for-both (BySnapshot snap) cursor kept some by keeps = absurd by
 for-both (ByStatement old) cursor kept some by keeps = some keeps
 
@@ -159,14 +159,14 @@ put-both : (st st' : State) (s : ℕ) (e : Session) (cursor : Option Scan) (kept
 put-both st st' s e cursor kept at is = is ∙ ap (λ o. put_session st s (map_session (with_both cursor kept) o)) at
 
 only-both : (st : State) (s : ℕ) (e : Session) (cursor : Option Scan) (kept : Option Snap) → session_at st s ≡ Some e
-    → OnlyIs (seen st).session (seen (put_session st s (Some (with_both cursor kept e)))).session s (Some (record (reader_of e) { isolation = isolation_of (keeping kept e.isolation); cursor = position_of cursor }))
+    → OnlyIs (seen st).session (seen (put_session st s (Some (with_both cursor kept e)))).session s (Some (record (reader_of e) { isolation = isolation_seen (keeping kept e.isolation); cursor = position_of cursor }))
 only-both st s e cursor kept at = let only = only-set st s (Some (with_both cursor kept e)) (open-within st.sessions s e at) in record { others = only.others; itself = only.itself }
 
-opens-by : (st : State) (w : World) (i : Isolation) → Agrees st w → cursors.OpensBy (seen st) (isolation_of i) (isolation_of (keeping (Some (now_taken st)) i))
+opens-by : (st : State) (w : World) (i : SessionIsolation) → Agrees st w → cursors.OpensBy (seen st) (isolation_seen i) (isolation_seen (keeping (Some (now_taken st)) i))
 opens-by st w (BySnapshot snap) agrees = refl
 opens-by st w (ByStatement old) agrees = (now_taken st, refl, taken-fresh st w agrees)
 
-without-kept : (i : Isolation) → isolation_of (keeping None i) ≡ cursors.without_kept (isolation_of i)
+without-kept : (i : SessionIsolation) → isolation_seen (keeping None i) ≡ cursors.without_kept (isolation_seen i)
 without-kept (BySnapshot snap) = refl
 without-kept (ByStatement old) = refl
 
@@ -181,7 +181,7 @@ taken-alone st snap is = sym (same_Some (now_taken st) snap is)
 pub opens-as : (st st' : State) (s : ℕ) (e : Session) (cursor : Scan) (kept : Option Snap) → session_at st s ≡ Some e → keeping kept e.isolation ≡ keeping (Some (now_taken st)) e.isolation
     → HasCursor st st' s (Some cursor) kept → OpensCursor st st' s cursor
 opens-as st st' s e cursor kept at same is =
-    put-both st st' s e (Some cursor) kept at is ∙ ap (λ (i : Isolation). put_session st s (Some (record e { isolation = i; cursor = Some cursor }))) same
+    put-both st st' s e (Some cursor) kept at is ∙ ap (λ (i : SessionIsolation). put_session st s (Some (record e { isolation = i; cursor = Some cursor }))) same
     ∙ sym (ap (λ o. put_session st s (map_session (with_both (Some cursor) (Some (now_taken st))) o)) at)
 
 pub Follows-opened_index : (st st' : State) (s : ℕ) (e : Session) (span : IndexRange) → session_at st s ≡ Some e → e.failed ≡ false → e.cursor ≡ None → span.low ≤ℤ span.high → span.last ≡ None → IsInUse st.heap.indexes span.index
@@ -189,7 +189,7 @@ pub Follows-opened_index : (st st' : State) (s : ℕ) (e : Session) (span : Inde
 Follows-opened_index st st' s e span at sound bare order none used is w agrees =
     let now = put_session st s (Some (with_both (Some (Index span)) (Some (now_taken st)) e)) in
     let position : position_of (Some (Index span)) ≡ Some (relation.in_index span.index span.low span.high None) = rw none refl in
-    let isolation = isolation_of (keeping (Some (now_taken st)) e.isolation) in
+    let isolation = isolation_seen (keeping (Some (now_taken st)) e.isolation) in
     let only = subst (λ p. OnlyIs (seen st).session (seen now).session s (Some (record (reader_of e) { isolation = isolation; cursor = p }))) position (only-both st s e (Some (Index span)) (Some (now_taken st)) at) in
     let f = cursors.Follows-open_index (seen st) s (reader_of e) span.index span.low span.high isolation (seen now).session only (λ w' found. opens-by st w e.isolation agrees)
     (reader-is st s e at) sound (ap position_of bare) order w ((agrees.indexes span.index).0 used) agrees.found in
@@ -200,7 +200,7 @@ Follows-opened_index st st' s e span at sound bare order none used is w agrees =
 pub Follows-opened_heap : (st st' : State) (s : ℕ) (e : Session) → session_at st s ≡ Some e → e.failed ≡ false → e.cursor ≡ None → OpensCursor st st' s (Heap heap_start) → Follows st (step.OpenHeap s) reply.Done st'
 Follows-opened_heap st st' s e at sound bare is w agrees =
     let now = put_session st s (Some (with_both (Some (Heap heap_start)) (Some (now_taken st)) e)) in
-    let f = cursors.Follows-open_heap (seen st) s (reader_of e) (isolation_of (keeping (Some (now_taken st)) e.isolation)) (seen now).session (only-both st s e (Some (Heap heap_start)) (Some (now_taken st)) at)
+    let f = cursors.Follows-open_heap (seen st) s (reader_of e) (isolation_seen (keeping (Some (now_taken st)) e.isolation)) (seen now).session (only-both st s e (Some (Heap heap_start)) (Some (now_taken st)) at)
     (λ w' found. opens-by st w e.isolation agrees) (reader-is st s e at) sound (ap position_of bare) w agrees.found in
     subst (λ st'. Allows w (step.OpenHeap s) reply.Done × Agrees st' (next w (step.OpenHeap s) reply.Done) × KeepsAllTargets st st') (sym (put-both st st' s e (Some (Heap heap_start)) (Some (now_taken st)) at is))
     (f.0, agree agrees refl refl f.1 (sound-both st w s e (Some (Heap heap_start)) (Some (now_taken st)) at agrees (taken-alone st) (λ some. refl) (λ span here. absurd (cc))), led-same st w agrees)

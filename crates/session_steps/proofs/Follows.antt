@@ -42,10 +42,10 @@ use Rattle.refinement.proofs.Steps.{OnlyIs, SameSights}
 use Rattle.refinement.proofs.Follows as theory
 use Rattle.refinement.proofs.Hindrances as hindrances
 use Rattle.session_steps.specs.declared.session.Session.{Session}
-use Rattle.session_steps.specs.declared.session.Isolation.{Isolation}
-use Rattle.session_steps.specs.declared.session.Isolation.TheVariants.{BySnapshot, ByStatement}
+use Rattle.session_steps.specs.declared.session.SessionIsolation.{SessionIsolation}
+use Rattle.session_steps.specs.declared.session.SessionIsolation.TheVariants.{BySnapshot, ByStatement}
 use Rattle.visibility.specs.Visible.{state_of}
-use Rattle.session_steps.specs.State.{State, session_at, put_session, seen, position_of, reader_of, isolation_of, kept_by, IsByStatement, failed_session, holds_back, held_back, horizon_of, engine_sessions}
+use Rattle.session_steps.specs.State.{State, session_at, put_session, seen, position_of, reader_of, isolation_seen, kept_by, IsByStatement, failed_session, holds_back, held_back, horizon_of, engine_sessions}
 use Rattle.session_steps.specs.Keeps.{open_at}
 use Rattle.session_steps.specs.Agrees.{Agrees, Sound, Follows, SessionKeeps, KeepsAllTargets}
 use Rattle.table_scans.specs.declared.progress.Scan.{Scan}
@@ -135,7 +135,7 @@ Follows-barred_begin_by_statement st s _ is = absurd is
 
 -- Begin.
 
-opened_reader : (e : Session) (i : Isolation) → e.isolation ≡ i → e.own.ids ≡ [] → e.own.saved ≡ [] → e.failed ≡ false → e.cursor ≡ None → reader_of e ≡ new_session (isolation_of i)
+opened_reader : (e : Session) (i : SessionIsolation) → e.isolation ≡ i → e.own.ids ≡ [] → e.own.saved ≡ [] → e.failed ≡ false → e.cursor ≡ None → reader_of e ≡ new_session (isolation_seen i)
 opened_reader e i a b c d f = rw (a, b, c, d, f) refl
 
 -- a session opens, which keeps no snapshot but that of this moment, and by statement none
@@ -193,8 +193,8 @@ Sound-opens st w s e within snapshot none_kept ids saved bare agrees = record {
         ))
 
 -- of the sessions that readers see, one opens
-only-opens : (st st' : State) (w : World) (s : ℕ) (i : Isolation) → s < 64 → (opens : Opens st st' s i) → Agrees st w
-    → OnlyIs (seen st).session (seen (put_session st s (Some opens.session))).session s (Some (new_session (isolation_of i)))
+only-opens : (st st' : State) (w : World) (s : ℕ) (i : SessionIsolation) → s < 64 → (opens : Opens st st' s i) → Agrees st w
+    → OnlyIs (seen st).session (seen (put_session st s (Some opens.session))).session s (Some (new_session (isolation_seen i)))
 only-opens st st' w s i within opens agrees =
     let count = agrees.sound.count in
     let only = only-set st s (Some opens.session) (omega arith) in
@@ -202,15 +202,15 @@ only-opens st st' w s i within opens agrees =
 
 -- by snapshot none is kept but that which was taken, and by statement none at all
 
-kept-new : (st : State) (i : Isolation) (snap : Snap) → (i ≡ BySnapshot (now_taken st)) ⊎ (i ≡ ByStatement None) → kept_by i ≡ Some snap → snap ≡ now_taken st
+kept-new : (st : State) (i : SessionIsolation) (snap : Snap) → (i ≡ BySnapshot (now_taken st)) ⊎ (i ≡ ByStatement None) → kept_by i ≡ Some snap → snap ≡ now_taken st
 kept-new st i snap (inl is) kept = same_Some snap (now_taken st) (sym kept ∙ ap kept_by is)
 kept-new st i snap (inr is) kept = absurd (none-some snap (ap kept_by (sym is) ∙ kept))
 
-none-new : (st : State) (i : Isolation) → (i ≡ BySnapshot (now_taken st)) ⊎ (i ≡ ByStatement None) → IsByStatement i → IsSome (kept_by i) → ⊥
+none-new : (st : State) (i : SessionIsolation) → (i ≡ BySnapshot (now_taken st)) ⊎ (i ≡ ByStatement None) → IsByStatement i → IsSome (kept_by i) → ⊥
 none-new st i (inl is) by some = absurd (subst (λ i. IsByStatement i) is by)
 none-new st i (inr is) by some = absurd (let e : IsSome {T = Snap} None = subst (λ i. IsSome (kept_by i)) is some in cc)
 
-opens-sound : (st st' : State) (w : World) (s : ℕ) (i : Isolation) → s < 64 → (i ≡ BySnapshot (now_taken st)) ⊎ (i ≡ ByStatement None) → (opens : Opens st st' s i) → Agrees st w → Sound (put_session st s (Some opens.session))
+opens-sound : (st st' : State) (w : World) (s : ℕ) (i : SessionIsolation) → s < 64 → (i ≡ BySnapshot (now_taken st)) ⊎ (i ≡ ByStatement None) → (opens : Opens st st' s i) → Agrees st w → Sound (put_session st s (Some opens.session))
 opens-sound st st' w s i within new opens agrees =
     let as_new = subst (λ j. (j ≡ BySnapshot (now_taken st)) ⊎ (j ≡ ByStatement None)) (sym opens.reads) new in
     Sound-opens st w s opens.session within (λ snap kept. kept-new st opens.session.isolation snap as_new kept) (none-new st opens.session.isolation as_new) opens.no_ids opens.unsaved opens.bare agrees

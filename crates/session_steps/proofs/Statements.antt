@@ -14,17 +14,17 @@ use Rattle.visibility.proofs.Statements.{given-before, statement-reads}
 use Rattle.refinement.specs.Heap as relation
 use Rattle.refinement.specs.Visible.{ReaderSees, HasMissed}
 use Rattle.session_steps.specs.declared.session.Session.{Session}
-use Rattle.session_steps.specs.declared.session.Isolation.{Isolation}
-use Rattle.session_steps.specs.declared.session.Isolation.TheVariants.{BySnapshot, ByStatement}
-use Rattle.session_steps.specs.State.{State, session_at, seen, reader_of, isolation_of, kept_by, lent_to, statement_snapshot, cursor_snapshot, keeping, kept_xmin, IsByStatement}
+use Rattle.session_steps.specs.declared.session.SessionIsolation.{SessionIsolation}
+use Rattle.session_steps.specs.declared.session.SessionIsolation.TheVariants.{BySnapshot, ByStatement}
+use Rattle.session_steps.specs.State.{State, session_at, seen, reader_of, isolation_seen, kept_by, lent_to, statement_snapshot, cursor_snapshot, keeping, kept_xmin, IsByStatement}
 use Rattle.session_steps.proofs.Owns.{reader-at}
 
 -- what a statement of the session sees of the ids, and what its cursor does
-abbrev pub statement_sight : State → Isolation → ℕ → Type 0
-statement_sight st i = relation.StatementSees (seen st) (isolation_of i)
+abbrev pub statement_sight : State → SessionIsolation → ℕ → Type 0
+statement_sight st i = relation.StatementSees (seen st) (isolation_seen i)
 
-abbrev pub cursor_sight : State → Isolation → ℕ → Type 0
-cursor_sight st i = relation.CursorSees (seen st) (isolation_of i)
+abbrev pub cursor_sight : State → SessionIsolation → ℕ → Type 0
+cursor_sight st i = relation.CursorSees (seen st) (isolation_seen i)
 
 -- what sees the same ids sees the same versions
 same-visible : (A B : ℕ → Type 0) (h : Header) → ((x : ℕ) → A x ↔ B x) → VisibleBy A h ↔ VisibleBy B h
@@ -34,27 +34,27 @@ same-visible A B h same = (
 )
 
 module _ (st : State) (is : IsWindow st.heap.statuses) where
-  statement-counts : (i : Isolation) (own : List ℕ) (x : ℕ) → ReadsIn st.heap.statuses (statement_snapshot st.heap.statuses i) own x ↔ Reads (state_of st.heap.statuses) (statement_sight st i) own x
+  statement-counts : (i : SessionIsolation) (own : List ℕ) (x : ℕ) → ReadsIn st.heap.statuses (statement_snapshot st.heap.statuses i) own x ↔ Reads (state_of st.heap.statuses) (statement_sight st i) own x
   statement-counts (BySnapshot snap) own x = (λ r. r, λ r. r)
   statement-counts (ByStatement kept) own x = statement-reads st.heap.statuses own x is
 
-  cursor-counts : (i : Isolation) (own : List ℕ) (x : ℕ) → ReadsIn st.heap.statuses (cursor_snapshot st.heap.statuses i) own x ↔ Reads (state_of st.heap.statuses) (cursor_sight st i) own x
+  cursor-counts : (i : SessionIsolation) (own : List ℕ) (x : ℕ) → ReadsIn st.heap.statuses (cursor_snapshot st.heap.statuses i) own x ↔ Reads (state_of st.heap.statuses) (cursor_sight st i) own x
   cursor-counts (BySnapshot snap) own x = (λ r. r, λ r. r)
   cursor-counts (ByStatement (Some snap)) own x = (λ r. r, λ r. r)
   cursor-counts (ByStatement None) own x = statement-reads st.heap.statuses own x is
 
   -- the versions that a statement sees
-  pub statement-sees : (i : Isolation) (own : List ℕ) (v : Version)
+  pub statement-sees : (i : SessionIsolation) (own : List ℕ) (v : Version)
       → IsVisible st.heap.statuses (statement_snapshot st.heap.statuses i) own v.header ↔ ReaderSees (state_of st.heap.statuses) (statement_sight st i) own v
   statement-sees i own v = same-visible (ReadsIn st.heap.statuses (statement_snapshot st.heap.statuses i) own) (Reads (state_of st.heap.statuses) (statement_sight st i) own) v.header (statement-counts i own)
 
   -- and those that the cursor does
-  pub cursor-sees : (i : Isolation) (own : List ℕ) (v : Version)
+  pub cursor-sees : (i : SessionIsolation) (own : List ℕ) (v : Version)
       → IsVisible st.heap.statuses (cursor_snapshot st.heap.statuses i) own v.header ↔ ReaderSees (state_of st.heap.statuses) (cursor_sight st i) own v
   cursor-sees i own v = same-visible (ReadsIn st.heap.statuses (cursor_snapshot st.heap.statuses i) own) (Reads (state_of st.heap.statuses) (cursor_sight st i) own) v.header (cursor-counts i own)
 
   -- a commit that a statement does not see: by statement there is none
-  pub statement-misses : (i : Isolation) (v : Version) → ((x : ℕ) × IsNewerCommitIn st.heap.statuses (statement_snapshot st.heap.statuses i) x v.header) ↔ HasMissed (state_of st.heap.statuses) (statement_sight st i) v
+  pub statement-misses : (i : SessionIsolation) (v : Version) → ((x : ℕ) × IsNewerCommitIn st.heap.statuses (statement_snapshot st.heap.statuses i) x v.header) ↔ HasMissed (state_of st.heap.statuses) (statement_sight st i) v
   statement-misses (BySnapshot snap) v = (λ m. m, λ m. m)
   statement-misses (ByStatement kept) v = (
     λ m. absurd (m.1.2 (Sees.early (given-before st.heap.statuses m.0 is (state-some st.heap.statuses m.0 Committed m.1.1).0))),
@@ -63,7 +63,7 @@ module _ (st : State) (is : IsWindow st.heap.statuses) where
 
 -- Snapshots that are kept.
 
-pub seen-kept : (i : Isolation) → relation.kept_snapshot (isolation_of i) ≡ kept_by i
+pub seen-kept : (i : SessionIsolation) → relation.kept_snapshot (isolation_seen i) ≡ kept_by i
 seen-kept (BySnapshot snap) = refl
 seen-kept (ByStatement kept) = refl
 
@@ -74,7 +74,7 @@ kept-at st snap (s, r, at, kept) =
     (s, e.0, e.1, sym (seen-kept e.0.isolation) ∙ (ap (λ (r : relation.SeenSession). relation.kept_snapshot r.isolation) e.2 ∙ kept))
 
 -- the cursor of who keeps it reads by it
-pub kept-sight : (st : State) (i : Isolation) (snap : Snap) → kept_by i ≡ Some snap → cursor_sight st i ≡ (λ x. Sees snap st.heap.statuses x)
+pub kept-sight : (st : State) (i : SessionIsolation) (snap : Snap) → kept_by i ≡ Some snap → cursor_sight st i ≡ (λ x. Sees snap st.heap.statuses x)
 kept-sight st (BySnapshot s) snap is = ap (λ (s : Snap) (x : ℕ). Sees s st.heap.statuses x) (same_Some s snap is)
 kept-sight st (ByStatement (Some s)) snap is = ap (λ (s : Snap) (x : ℕ). Sees s st.heap.statuses x) (same_Some s snap is)
 kept-sight st (ByStatement None) snap is = absurd (none-some snap is)
@@ -89,11 +89,11 @@ pub for-same : (e now : Session) → now.isolation ≡ e.isolation → now.curso
 for-same e now reads cursor h by kept = subst (λ o. IsSome o) (sym cursor) (h (subst (λ i. IsByStatement i) reads by) (subst (λ i. IsSome (kept_by i)) reads kept))
 
 -- by snapshot nothing else is kept
-pub keeping-snapshot : (i : Isolation) (kept other : Option Snap) → ¬ IsByStatement i → keeping kept i ≡ keeping other i
+pub keeping-snapshot : (i : SessionIsolation) (kept other : Option Snap) → ¬ IsByStatement i → keeping kept i ≡ keeping other i
 keeping-snapshot (BySnapshot snap) kept other not = refl
 keeping-snapshot (ByStatement old) kept other not = absurd (not tt)
 
 -- by statement nothing is kept where nothing is taken
-pub kept-after : (i : Isolation) (taken : Option Snap) (snap : Snap) → kept_by (keeping taken i) ≡ Some snap → (kept_by i ≡ Some snap) ⊎ (taken ≡ Some snap)
+pub kept-after : (i : SessionIsolation) (taken : Option Snap) (snap : Snap) → kept_by (keeping taken i) ≡ Some snap → (kept_by i ≡ Some snap) ⊎ (taken ≡ Some snap)
 kept-after (BySnapshot s) taken snap is = inl is
 kept-after (ByStatement old) taken snap is = inr is

@@ -7,11 +7,11 @@ use Rattle.commit_status.specs.Window.{IsWindow}
 use Rattle.commit_status.specs.Changes.{Finishes}
 use Rattle.heap_write.specs.Heap.{HeapView}
 use Rattle.session_steps.specs.declared.session.Session.{Session}
-use Rattle.session_steps.specs.declared.session.Isolation.{Isolation}
+use Rattle.session_steps.specs.declared.session.SessionIsolation.{SessionIsolation}
 use Rattle.session_steps.specs.State.{State, session_at, put_session}
 
 -- the session is open, reads so, and has no ids
-pub record Opens (old new : State) (s : ℕ) (isolation : Isolation) : Type 0 where
+pub record Opens (old new : State) (s : ℕ) (isolation : SessionIsolation) : Type 0 where
   pub session : Session
   pub is : new ≡ put_session old s (Some session)
   pub reads : session.isolation ≡ isolation

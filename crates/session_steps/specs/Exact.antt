@@ -19,7 +19,7 @@ use Rattle.calls.specs.declared.reply.Refusal.TheVariants as refusal
 use Rattle.calls.specs.Words.{row_of}
 use Rattle.refinement.specs.Cursors.{heap_start}
 use Rattle.session_steps.specs.declared.session.Session.{Session}
-use Rattle.session_steps.specs.declared.session.Isolation.TheVariants.{BySnapshot, ByStatement}
+use Rattle.session_steps.specs.declared.session.SessionIsolation.TheVariants.{BySnapshot, ByStatement}
 use Rattle.table_scans.specs.declared.progress.Scan.{Scan}
 use Rattle.table_scans.specs.declared.progress.Scan.TheVariants.{Index, Heap}
 use Rattle.session_steps.specs.State.{State, session_at, engine_index, put_session, map_session, with_cursor, with_kept, IsByStatement, failed_session, owns_of, horizon_of}

@@ -17,8 +17,8 @@ use Rattle.calls.specs.declared.reply.Refusal.TheVariants as refusal
 use Rattle.calls.specs.Bars.{SessionLooks}
 use Rattle.refinement.specs.Heap as relation
 use Rattle.session_steps.specs.declared.session.Session.{Session}
-use Rattle.session_steps.specs.declared.session.Isolation.{Isolation}
-use Rattle.session_steps.specs.declared.session.Isolation.TheVariants.{BySnapshot, ByStatement}
+use Rattle.session_steps.specs.declared.session.SessionIsolation.{SessionIsolation}
+use Rattle.session_steps.specs.declared.session.SessionIsolation.TheVariants.{BySnapshot, ByStatement}
 use Rattle.index_lookup.specs.declared.index_scan.IndexPosition.{IndexPosition}
 use Rattle.table_scans.specs.declared.progress.Scan.{Scan}
 use Rattle.table_scans.specs.declared.progress.Scan.TheVariants.{Index, Heap}
@@ -48,40 +48,40 @@ bits_of AllFrozen = 2
 -- Snapshots.
 
 -- it reads each statement by a snapshot of its own
-abbrev pub IsByStatement : Isolation → Type 0
+abbrev pub IsByStatement : SessionIsolation → Type 0
 IsByStatement (BySnapshot snap) = ⊥
 IsByStatement (ByStatement kept) = Unit {0}
 
 -- the snapshot that a session keeps from step to step, if it keeps one: that of its beginning, or that of its cursor's opening
-abbrev pub kept_by : Isolation → Option Snap
+abbrev pub kept_by : SessionIsolation → Option Snap
 kept_by (BySnapshot snap) = Some snap
 kept_by (ByStatement kept) = kept
 
 -- what a statement is lent, if it does not read by the snapshot of the session's beginning: the snapshot that lists nobody, at the
 -- next id. It counts each id that has committed (`ListingNobodyCountsCommitted`)
-abbrev pub lent_to : Window → Isolation → Option Snap
+abbrev pub lent_to : Window → SessionIsolation → Option Snap
 lent_to w (BySnapshot snap) = None
 lent_to w (ByStatement kept) = Some (empty_at (next_id w))
 
 -- the snapshot by which a statement reads
-abbrev pub statement_snapshot : Window → Isolation → Snap
+abbrev pub statement_snapshot : Window → SessionIsolation → Snap
 statement_snapshot w (BySnapshot snap) = snap
 statement_snapshot w (ByStatement kept) = empty_at (next_id w)
 
 -- and that by which the session's cursor does
-abbrev pub cursor_snapshot : Window → Isolation → Snap
+abbrev pub cursor_snapshot : Window → SessionIsolation → Snap
 cursor_snapshot w (BySnapshot snap) = snap
 cursor_snapshot w (ByStatement (Some snap)) = snap
 cursor_snapshot w (ByStatement None) = empty_at (next_id w)
 
 -- by statement the session keeps this from now on
-abbrev pub keeping : Option Snap → Isolation → Isolation
+abbrev pub keeping : Option Snap → SessionIsolation → SessionIsolation
 keeping kept (BySnapshot snap) = BySnapshot snap
 keeping kept (ByStatement old) = ByStatement kept
 
-abbrev pub isolation_of : Isolation → relation.SeenIsolation
-isolation_of (BySnapshot snap) = relation.seen_by_snapshot snap
-isolation_of (ByStatement kept) = relation.seen_by_statement kept
+abbrev pub isolation_seen : SessionIsolation → relation.SeenIsolation
+isolation_seen (BySnapshot snap) = relation.seen_by_snapshot snap
+isolation_seen (ByStatement kept) = relation.seen_by_statement kept
 
 -- how far the cursor has got, as the relation has it
 abbrev pub seen_position : Option IndexPosition → Option relation.RowPosition
@@ -94,7 +94,7 @@ position_of (Some (Index span)) = Some (relation.in_index span.index span.low sp
 position_of (Some (Heap from)) = Some (relation.in_heap from)
 
 abbrev pub reader_of : Session → relation.SeenSession
-reader_of e = record { isolation = isolation_of e.isolation; own = e.own.ids; saved = e.own.saved; failed = e.failed; cursor = position_of e.cursor }
+reader_of e = record { isolation = isolation_seen e.isolation; own = e.own.ids; saved = e.own.saved; failed = e.failed; cursor = position_of e.cursor }
 
 -- what readers see of these slots, ids and sessions
 abbrev pub seen_in : List (List Slot) → Window → List (Option Session) → relation.Heap

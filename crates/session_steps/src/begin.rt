@@ -13,7 +13,7 @@ ghost use Rattle.session_steps.specs.Replies.{reply_to};
 
 use crate::engine::SessionEngine;
 use crate::outcome::Ack;
-use crate::session::{Isolation, Session};
+use crate::session::{SessionIsolation, Session};
 use calls::Refusal;
 use snapshot::Snapshot;
 use std::alloc::{AllocError, Global};
@@ -75,7 +75,7 @@ impl SessionEngine {
         self.may_begin(s)?;
         match self.snapshot() {
             Ok(snapshot) => {
-                self.open(s, Isolation::BySnapshot(snapshot));
+                self.open(s, SessionIsolation::BySnapshot(snapshot));
                 Ok(Ack::Done)
             }
             Err(_) => Err(Refusal::NoMemory),
@@ -88,7 +88,7 @@ impl SessionEngine {
         ensures { AnswersStep self.old (Step.BeginReadCommitted s) (reply_to result) self.new }
     {
         self.may_begin(s)?;
-        self.open(s, Isolation::ByStatement(None));
+        self.open(s, SessionIsolation::ByStatement(None));
         Ok(Ack::Done)
     }
 }

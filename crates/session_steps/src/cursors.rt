@@ -8,7 +8,7 @@ ghost use Rattle.session_steps.specs.Replies.{reply_to};
 
 use crate::engine::SessionEngine;
 use crate::outcome::Ack;
-use crate::session::{Isolation, Session};
+use crate::session::{SessionIsolation, Session};
 use calls::Refusal;
 use heap_write::IndexRange;
 use snapshot::Snapshot;
@@ -42,8 +42,8 @@ impl SessionEngine {
             × IsByStatement session.now.isolation × MustList self.now) }
     {
         match session.isolation {
-            Isolation::BySnapshot(_) => Ok(None),
-            Isolation::ByStatement(_) => match self.snapshot() {
+            SessionIsolation::BySnapshot(_) => Ok(None),
+            SessionIsolation::ByStatement(_) => match self.snapshot() {
                 Ok(snapshot) => Ok(Some(snapshot)),
                 Err(_) => Err(Refusal::NoMemory),
             },

@@ -13,7 +13,7 @@ ghost use Rattle.session_steps.specs.New.{IsNew};
 ghost use Rattle.calls.specs.declared.step.TheConstants.{MOST_SESSIONS};
 
 use crate::checked::CheckedSettings;
-use crate::session::{Isolation, Session};
+use crate::session::{SessionIsolation, Session};
 use crate::sessions::Sessions;
 use calls::{Refusal, Settings, SettingsFault};
 use commit_status::Status;
@@ -179,7 +179,7 @@ impl SessionEngine {
     }
 
     /// Opens the session, which reads by its snapshot or by statements.
-    pub(crate) fn open(&mut self, s: u8, isolation: Isolation)
+    pub(crate) fn open(&mut self, s: u8, isolation: SessionIsolation)
         requires within { s < MOST_SESSIONS }
         requires idle { session_at self.old s ≡ None }
         ensures { Opens self.old self.new s isolation }

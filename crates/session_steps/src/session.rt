@@ -13,7 +13,7 @@ use xid_circle::Xid;
 
 /// By which snapshot a session reads.
 #[derive(Drop)]
-pub enum Isolation {
+pub enum SessionIsolation {
     /// By that of its beginning.
     BySnapshot(Snapshot),
     /// Each of its statements by one of its own, which lists nobody and is not kept. Then the session keeps the snapshot by which its
@@ -21,14 +21,14 @@ pub enum Isolation {
     ByStatement(Option<Snapshot>),
 }
 
-impl Isolation {
+impl SessionIsolation {
     /// The snapshot that the session keeps from step to step, if it keeps one.
-    pub(crate) fn kept(&self) -> Option<&Snapshot>
+    pub(crate) fn lasting_snapshot(&self) -> Option<&Snapshot>
         ensures { option_copied result ≡ kept_by self.now }
     {
         match self {
-            Isolation::BySnapshot(snapshot) => Some(snapshot),
-            Isolation::ByStatement(kept) => kept.as_ref(),
+            SessionIsolation::BySnapshot(snapshot) => Some(snapshot),
+            SessionIsolation::ByStatement(kept) => kept.as_ref(),
         }
     }
 
@@ -36,7 +36,7 @@ impl Isolation {
     pub(crate) fn earlier_xmin(&self, x: Xid) -> Xid
         ensures { result.0 ≡ earliest x.0 (kept_xmin (kept_by self.now)) }
     {
-        match self.kept() {
+        match self.lasting_snapshot() {
             Some(snapshot) => earlier(x, snapshot.xmin()),
             None => x,
         }
@@ -47,8 +47,8 @@ impl Isolation {
         ensures { self.new ≡ keeping kept self.old }
     {
         match self {
-            Isolation::BySnapshot(_) => {}
-            Isolation::ByStatement(place) => *place = kept,
+            SessionIsolation::BySnapshot(_) => {}
+            SessionIsolation::ByStatement(place) => *place = kept,
         }
     }
 }
@@ -56,7 +56,7 @@ impl Isolation {
 /// An open session: what it sees of others, its own ids, whether it can only be rolled back, and its cursor if it has one.
 #[derive(Drop)]
 pub struct Session {
-    pub(crate) isolation: Isolation,
+    pub(crate) isolation: SessionIsolation,
     pub(crate) own: OwnIds,
     pub(crate) failed: bool,
     pub(crate) cursor: Option<Scan>,
@@ -69,8 +69,8 @@ impl SessionEngine {
         ensures { result ≡ lent_to self.now.heap.statuses session.now.isolation }
     {
         match session.isolation {
-            Isolation::BySnapshot(_) => None,
-            Isolation::ByStatement(_) => {
+            SessionIsolation::BySnapshot(_) => None,
+            SessionIsolation::ByStatement(_) => {
                 Some(Snapshot::empty(self.alloc, self.heap.statuses().next()))
             }
         }
@@ -84,8 +84,8 @@ impl SessionEngine {
             (statement_snapshot self.now.heap.statuses session.now.isolation) result }
     {
         let snapshot = match &session.isolation {
-            Isolation::BySnapshot(snapshot) => snapshot,
-            Isolation::ByStatement(_) => match lent {
+            SessionIsolation::BySnapshot(snapshot) => snapshot,
+            SessionIsolation::ByStatement(_) => match lent {
                 Some(snapshot) => snapshot,
                 None => unreachable!(),
             },
@@ -103,7 +103,7 @@ impl SessionEngine {
         ensures { ReadsBy self.now session.now
             (cursor_snapshot self.now.heap.statuses session.now.isolation) result }
     {
-        match session.isolation.kept() {
+        match session.isolation.lasting_snapshot() {
             Some(snapshot) => Reader {
                 snapshot,
                 own: &session.own,
