@@ -1,5 +1,5 @@
 -- A session by statement: it counts its own ids and all that has committed. What another's commit does to it.
-use Rattle.std.proofs.Common.{◌≡◌, ℕ, List, [], ◌∷◌, ◌++◌, length, Option, Some, None, false, true, refl, sym, ap, ◌∙◌, subst, inl, inr, arith}
+use Rattle.std.proofs.Common.{◌≡◌, ℕ, List, [], ◌∷◌, ◌++◌, length, Option, Some, None, false, refl, sym, subst, inl, inr, arith}
 use Rattle.std.specs.Prelude.{IsSome, Contains}
 use Rattle.std.specs.Option.{is_some}
 use Rattle.std.proofs.lemmas.Bool.{both_ways}
@@ -14,7 +14,7 @@ use Rattle.history.specs.World.{OpenSession, joined, own_write}
 use Rattle.refinement.specs.Heap.{SeenSession}
 use Rattle.history.proofs.HistoryLemmas.{written-append, IsSome-or_second}
 use Rattle.visibility.specs.Seeing.{HasCommitted, Reads, by_itself, by_others, VisibleBy, Touches, inserter, deleter}
-use Rattle.refinement.specs.Visible.{ReaderSees, HasMissed, IsFreshSnapshot, At}
+use Rattle.refinement.specs.Visible.{HasMissed, IsFreshSnapshot, At}
 use Rattle.refinement.specs.Changes.{FinishesIds, SameSight}
 use Rattle.refinement.proofs.Readers.{ReaderAgrees-same}
 use Rattle.refinement.specs.Agrees.{Shows, ReaderAgrees, LevelsAgree, Traced, LevelTraces, SessionAgrees}
