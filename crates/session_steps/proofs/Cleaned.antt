@@ -1,9 +1,9 @@
 -- A page is pruned, and no session can tell.
 use Rattle.visibility.proofs.Makers.{is-inserter, is-deleter, inserter-is, deleter-is, state-is, state-some, committed-from, active-to}
 use Rattle.session_steps.proofs.InUse.{still-in_use, agree}
-use Rattle.std.proofs.Common.{◌≡◌, ◌≢◌, ℕ, zero, suc, ◌≤◌, List, Option, Some, false, refl, sym, ap, ◌∙◌, subst, ◌⊎◌, inl, inr, arith}
+use Rattle.std.proofs.Common.{◌≡◌, ◌≢◌, ℕ, zero, suc, ◌≤◌, List, Option, Some, None, false, refl, sym, ap, ◌∙◌, subst, ◌⊎◌, inl, inr, arith}
 use Rattle.std.specs.Prelude.{Contains, IsSome}
-use Rattle.std.proofs.lemmas.Option.{same_Some}
+use Rattle.std.proofs.lemmas.Option.{same_Some, none-some}
 use Rattle.xid_circle.specs.declared.Tid.{Tid}
 use Rattle.xid_circle.specs.Following.{ReachesIn}
 use Rattle.tuple_header.specs.Version.{Version}
@@ -46,7 +46,7 @@ use Rattle.session_steps.specs.State.{State, session_at, seen, seen_in, reader_o
 use Rattle.session_steps.specs.Agrees.{Agrees, Follows}
 use Rattle.session_steps.specs.Exact.{Cleans}
 use Rattle.session_steps.proofs.Owns.{reader-is}
-use Rattle.session_steps.proofs.Statements.{statement_sight, cursor_sight, kept-at, kept-sight}
+use Rattle.session_steps.proofs.Statements.{statement_sight, cursor_sight, kept-at}
 use Rattle.session_steps.proofs.Horizons.{upto-horizon, below-xmin}
 use Rattle.session_steps.proofs.Follows.{Follows-same, some-position}
 
@@ -89,24 +89,26 @@ kept-reader st w agrees s e snap at kept = of e.isolation refl
         × relation_agrees.SessionAgrees (state_of st.heap.statuses) (seen st).version w.history (statement_sight st e.isolation) (start_now w.history m) (cursor_sight st e.isolation) (reader_of e) m
     found = agrees.found.opened s (reader_of e) (reader-is st s e at)
 
-    reads-by : (sees : ℕ → Type 0) (start : ℕ) → sees ≡ (λ x. Sees snap st.heap.statuses x)
-        → relation_agrees.ReaderAgrees (state_of st.heap.statuses) (seen st).version w.history sees start e.own.ids (joined found.0.levels) → KeptReader st w snap
-    reads-by sees start same reads = record {
+    abbrev ReadsBy : (ℕ → Type 0) → ℕ → Type 0
+    ReadsBy sees start = relation_agrees.ReaderAgrees (state_of st.heap.statuses) (seen st).version w.history sees start e.own.ids (joined found.0.levels)
+
+    reads-by : (t : Snap) (start : ℕ) → t ≡ snap → ReadsBy (λ x. Sees t st.heap.statuses x) start → KeptReader st w snap
+    reads-by t start same reads = record {
       own = e.own.ids;
       active = found.2.own_active;
       start = start;
       writes = joined found.0.levels;
-      reads = subst (λ sees. relation_agrees.ReaderAgrees (state_of st.heap.statuses) (seen st).version w.history sees start e.own.ids (joined found.0.levels)) same reads;
+      reads = subst (λ (t : Snap). ReadsBy (λ x. Sees t st.heap.statuses x) start) same reads;
     }
 
     of : (i : SessionIsolation) → e.isolation ≡ i → KeptReader st w snap
-    of (BySnapshot t) is = reads-by (statement_sight st e.isolation) (start_now w.history found.0)
-        (ap (statement_sight st) is ∙ ap (λ (s : Snap) (x : ℕ). Sees s st.heap.statuses x) (same_Some t snap (ap kept_by (sym is) ∙ kept)))
-        (Levels-top e.own.ids e.own.saved found.0.levels found.2.levels)
-    of (ByStatement k) is =
+    of (BySnapshot t) is = reads-by t (start_now w.history found.0) (same_Some t snap (ap kept_by (sym is) ∙ kept))
+        (subst (λ (i : SessionIsolation). ReadsBy (statement_sight st i) (start_now w.history found.0)) is (Levels-top e.own.ids e.own.saved found.0.levels found.2.levels))
+    of (ByStatement None) is = absurd (none-some snap (ap kept_by (sym is) ∙ kept))
+    of (ByStatement (Some t)) is =
         let some = (agrees.sound.sessions s e at).for_cursor (subst (λ i. IsByStatement i) (sym is) tt) (subst (λ o. IsSome o) (sym kept) refl) in
         let c = found.2.cursor_reads (some-position e.cursor some) in
-        reads-by (cursor_sight st e.isolation) c.start (kept-sight st e.isolation snap kept) c.reads
+        reads-by t c.start (same_Some t snap (ap kept_by (sym is) ∙ kept)) (subst (λ (i : SessionIsolation). ReadsBy (cursor_sight st i) c.start) is c.reads)
 
 -- Who reads a version's deletion reads its making: so what comes before such a version in a chain, nobody reads either.
 

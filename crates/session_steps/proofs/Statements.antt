@@ -73,12 +73,6 @@ kept-at st snap (s, r, at, kept) =
     let e = reader-at st s r at in
     (s, e.0, e.1, sym (seen-kept e.0.isolation) ∙ (ap (λ (r : relation.SeenSession). relation.kept_snapshot r.isolation) e.2 ∙ kept))
 
--- the cursor of who keeps it reads by it
-pub kept-sight : (st : State) (i : SessionIsolation) (snap : Snap) → kept_by i ≡ Some snap → cursor_sight st i ≡ (λ x. Sees snap st.heap.statuses x)
-kept-sight st (BySnapshot s) snap is = ap (λ (s : Snap) (x : ℕ). Sees s st.heap.statuses x) (same_Some s snap is)
-kept-sight st (ByStatement (Some s)) snap is = ap (λ (s : Snap) (x : ℕ). Sees s st.heap.statuses x) (same_Some s snap is)
-kept-sight st (ByStatement None) snap is = absurd (none-some snap is)
-
 -- What a session keeps.
 
 -- a session that reads so, with the same cursor, keeps one only for it
@@ -97,3 +91,23 @@ keeping-snapshot (ByStatement old) kept other not = absurd (not tt)
 pub kept-after : (i : SessionIsolation) (taken : Option Snap) (snap : Snap) → kept_by (keeping taken i) ≡ Some snap → (kept_by i ≡ Some snap) ⊎ (taken ≡ Some snap)
 kept-after (BySnapshot s) taken snap is = inl is
 kept-after (ByStatement old) taken snap is = inr is
+
+-- the cursor of who keeps a snapshot reads by it, and else as a statement does
+
+pub kept-cursor : (w : Window) (i : SessionIsolation) (snap : Snap) → kept_by i ≡ Some snap → cursor_snapshot w i ≡ snap
+kept-cursor w (BySnapshot s) snap is = same_Some s snap is
+kept-cursor w (ByStatement (Some s)) snap is = same_Some s snap is
+kept-cursor w (ByStatement None) snap is = absurd (none-some snap is)
+
+pub bare-cursor : (w : Window) (i : SessionIsolation) → kept_by i ≡ None → cursor_snapshot w i ≡ statement_snapshot w i
+bare-cursor w (BySnapshot s) none = absurd (none-some s (sym none))
+bare-cursor w (ByStatement (Some s)) none = absurd (none-some s (sym none))
+bare-cursor w (ByStatement None) none = refl
+
+-- a statement that is lent a snapshot reads by it
+pub lent-statement : (w : Window) (i : SessionIsolation) (snap : Snap) → lent_to w i ≡ Some snap → statement_snapshot w i ≡ snap
+lent-statement w (BySnapshot s) snap is = absurd (none-some snap is)
+lent-statement w (ByStatement k) snap is = same_Some (empty_at (next_id w)) snap is
+
+pub lent-needed : (w : Window) (i : SessionIsolation) (kept : Option Snap) → i ≡ ByStatement kept → lent_to w i ≡ None → ⊥
+lent-needed w i kept is none = none-some (empty_at (next_id w)) (sym none ∙ ap (lent_to w) is)

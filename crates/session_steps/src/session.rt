@@ -76,20 +76,10 @@ impl SessionEngine {
         }
     }
 
-    /// The session as a statement of it reads: by its own snapshot, or by the one that it is lent. By this alone each of its
-    /// statements sees what it sees.
-    pub(crate) fn reader<'a>(&'a self, session: &'a Session, lent: &'a Option<Snapshot>) -> Reader<'a>
-        requires { lent.now ≡ lent_to self.now.heap.statuses session.now.isolation }
-        ensures { ReadsBy self.now session.now
-            (statement_snapshot self.now.heap.statuses session.now.isolation) result }
+    /// The session as it reads by this snapshot.
+    fn reader_by<'a>(&'a self, session: &'a Session, snapshot: &'a Snapshot) -> Reader<'a>
+        ensures { ReadsBy self.now session.now snapshot.now result }
     {
-        let snapshot = match &session.isolation {
-            SessionIsolation::BySnapshot(snapshot) => snapshot,
-            SessionIsolation::ByStatement(_) => match lent {
-                Some(snapshot) => snapshot,
-                None => unreachable!(),
-            },
-        };
         Reader {
             snapshot,
             own: &session.own,
@@ -97,18 +87,38 @@ impl SessionEngine {
         }
     }
 
+    /// The session as a statement of it reads: by its own snapshot, or by the one that it is lent. By this alone each of its
+    /// statements sees what it sees.
+    pub(crate) fn reader<'a>(
+        &'a self,
+        session: &'a Session,
+        lent: &'a Option<Snapshot>,
+    ) -> Reader<'a>
+        requires { lent.now ≡ lent_to self.now.heap.statuses session.now.isolation }
+        ensures { ReadsBy self.now session.now
+            (statement_snapshot self.now.heap.statuses session.now.isolation) result }
+    {
+        match &session.isolation {
+            SessionIsolation::BySnapshot(snapshot) => self.reader_by(session, snapshot),
+            SessionIsolation::ByStatement(_) => match lent {
+                Some(snapshot) => self.reader_by(session, snapshot),
+                None => unreachable!(),
+            },
+        }
+    }
+
     /// The session as its cursor reads: by the snapshot that it keeps.
-    pub(crate) fn cursor_reader<'a>(&'a self, session: &'a Session, lent: &'a Option<Snapshot>) -> Reader<'a>
+    pub(crate) fn cursor_reader<'a>(
+        &'a self,
+        session: &'a Session,
+        lent: &'a Option<Snapshot>,
+    ) -> Reader<'a>
         requires { lent.now ≡ lent_to self.now.heap.statuses session.now.isolation }
         ensures { ReadsBy self.now session.now
             (cursor_snapshot self.now.heap.statuses session.now.isolation) result }
     {
         match session.isolation.lasting_snapshot() {
-            Some(snapshot) => Reader {
-                snapshot,
-                own: &session.own,
-                statuses: self.heap.statuses(),
-            },
+            Some(snapshot) => self.reader_by(session, snapshot),
             None => self.reader(session, lent),
         }
     }
