@@ -41,7 +41,7 @@ impl SessionEngine {
         ensures refused { IfErr result (λ refusal. (refusal ≡ Refusal.NoMemory)
             × IsByStatement session.now.isolation × MustList self.now) }
     {
-        match session.isolation {
+        match &session.isolation {
             SessionIsolation::BySnapshot(_) => Ok(None),
             SessionIsolation::ByStatement(_) => match self.snapshot() {
                 Ok(snapshot) => Ok(Some(snapshot)),

@@ -68,7 +68,7 @@ impl SessionEngine {
     pub(crate) fn lend(&self, session: &Session) -> Option<Snapshot>
         ensures { result ≡ lent_to self.now.heap.statuses session.now.isolation }
     {
-        match session.isolation {
+        match &session.isolation {
             SessionIsolation::BySnapshot(_) => None,
             SessionIsolation::ByStatement(_) => {
                 Some(Snapshot::empty(self.alloc, self.heap.statuses().next()))
