@@ -82,6 +82,10 @@ record KeptReader (st : State) (w : World) (snap : Snap) : Type 0 where
   pub writes : List Write
   pub reads : relation_agrees.ReaderAgrees (state_of st.heap.statuses) (seen st).version w.history (λ x. Sees snap st.heap.statuses x) start own writes
 
+-- a session reads its view so
+abbrev ReadsView : State → World → Session → OpenSession → (ℕ → Type 0) → ℕ → Type 0
+ReadsView st w e m sees start = relation_agrees.ReaderAgrees (state_of st.heap.statuses) (seen st).version w.history sees start e.own.ids (joined m.levels)
+
 kept-reader : (st : State) (w : World) → Agrees st w → (s : ℕ) (e : Session) (snap : Snap) → session_at st s ≡ Some e → kept_by e.isolation ≡ Some snap → KeptReader st w snap
 kept-reader st w agrees s e snap at kept = of e.isolation refl
   where
@@ -89,26 +93,23 @@ kept-reader st w agrees s e snap at kept = of e.isolation refl
         × relation_agrees.SessionAgrees (state_of st.heap.statuses) (seen st).version w.history (statement_sight st e.isolation) (start_now w.history m) (cursor_sight st e.isolation) (reader_of e) m
     found = agrees.found.opened s (reader_of e) (reader-is st s e at)
 
-    abbrev ReadsBy : (ℕ → Type 0) → ℕ → Type 0
-    ReadsBy sees start = relation_agrees.ReaderAgrees (state_of st.heap.statuses) (seen st).version w.history sees start e.own.ids (joined found.0.levels)
-
-    reads-by : (t : Snap) (start : ℕ) → t ≡ snap → ReadsBy (λ x. Sees t st.heap.statuses x) start → KeptReader st w snap
+    reads-by : (t : Snap) (start : ℕ) → t ≡ snap → ReadsView st w e found.0 (λ x. Sees t st.heap.statuses x) start → KeptReader st w snap
     reads-by t start same reads = record {
       own = e.own.ids;
       active = found.2.own_active;
       start = start;
       writes = joined found.0.levels;
-      reads = subst (λ (t : Snap). ReadsBy (λ x. Sees t st.heap.statuses x) start) same reads;
+      reads = subst (λ (t : Snap). ReadsView st w e found.0 (λ x. Sees t st.heap.statuses x) start) same reads;
     }
 
     of : (i : SessionIsolation) → e.isolation ≡ i → KeptReader st w snap
     of (BySnapshot t) is = reads-by t (start_now w.history found.0) (same_Some t snap (ap kept_by (sym is) ∙ kept))
-        (subst (λ (i : SessionIsolation). ReadsBy (statement_sight st i) (start_now w.history found.0)) is (Levels-top e.own.ids e.own.saved found.0.levels found.2.levels))
+        (subst (λ (i : SessionIsolation). ReadsView st w e found.0 (statement_sight st i) (start_now w.history found.0)) is (Levels-top e.own.ids e.own.saved found.0.levels found.2.levels))
     of (ByStatement None) is = absurd (none-some snap (ap kept_by (sym is) ∙ kept))
     of (ByStatement (Some t)) is =
         let some = (agrees.sound.sessions s e at).for_cursor (subst (λ i. IsByStatement i) (sym is) tt) (subst (λ o. IsSome o) (sym kept) refl) in
         let c = found.2.cursor_reads (some-position e.cursor some) in
-        reads-by t c.start (same_Some t snap (ap kept_by (sym is) ∙ kept)) (subst (λ (i : SessionIsolation). ReadsBy (cursor_sight st i) c.start) is c.reads)
+        reads-by t c.start (same_Some t snap (ap kept_by (sym is) ∙ kept)) (subst (λ (i : SessionIsolation). ReadsView st w e found.0 (cursor_sight st i) c.start) is c.reads)
 
 -- Who reads a version's deletion reads its making: so what comes before such a version in a chain, nobody reads either.
 

@@ -1,5 +1,5 @@
 -- The reply to each step of the engine follows the history.
-use Rattle.std.proofs.Common.{◌≡◌, ℕ, zero, suc, ◌<◌, ◌≤◌, List, [], ◌∷◌, ◌++◌, length, set, Option, Some, None, true, false, refl, sym, ap, ◌∙◌, subst, inl, inr, arith}
+use Rattle.std.proofs.Common.{◌≡◌, ℕ, zero, suc, ◌<◌, ◌≤◌, List, [], ◌∷◌, ◌++◌, length, set, Option, Some, None, true, false, refl, sym, ap, ◌∙◌, subst, ◌⊎◌, inl, inr, arith}
 use Rattle.std.proofs.Math.ListN.{length-set}
 use Rattle.std.specs.Prelude.{Contains, IsSome}
 use Rattle.std.specs.Option.{option_map}
@@ -38,7 +38,8 @@ use Rattle.refinement.specs.Allowed.{Allows, next}
 use Rattle.refinement.specs.Finds as finds
 use Rattle.refinement.specs.Changes as change
 use Rattle.refinement.proofs.Itself.{new_session}
-use Rattle.refinement.proofs.Steps.{OnlyIs, SameSights}
+use Rattle.refinement.proofs.Isolations.{SameSights}
+use Rattle.refinement.proofs.Steps.{OnlyIs}
 use Rattle.refinement.proofs.Follows as theory
 use Rattle.refinement.proofs.Hindrances as hindrances
 use Rattle.session_steps.specs.declared.session.Session.{Session}

@@ -32,7 +32,8 @@ use Rattle.refinement.specs.Heap as relation
 use Rattle.refinement.specs.Agrees as theory
 use Rattle.refinement.specs.Changes.{GivesEach, with_id, with_ids}
 use Rattle.refinement.proofs.Itself.{IsCurrent}
-use Rattle.refinement.proofs.Steps.{OnlyIs, SameSights}
+use Rattle.refinement.proofs.Isolations.{SameSights}
+use Rattle.refinement.proofs.Steps.{OnlyIs}
 use Rattle.refinement.proofs.GivenBelow.{AreUnseen, Agrees-give_each}
 use Rattle.refinement.proofs.Follows.{Agrees-sessions}
 use Rattle.refinement.proofs.Sights.{Agrees-sights}
