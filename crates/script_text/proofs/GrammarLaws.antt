@@ -270,7 +270,7 @@ session_verb : (verb : List ℕ) (make : ℕ → Line) → ((s : ℕ) → s < 2 
 session_verb verb make fits text = number_verb verb 255 make (omega arith) (λ s h. fits s (omega (arith, h))) text
 
 usual_spelled : AllByRecursion IsSpelled usual_verbs
-usual_spelled = (get_spelled, (session_verb (codes "begin") (λ s. Do (step.Begin s)) (λ s h. h) (λ s. refl), (session_verb (codes "commit") (λ s. Do (step.Commit s)) (λ s h. h) (λ s. refl), (insert_spelled, (update_spelled, (delete_spelled, (next_spelled, (session_verb (codes "abort") (λ s. Do (step.Abort s)) (λ s h. h) (λ s. refl), tt))))))))
+usual_spelled = (get_spelled, (session_verb (codes "begin") (λ s. Do (step.Begin s)) (λ s h. h) (λ s. refl), (session_verb (codes "beginrc") (λ s. Do (step.BeginReadCommitted s)) (λ s h. h) (λ s. refl), (session_verb (codes "commit") (λ s. Do (step.Commit s)) (λ s h. h) (λ s. refl), (insert_spelled, (update_spelled, (delete_spelled, (next_spelled, (session_verb (codes "abort") (λ s. Do (step.Abort s)) (λ s h. h) (λ s. refl), tt)))))))))
 
 other_spelled : AllByRecursion IsSpelled other_verbs
 other_spelled = (session_verb (codes "savepoint") (λ s. Do (step.Savepoint s)) (λ s h. h) (λ s. refl), (session_verb (codes "rollbackto") (λ s. Do (step.RollbackTo s)) (λ s h. h) (λ s. refl), (session_verb (codes "release") (λ s. Do (step.Release s)) (λ s h. h) (λ s. refl), (openindex_spelled, (session_verb (codes "openheap") (λ s. Do (step.OpenHeap s)) (λ s h. h) (λ s. refl), (session_verb (codes "close") (λ s. Do (step.Close s)) (λ s h. h) (λ s. refl), (prune_spelled, (vacuum_spelled, (page_spelled, (entries_spelled, tt))))))))))
@@ -364,6 +364,8 @@ ids_line = refl
 line_at-spelling : (l : Line) → LineFits l → line_at (spelling l) ≡ Some l
 line_at-spelling (Do (step.Begin s)) h =
     with_verb (codes "begin") (decimal s) _ (free_text 32 (codes "begin") refl) refl (ap (λ (o : Option ℕ). option_map (λ s. Do (step.Begin s)) o) (number_of-decimal 255 s (omega arith) (omega arith)))
+line_at-spelling (Do (step.BeginReadCommitted s)) h =
+    with_verb (codes "beginrc") (decimal s) _ (free_text 32 (codes "beginrc") refl) refl (ap (λ (o : Option ℕ). option_map (λ s. Do (step.BeginReadCommitted s)) o) (number_of-decimal 255 s (omega arith) (omega arith)))
 line_at-spelling (Do (step.Get s k)) h =
     with_verb (codes "get") (key_words s k) _ (free_text 32 (codes "get") refl) refl (ap (λ (o : Option (ℕ × ℕ)). option_map (λ p. Do (step.Get p.0 p.1)) o) (key_words_of-words s k h.0 h.1))
 line_at-spelling (Do (step.Insert s row)) h =
@@ -459,6 +461,7 @@ row_words_free s row h =
 -- no line feed is in a line's text
 pub Free-spelling : (l : Line) → LineFits l → Free 10 (spelling l)
 Free-spelling (Do (step.Begin s)) h = Free-append 10 (codes "begin") (spaced (decimal s)) (free_text 10 (codes "begin") refl) (one_free s (omega arith))
+Free-spelling (Do (step.BeginReadCommitted s)) h = Free-append 10 (codes "beginrc") (spaced (decimal s)) (free_text 10 (codes "beginrc") refl) (one_free s (omega arith))
 Free-spelling (Do (step.Get s k)) h = Free-append 10 (codes "get") (spaced (key_words s k)) (free_text 10 (codes "get") refl) (key_words_free s k h)
 Free-spelling (Do (step.Insert s row)) h = Free-append 10 (codes "insert") (spaced (row_words s row)) (free_text 10 (codes "insert") refl) (row_words_free s row h)
 Free-spelling (Do (step.Update s row)) h = Free-append 10 (codes "update") (spaced (row_words s row)) (free_text 10 (codes "update") refl) (row_words_free s row h)

@@ -77,6 +77,7 @@ mode_text mode.Aggressive = codes "aggressive"
 -- a line that asks for a step
 abbrev pub step_text : Step → List ℕ
 step_text (step.Begin s) = codes "begin" ++ spaced (decimal s)
+step_text (step.BeginReadCommitted s) = codes "beginrc" ++ spaced (decimal s)
 step_text (step.Get s k) = codes "get" ++ spaced (key_words s k)
 step_text (step.Insert s row) = codes "insert" ++ spaced (row_words s row)
 step_text (step.Update s row) = codes "update" ++ spaced (row_words s row)
@@ -119,6 +120,7 @@ RangeFits s index low high = (s < 2 ^ 8) × (index < 2 ^ 8) × FitsSigned w128 l
 -- each number of a step is in the range of its type; a count of rows has 16 bits, and a page's number 32
 abbrev pub StepFits : Step → Type 0
 StepFits (step.Begin s) = s < 2 ^ 8
+StepFits (step.BeginReadCommitted s) = s < 2 ^ 8
 StepFits (step.Get s k) = KeyFits s k
 StepFits (step.Insert s row) = RowFits s row
 StepFits (step.Update s row) = RowFits s row

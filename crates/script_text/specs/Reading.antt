@@ -157,6 +157,7 @@ abbrev pub usual_verbs : Verbs
 usual_verbs =
     (codes "get", λ rest. option_map (λ p. Do (step.Get p.0 p.1)) (key_words_of rest))
     ∷ (codes "begin", λ rest. option_map (λ s. Do (step.Begin s)) (number_of 255 rest))
+    ∷ (codes "beginrc", λ rest. option_map (λ s. Do (step.BeginReadCommitted s)) (number_of 255 rest))
     ∷ (codes "commit", λ rest. option_map (λ s. Do (step.Commit s)) (number_of 255 rest))
     ∷ (codes "insert", λ rest. option_map (λ p. Do (step.Insert p.0 p.1)) (row_words_of rest))
     ∷ (codes "update", λ rest. option_map (λ p. Do (step.Update p.0 p.1)) (row_words_of rest))

@@ -165,6 +165,8 @@ fn line_for(alloc: Global, word: &[u8], rest: &[u8]) -> Result<Option<Line>, Ref
         Ok(key(rest).map(|(s, key)| Line::Do(Step::Get(s, key))))
     } else if word == b"begin".as_slice() {
         Ok(number8(rest).map(|s| Line::Do(Step::Begin(s))))
+    } else if word == b"beginrc".as_slice() {
+        Ok(number8(rest).map(|s| Line::Do(Step::BeginReadCommitted(s))))
     } else if word == b"commit".as_slice() {
         Ok(number8(rest).map(|s| Line::Do(Step::Commit(s))))
     } else if word == b"insert".as_slice() {

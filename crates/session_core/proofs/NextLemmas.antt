@@ -13,13 +13,13 @@ use Rattle.session_steps.specs.State.{with_cursor}
 use Rattle.session_steps.specs.NextRows.{ExactNextRows, AnswersNextRows}
 use Rattle.vacuum_passes.specs.View.{disturbed}
 use Rattle.vacuum_engine.specs.State.{EngineView}
-use Rattle.vacuum_engine.specs.Between.{Changes}
+use Rattle.vacuum_engine.specs.Between.{KeepsOrTakes, Changes}
 use Rattle.vacuum_engine.proofs.Others.{sessions-follow}
 use Rattle.session_core.specs.NextRows.{EngineNextRows}
 
 -- the cursor of one session alone moves, or nothing changes
 next-change : (old new : core.State) (s n : ℕ) (reply : Reply) → ExactNextRows old s n reply new → Changes old new
-next-change old new s n (reply.Rows rows) e = Changes.becomes s e.1.session (with_cursor (Some e.1.after) e.1.session) e.1.there refl e.1.is
+next-change old new s n (reply.Rows rows) e = Changes.becomes s e.1.session (with_cursor (Some e.1.after) e.1.session) e.1.there (KeepsOrTakes.keeps refl) e.1.is
 next-change old new s n reply.End e = Changes.nothing e
 next-change old new s n (reply.Refused refusal.NoMemory) e = absurd e
 next-change old new s n (reply.Refused refusal) e = Changes.nothing e

@@ -2,7 +2,6 @@
 use Rattle.std.proofs.Common.{◌≡◌, ℕ, ◌<◌, List, [], ◌∷◌, length, slice_get, Some, refl, arith}
 use Rattle.tuple_header.specs.declared.version.Row.{Row}
 use Rattle.tuple_header.specs.Version.{Version}
-use Rattle.snapshot.specs.Snap.{Sees}
 use Rattle.visibility.specs.Visible.{state_of}
 use Rattle.history.specs.World.{World}
 use Rattle.refinement.specs.Heap as relation
@@ -13,10 +12,11 @@ use Rattle.table_scans.specs.declared.progress.Scan.TheVariants.{Index, Heap}
 use Rattle.session_steps.specs.declared.session.Session.{Session}
 use Rattle.session_steps.specs.State.{State, session_at, seen, seen_position}
 use Rattle.session_steps.specs.Agrees.{Agrees}
+use Rattle.session_steps.proofs.Statements.{cursor_sight}
 
--- the versions that the session sees
+-- the versions that the session's cursor sees
 abbrev pub seen_by : State → Session → Version → Type 0
-seen_by st e = ReaderSees (state_of st.heap.statuses) (λ x. Sees e.snapshot st.heap.statuses x) e.own.ids
+seen_by st e = ReaderSees (state_of st.heap.statuses) (cursor_sight st e.isolation) e.own.ids
 
 -- the session is open in an engine that agrees with a world, and its cursor is here
 pub record IsAtCursor (st : State) (e : Session) (cursor : Scan) : Type 0 where

@@ -23,11 +23,13 @@ use Rattle.refinement.specs.Visible.{ReaderSees}
 use Rattle.refinement.specs.Agrees as relation
 use Rattle.refinement.proofs.Readers.{Levels-top}
 use Rattle.visibility.specs.Visible.{state_of}
-use Rattle.session_steps.specs.State.{State, seen, reader_of, horizon_of}
+use Rattle.session_steps.specs.State.{State, seen, statement_snapshot, reader_of, horizon_of}
 use Rattle.session_steps.specs.Agrees.{Agrees}
 use Rattle.session_steps.specs.declared.session.Session.{Session}
+use Rattle.session_steps.specs.declared.session.SessionIsolation.{SessionIsolation}
 use Rattle.session_steps.specs.Laws.{IsFound, FindsRows, FindsAtEach, FindsLevels, ViewsByIndex}
 use Rattle.session_steps.proofs.Owns.{reader-is, now_taken, taken-fresh}
+use Rattle.session_steps.proofs.Statements.{statement_sight, cursor_sight, statement-sees}
 
 -- a reader whose own ids are in progress, and what it finds on the heap
 by-index : (st : State) (w : World) (n : ℕ) (s : Snap) (own : List ℕ) (row : ℕ → Option Row) → Agrees st w → IsInUse st.heap.indexes n → ((x : ℕ) → Contains own x → window.IsActive st.heap.statuses x)
@@ -72,23 +74,39 @@ fresh st w agrees = record {
       kept = λ x is reads. elim reads [ by_itself own ↦ Contains-none x own | by_others seen' done ↦ sees.kept x is done ];
     }
 
+-- what a statement of a session sees on the heap, by its snapshot
+shows-by : (st : State) (i : SessionIsolation) (own : List ℕ) (row : ℕ → Option Row) → window.IsWindow st.heap.statuses
+    → relation.Shows (seen st).version (ReaderSees (state_of st.heap.statuses) (statement_sight st i) own) row
+    → relation.Shows (seen st).version (ReaderSees (state_of st.heap.statuses) (λ x. Sees (statement_snapshot st.heap.statuses i) st.heap.statuses x) own) row
+shows-by st i own row is shows = record {
+  sound = λ p v at sees. shows.sound p v at ((statement-sees st is i own v).0 sees);
+  there = λ k r is_row. let some = shows.there k r is_row in (some.0, some.1, some.2, some.3, (statement-sees st is i own some.1).1 some.4);
+  one = λ p q v u at bt sees sees'. shows.one p q v u at bt ((statement-sees st is i own v).0 sees) ((statement-sees st is i own u).0 sees');
+}
+
 -- at each savepoint
-at-each : (st : State) (w : World) (n : ℕ) (s : Snap) (start : ℕ) (own : List ℕ) (saved : List (List ℕ)) (levels : List (List Write)) → Agrees st w → IsInUse st.heap.indexes n
+at-each : (st : State) (w : World) (n : ℕ) (i : SessionIsolation) (start : ℕ) (own : List ℕ) (saved : List (List ℕ)) (levels : List (List Write)) → Agrees st w → IsInUse st.heap.indexes n
     → ((x : ℕ) → Contains own x → window.IsActive st.heap.statuses x)
-    → relation.LevelsAgree (state_of st.heap.statuses) (seen st).version w.history (λ x. Sees s st.heap.statuses x) start own saved levels → FindsAtEach st.heap s n w.history start saved levels
-at-each st w n s start own [] levels agrees used active h = tt
-at-each st w n s start own (before ∷ saved) [] agrees used active h = absurd h
-at-each st w n s start own (before ∷ saved) (since ∷ levels) agrees used active h = (
-  by-index st w n s before (reading w.history start (joined levels)) agrees used (λ x mine. active x (h.1 x mine)) (Levels-top before saved levels h.2).rows,
-  at-each st w n s start before saved levels agrees used (λ x mine. active x (h.1 x mine)) h.2,
+    → relation.LevelsAgree (state_of st.heap.statuses) (seen st).version w.history (statement_sight st i) start own saved levels
+    → FindsAtEach st.heap (statement_snapshot st.heap.statuses i) n w.history start saved levels
+at-each st w n i start own [] levels agrees used active h = tt
+at-each st w n i start own (before ∷ saved) [] agrees used active h = absurd h
+at-each st w n i start own (before ∷ saved) (since ∷ levels) agrees used active h = (
+  by-index st w n (statement_snapshot st.heap.statuses i) before (reading w.history start (joined levels)) agrees used (λ x mine. active x (h.1 x mine))
+      (shows-by st i before (reading w.history start (joined levels)) agrees.sound.window (Levels-top before saved levels h.2).rows),
+  at-each st w n i start before saved levels agrees used (λ x mine. active x (h.1 x mine)) h.2,
 )
 
+-- a session agrees with the history's, as an engine has it
+abbrev SessionFound : State → World → Session → OpenSession → Type 0
+SessionFound st w e m = relation.SessionAgrees (state_of st.heap.statuses) (seen st).version w.history (statement_sight st e.isolation) (start_now w.history m) (cursor_sight st e.isolation) (reader_of e) m
+
 -- an open session
-levels-by-index : (st : State) (w : World) (n : ℕ) (s : ℕ) (e : Session) (m : OpenSession) → Agrees st w → IsInUse st.heap.indexes n
-    → relation.SessionAgrees (state_of st.heap.statuses) (seen st).version w.history (λ x. Sees e.snapshot st.heap.statuses x) (start_now w.history m) (λ x. Sees e.snapshot st.heap.statuses x) (reader_of e) m → FindsLevels st.heap n w.history e m
+levels-by-index : (st : State) (w : World) (n : ℕ) (s : ℕ) (e : Session) (m : OpenSession) → Agrees st w → IsInUse st.heap.indexes n → SessionFound st w e m → FindsLevels st.heap n w.history e m
 levels-by-index st w n s e m agrees used h = record {
-  now = by-index st w n e.snapshot e.own.ids (view w.history m) agrees used active (Levels-top e.own.ids e.own.saved m.levels h.levels).rows;
-  saved = at-each st w n e.snapshot (start_now w.history m) e.own.ids e.own.saved m.levels agrees used active h.levels;
+  now = by-index st w n (statement_snapshot st.heap.statuses e.isolation) e.own.ids (view w.history m) agrees used active
+      (shows-by st e.isolation e.own.ids (view w.history m) agrees.sound.window (Levels-top e.own.ids e.own.saved m.levels h.levels).rows);
+  saved = at-each st w n e.isolation (start_now w.history m) e.own.ids e.own.saved m.levels agrees used active h.levels;
 }
   where
     active : (x : ℕ) → Contains e.own.ids x → window.IsActive st.heap.statuses x
@@ -99,7 +117,6 @@ views-by-index st w agrees n used = (
   λ s e m at there.
       let open_ = agrees.found.opened s (reader_of e) (reader-is st s e at) in
       let is : open_.0 ≡ m = same_Some open_.0 m (sym open_.1 ∙ there) in
-      levels-by-index st w n s e m agrees used
-      (subst (λ (n : OpenSession). relation.SessionAgrees (state_of st.heap.statuses) (seen st).version w.history (λ x. Sees e.snapshot st.heap.statuses x) (start_now w.history n) (λ x. Sees e.snapshot st.heap.statuses x) (reader_of e) n) is open_.2),
+      levels-by-index st w n s e m agrees used (subst (λ (n : OpenSession). SessionFound st w e n) is open_.2),
   by-index st w n (now_taken st) [] (committed w.history (length w.history)) agrees used (λ x mine. absurd (Contains-none x mine)) (fresh st w agrees),
 )

@@ -1,8 +1,9 @@
 -- A page is pruned, and no session can tell.
 use Rattle.visibility.proofs.Makers.{is-inserter, is-deleter, inserter-is, deleter-is, state-is, state-some, committed-from, active-to}
 use Rattle.session_steps.proofs.InUse.{still-in_use, agree}
-use Rattle.std.proofs.Common.{◌≡◌, ◌≢◌, ℕ, zero, suc, ◌≤◌, List, Option, Some, false, refl, sym, ap, ◌∙◌, subst, ◌⊎◌, inl, inr, arith}
-use Rattle.std.proofs.lemmas.Option.{same_Some}
+use Rattle.std.proofs.Common.{◌≡◌, ◌≢◌, ℕ, zero, suc, ◌≤◌, List, Option, Some, None, false, refl, sym, ap, ◌∙◌, subst, ◌⊎◌, inl, inr, arith}
+use Rattle.std.specs.Prelude.{Contains, IsSome}
+use Rattle.std.proofs.lemmas.Option.{same_Some, none-some}
 use Rattle.xid_circle.specs.declared.Tid.{Tid}
 use Rattle.xid_circle.specs.Following.{ReachesIn}
 use Rattle.tuple_header.specs.Version.{Version}
@@ -12,9 +13,9 @@ use Rattle.commit_status.specs.declared.status.Status.TheVariants.{InProgress, C
 use Rattle.commit_status.specs.Window.{IsCommitted, IsAborted, place, next_id}
 use Rattle.commit_status.proofs.Places.{upto-place, is-from_some}
 use Rattle.commit_status.proofs.Giving.{finished-place}
-use Rattle.snapshot.specs.Snap.{Sees, earliest}
+use Rattle.snapshot.specs.Snap.{Snap, Sees, earliest}
 use Rattle.snapshot.proofs.Sights.{past-seen}
-use Rattle.visibility.specs.Visible.{IsDead, IsFrozen}
+use Rattle.visibility.specs.Visible.{IsDead, IsFrozen, state_of}
 use Rattle.hot_chain.specs.Chain.{has_aborted}
 use Rattle.prune.specs.Cutting.{IsCut}
 use Rattle.sound_page.specs.Dead.{IsDeadAt}
@@ -27,24 +28,27 @@ use Rattle.heap_write.specs.Writes.{Prunes}
 use Rattle.table_integrity.specs.Table.{SoundTable}
 use Rattle.table_integrity.proofs.Places.{RemovesOn, prunes-stand}
 use Rattle.table_integrity.proofs.Keeping.{pruned-stays}
-use Rattle.history.specs.World.{World}
+use Rattle.history.specs.History.{Write}
+use Rattle.history.specs.World.{World, OpenSession, joined, start_now}
 use Rattle.calls.specs.declared.step.Step.TheVariants as step
 use Rattle.calls.specs.declared.reply.Reply.TheVariants as reply
 use Rattle.calls.specs.declared.reply.Refusal.TheVariants as refusal
 use Rattle.calls.specs.declared.settings.Settings.{Settings}
-use Rattle.refinement.specs.Heap as relation
 use Rattle.refinement.specs.Agrees as relation_agrees
 use Rattle.visibility.specs.Seeing as readers
 use Rattle.refinement.specs.Changes as change
 use Rattle.refinement.proofs.Readers.{Levels-top}
 use Rattle.refinement.proofs.Follows as theory
 use Rattle.session_steps.specs.declared.session.Session.{Session}
-use Rattle.session_steps.specs.State.{State, seen, seen_in, horizon_of, held_back}
+use Rattle.session_steps.specs.declared.session.SessionIsolation.{SessionIsolation}
+use Rattle.session_steps.specs.declared.session.SessionIsolation.TheVariants.{BySnapshot, ByStatement}
+use Rattle.session_steps.specs.State.{State, session_at, seen, seen_in, reader_of, kept_by, IsByStatement, horizon_of, held_back}
 use Rattle.session_steps.specs.Agrees.{Agrees, Follows}
 use Rattle.session_steps.specs.Exact.{Cleans}
-use Rattle.session_steps.proofs.Owns.{reader-at}
+use Rattle.session_steps.proofs.Owns.{reader-is}
+use Rattle.session_steps.proofs.Statements.{statement_sight, cursor_sight, kept-at}
 use Rattle.session_steps.proofs.Horizons.{upto-horizon, below-xmin}
-use Rattle.session_steps.proofs.Follows.{Follows-same}
+use Rattle.session_steps.proofs.Follows.{Follows-same, some-position}
 
 not-zero : (x : ℕ) → 3 ≤ x → x ≢ 0
 not-zero x normal is = absurd (omega arith)
@@ -67,9 +71,45 @@ dead-past st w v agrees (IsDead.is_past done before) =
     let at = finished-place st.heap.statuses v.header.xmax.0 (λ active. let e : Committed ≡ InProgress = sym done ∙ active in absurd (cc)) in
     let upto = upto-place st.heap.statuses v.header.xmax.0 at.0 at.1 in
     change.IsPast.is_over v.header.xmax.0 (deleter-of st v done) (committed-from st.heap.statuses v.header.xmax.0 done)
-    (λ s r bt. let e = reader-at st s r bt in
-    subst (λ (r : relation.SeenSession). Sees r.snapshot st.heap.statuses v.header.xmax.0) e.2
-    (past-seen st.heap.statuses e.0.snapshot (horizon_of st) v.header.xmax.0 agrees.sound.window (agrees.sound.sessions s e.0 e.1).snapshot.bounds (upto-horizon st w agrees) upto (below-xmin st w agrees s e.0 e.1) before))
+    (λ snap kept. let k = kept-at st snap kept in
+    past-seen st.heap.statuses snap (horizon_of st) v.header.xmax.0 agrees.sound.window ((agrees.sound.sessions k.0 k.1 k.2).snapshot snap k.3).bounds (upto-horizon st w agrees) upto (below-xmin st w agrees k.0 k.1 snap k.2 k.3) before)
+
+-- Who reads by a snapshot that is kept: a session, or its cursor. Its own ids are in progress.
+record KeptReader (st : State) (w : World) (snap : Snap) : Type 0 where
+  pub own : List ℕ
+  pub active : (x : ℕ) → Contains own x → readers.IsRunning (state_of st.heap.statuses) x
+  pub start : ℕ
+  pub writes : List Write
+  pub reads : relation_agrees.ReaderAgrees (state_of st.heap.statuses) (seen st).version w.history (λ x. Sees snap st.heap.statuses x) start own writes
+
+-- a session reads its view so
+abbrev ReadsView : State → World → Session → OpenSession → (ℕ → Type 0) → ℕ → Type 0
+ReadsView st w e m sees start = relation_agrees.ReaderAgrees (state_of st.heap.statuses) (seen st).version w.history sees start e.own.ids (joined m.levels)
+
+kept-reader : (st : State) (w : World) → Agrees st w → (s : ℕ) (e : Session) (snap : Snap) → session_at st s ≡ Some e → kept_by e.isolation ≡ Some snap → KeptReader st w snap
+kept-reader st w agrees s e snap at kept = of e.isolation refl
+  where
+    found : (m : OpenSession) × (w.session s ≡ Some m)
+        × relation_agrees.SessionAgrees (state_of st.heap.statuses) (seen st).version w.history (statement_sight st e.isolation) (start_now w.history m) (cursor_sight st e.isolation) (reader_of e) m
+    found = agrees.found.opened s (reader_of e) (reader-is st s e at)
+
+    reads-by : (t : Snap) (start : ℕ) → t ≡ snap → ReadsView st w e found.0 (λ x. Sees t st.heap.statuses x) start → KeptReader st w snap
+    reads-by t start same reads = record {
+      own = e.own.ids;
+      active = found.2.own_active;
+      start = start;
+      writes = joined found.0.levels;
+      reads = subst (λ (t : Snap). ReadsView st w e found.0 (λ x. Sees t st.heap.statuses x) start) same reads;
+    }
+
+    of : (i : SessionIsolation) → e.isolation ≡ i → KeptReader st w snap
+    of (BySnapshot t) is = reads-by t (start_now w.history found.0) (same_Some t snap (ap kept_by (sym is) ∙ kept))
+        (subst (λ (i : SessionIsolation). ReadsView st w e found.0 (statement_sight st i) (start_now w.history found.0)) is (Levels-top e.own.ids e.own.saved found.0.levels found.2.levels))
+    of (ByStatement None) is = absurd (none-some snap (ap kept_by (sym is) ∙ kept))
+    of (ByStatement (Some t)) is =
+        let some = (agrees.sound.sessions s e at).for_cursor (subst (λ i. IsByStatement i) (sym is) tt) (subst (λ o. IsSome o) (sym kept) refl) in
+        let c = found.2.cursor_reads (some-position e.cursor some) in
+        reads-by t c.start (same_Some t snap (ap kept_by (sym is) ∙ kept)) (subst (λ (i : SessionIsolation). ReadsView st w e found.0 (cursor_sight st i) c.start) is c.reads)
 
 -- Who reads a version's deletion reads its making: so what comes before such a version in a chain, nobody reads either.
 
@@ -98,10 +138,10 @@ module _ (st : State) (w : World) (agrees : Agrees st w) (n : ℕ) where
           let over : IsCommitted st.heap.statuses u.header.xmax.0 = subst (λ z. IsCommitted st.heap.statuses z) (sym d.1) (state-some st.heap.statuses y Committed done).1 in
           let mine : IsCommitted st.heap.statuses v.header.xmax.0 = elim (committed over) [ inl frozen ↦ absurd (thawed frozen) | inr c ↦ subst (λ z. IsCommitted st.heap.statuses z) made c ] in
           change.IsPast.is_over v.header.xmax.0 (deleter-of st v mine) (committed-from st.heap.statuses v.header.xmax.0 mine)
-          (λ s r at'. let open_ = agrees.found.opened s r at' in
-          let whole = (Levels-top r.own r.saved open_.0.levels open_.2.levels).whole (record { page = n; slot = k }) y u bt is (readers.by_others (all s r at') done) v.header.xmax.0 (is-inserter u.header v.header.xmax.0 thawed made) in
-          elim whole [
-            | readers.by_itself own ↦ (let active = (active-to st.heap.statuses v.header.xmax.0 (open_.2.own_active v.header.xmax.0 own)).unfinished in
+          (λ snap kept. let by = kept-at st snap kept in
+          let reader = kept-reader st w agrees by.0 by.1 snap by.2 by.3 in
+          elim (reader.reads.whole (record { page = n; slot = k }) y u bt is (readers.by_others (all snap kept) done) v.header.xmax.0 (is-inserter u.header v.header.xmax.0 thawed made)) [
+            | readers.by_itself own ↦ (let active = (active-to st.heap.statuses v.header.xmax.0 (reader.active v.header.xmax.0 own)).unfinished in
                 let e : Committed ≡ InProgress = sym mine ∙ active in absurd (cc))
             | readers.by_others sees _ ↦ sees
           ])

@@ -3,9 +3,15 @@ use Rattle.std.proofs.lemmas.Int.{to_z-of_z, ints}
 use Rattle.std.specs.Int.Signed.{lt_z}
 use Rattle.std.specs.Int.{w128}
 use Rattle.std.proofs.lemmas.Bool.Decides.{nat_tests}
-use Rattle.std.proofs.Common.{SFits, to_z, of_z, ◌≡◌, ℕ, arith, ℤ, ◌≤ℤ◌, ◌<ℤ◌, List, Bool, true, false, Option, Some, None, refl, sym, ap, ◌∙◌, subst}
-use Rattle.std.specs.Prelude.{IsSome}
+use Rattle.std.proofs.Common.{SFits, to_z, of_z, ◌≡◌, ℕ, arith, ℤ, ◌≤ℤ◌, ◌<ℤ◌, ◌≤◌, ◌⊎◌, inl, inr, take, List, Bool, true, false, Option, Some, None, refl, sym, ap, ◌∙◌, subst}
+use Rattle.std.specs.Prelude.{IsSome, Contains}
+use Rattle.std.proofs.Math.ListN.{length-set}
+use Rattle.std.proofs.lemmas.Option.{same_Some, none-some}
+use Rattle.std.proofs.lemmas.List.Elements.{Contains-append_cases}
 use Rattle.std.specs.Option.{option_map}
+use Rattle.commit_status.specs.Window.{IsUpToNext, turns}
+use Rattle.snapshot.specs.Snap.{Snap}
+use Rattle.history.specs.World.{World}
 use Rattle.root_index.specs.View.{IndexView}
 use Rattle.table_indexes.specs.Indexes.{IsInUse, index_at}
 use Rattle.calls.specs.declared.step.Step.TheVariants as step
@@ -19,15 +25,21 @@ use Rattle.refinement.specs.Allowed.{Allows, next}
 use Rattle.refinement.proofs.Steps.{OnlyIs}
 use Rattle.refinement.proofs.FollowsCursors as cursors
 use Rattle.session_steps.specs.declared.session.Session.{Session}
+use Rattle.session_steps.specs.declared.session.SessionIsolation.{SessionIsolation}
+use Rattle.session_steps.specs.declared.session.SessionIsolation.TheVariants.{BySnapshot, ByStatement}
+use Rattle.session_steps.specs.Exact.{HasCursor, OpensCursor}
 use Rattle.table_scans.specs.declared.progress.Scan.{Scan}
 use Rattle.table_scans.specs.declared.progress.Scan.TheVariants.{Index, Heap}
 use Rattle.index_lookup.specs.declared.index_scan.IndexRange.{IndexRange}
-use Rattle.session_steps.specs.State.{State, session_at, put_session, map_session, with_cursor, seen, position_of, reader_of, engine_sessions}
+use Rattle.session_steps.specs.State.{State, session_at, put_session, map_session, with_cursor, with_kept, keeping, kept_by, kept_xmin, holds_back, horizon_of, IsByStatement, isolation_seen, seen, position_of, reader_of, engine_sessions}
 use Rattle.session_steps.specs.Agrees.{Agrees, Sound, SessionKeeps, Follows, KeepsAllTargets}
-use Rattle.session_steps.proofs.InUse.{GoesAlong, no-cursor, agree}
-use Rattle.session_steps.proofs.OwnIdsLemmas.{open-within}
+use Rattle.session_steps.proofs.InUse.{GoesAlong, used-still, no-cursor, cursors-put, agree}
+use Rattle.session_steps.proofs.OwnIdsLemmas.{open-within, open-set_cases}
 use Rattle.session_steps.proofs.StateLemmas.{only-set}
-use Rattle.session_steps.proofs.Owns.{reader-is}
+use Rattle.session_steps.proofs.Owns.{reader-is, now_taken, taken-fresh, taken-within}
+use Rattle.session_steps.proofs.Statements.{kept-after}
+use Rattle.session_steps.proofs.Horizons.{kept-cases, xmin-back, own-back, held-in, horizon-low, taken-late}
+use Rattle.session_steps.proofs.Giving.{later-sound}
 use Rattle.session_steps.proofs.Follows.{Follows-same, stays-so, free_by, bare_by, some-position, led-same, Sound-put}
 
 pub Follows-barred_open_index : (st : State) (s index : ℕ) (low high : ℤ) (r : Refusal) → BarsFree (engine_sessions st) s r → Follows st (step.OpenIndex s index low high) (reply.Refused r) st
@@ -62,49 +74,144 @@ Follows-bad_bounds st s e index low high at sound bare used order w agrees =
     stays-so st w (step.OpenIndex s index low high) (reply.Refused refusal.BadBounds) agrees
     (cursors.Follows-bad_bounds (seen st) s (reader_of e) index low high (reader-is st s e at) sound (ap position_of bare) order w ((agrees.indexes index).0 used) agrees.found)
 
--- A session's cursor changes, and nothing else.
+-- There is no memory for the snapshot that a cursor by statement keeps.
 
-keeps-cursor : (st : State) (e : Session) (cursor : Option Scan) → SessionKeeps st.heap.statuses e → SessionKeeps st.heap.statuses (with_cursor cursor e)
-keeps-cursor st e cursor h = record { snapshot = h.snapshot; topmost = h.topmost; prefixes = h.prefixes; distinct = h.distinct }
+pub Follows-open_index_no_memory : (st : State) (s : ℕ) (e : Session) (index : ℕ) (low high : ℤ) → session_at st s ≡ Some e → e.failed ≡ false → e.cursor ≡ None → IsInUse st.heap.indexes index → low ≤ℤ high
+    → Follows st (step.OpenIndex s index low high) (reply.Refused refusal.NoMemory) st
+Follows-open_index_no_memory st s e index low high at sound bare used order w agrees =
+    stays-so st w (step.OpenIndex s index low high) (reply.Refused refusal.NoMemory) agrees
+    (cursors.Follows-open_index_no_memory (seen st) s (reader_of e) index low high (reader-is st s e at) sound (ap position_of bare) order w ((agrees.indexes index).0 used) agrees.found)
 
-module _ (st st' : State) (s : ℕ) (e : Session) (cursor : Option Scan) (at : session_at st s ≡ Some e) (is : st' ≡ put_session st s (map_session (with_cursor cursor) (session_at st s))) where
-  pub moved : st' ≡ put_session st s (Some (with_cursor cursor e))
-  moved = is ∙ ap (λ o. put_session st s (map_session (with_cursor cursor) o)) at
+pub Follows-open_heap_no_memory : (st : State) (s : ℕ) (e : Session) → session_at st s ≡ Some e → e.failed ≡ false → e.cursor ≡ None → Follows st (step.OpenHeap s) (reply.Refused refusal.NoMemory) st
+Follows-open_heap_no_memory st s e at sound bare =
+    Follows-same st (step.OpenHeap s) (reply.Refused refusal.NoMemory) (cursors.Follows-open_heap_no_memory (seen st) s (reader_of e) (reader-is st s e at) sound (ap position_of bare))
 
-  pub only-cursor : OnlyIs (seen st).session (seen (put_session st s (Some (with_cursor cursor e)))).session s (Some (record (reader_of e) { cursor = position_of cursor }))
-  only-cursor = let only = only-set st s (Some (with_cursor cursor e)) (open-within st.sessions s e at) in record { others = only.others; itself = only.itself }
+-- A session's cursor moves, and nothing else changes.
 
-  pub sound-cursor : GoesAlong st.heap.indexes cursor → Sound st → Sound (put_session st s (Some (with_cursor cursor e)))
-  sound-cursor along sound = Sound-put st s e (with_cursor cursor e) at refl (keeps-cursor st e cursor (sound.sessions s e at)) along sound
+keeps-cursor : (st : State) (e : Session) (cursor : Scan) → SessionKeeps st.heap.statuses e → SessionKeeps st.heap.statuses (with_cursor (Some cursor) e)
+keeps-cursor st e cursor h = record { snapshot = h.snapshot; for_cursor = λ by kept. refl; topmost = h.topmost; prefixes = h.prefixes; distinct = h.distinct }
+
+module _ (st st' : State) (s : ℕ) (e : Session) (cursor : Scan) (at : session_at st s ≡ Some e) (is : st' ≡ put_session st s (map_session (with_cursor (Some cursor)) (session_at st s))) where
+  pub moved : st' ≡ put_session st s (Some (with_cursor (Some cursor) e))
+  moved = is ∙ ap (λ o. put_session st s (map_session (with_cursor (Some cursor)) o)) at
+
+  pub only-cursor : OnlyIs (seen st).session (seen (put_session st s (Some (with_cursor (Some cursor) e)))).session s (Some (record (reader_of e) { cursor = position_of (Some cursor) }))
+  only-cursor = let only = only-set st s (Some (with_cursor (Some cursor) e)) (open-within st.sessions s e at) in record { others = only.others; itself = only.itself }
+
+  pub sound-cursor : GoesAlong st.heap.indexes (Some cursor) → Sound st → Sound (put_session st s (Some (with_cursor (Some cursor) e)))
+  sound-cursor along sound = Sound-put st s e (with_cursor (Some cursor) e) at refl (keeps-cursor st e cursor (sound.sessions s e at)) along sound
+
+-- A cursor is opened or closed: by statement the session keeps a snapshot for it, or none any more.
+
+abbrev pub with_both : Option Scan → Option Snap → Session → Session
+with_both cursor kept e = with_kept kept (with_cursor cursor e)
+
+-- by statement it keeps one only where it has a cursor
+for-both : (i : SessionIsolation) (cursor : Option Scan) (kept : Option Snap) → (IsSome kept → IsSome cursor) → IsByStatement (keeping kept i) → IsSome (kept_by (keeping kept i)) → IsSome cursor
+for-both (BySnapshot snap) cursor kept some by keeps = absurd by
+for-both (ByStatement old) cursor kept some by keeps = some keeps
+
+module _ (st : State) (w : World) (s : ℕ) (e : Session) (cursor : Option Scan) (kept : Option Snap) (at : session_at st s ≡ Some e) (agrees : Agrees st w) (fresh : (snap : Snap) → kept ≡ Some snap → snap ≡ now_taken st) where
+  keeps-both : (IsSome kept → IsSome cursor) → SessionKeeps st.heap.statuses (with_both cursor kept e)
+  keeps-both some = let h = agrees.sound.sessions s e at in
+      record {
+        snapshot = λ snap is. elim (kept-after e.isolation kept snap is) [ inl old ↦ h.snapshot snap old | inr new ↦ rw (fresh snap new) (taken-within st w agrees) ];
+        for_cursor = for-both e.isolation cursor kept some;
+        topmost = h.topmost;
+        prefixes = h.prefixes;
+        distinct = h.distinct;
+      }
+
+  -- what it holds back then is in the window, and not before the horizon
+  back-both : (y : ℕ) → Contains (holds_back (with_both cursor kept e)) y → IsUpToNext st.heap.statuses y × (turns st.heap.statuses.first (horizon_of st) ≤ turns st.heap.statuses.first y)
+  back-both y among = elim (Contains-append_cases (kept_xmin (kept_by (keeping kept e.isolation))) (take 1 e.own.ids) y among) [
+    | inl here ↦ (let k = kept-cases (kept_by (keeping kept e.isolation)) y here in
+        elim (kept-after e.isolation kept k.0 k.1) [
+          | inl old ↦ was y (subst (λ z. Contains (holds_back e) z) k.2 (xmin-back e k.0 old))
+          | inr new ↦ subst (λ z. IsUpToNext st.heap.statuses z × (turns st.heap.statuses.first (horizon_of st) ≤ turns st.heap.statuses.first z)) (ap (λ (snap : Snap). snap.xmin) (sym (fresh k.0 new)) ∙ k.2)
+              ((taken-within st w agrees).bounds.xmin, taken-late st w agrees)
+        ])
+    | inr own ↦ was y (own-back e y own)
+  ]
+    where
+      was : (z : ℕ) → Contains (holds_back e) z → IsUpToNext st.heap.statuses z × (turns st.heap.statuses.first (horizon_of st) ≤ turns st.heap.statuses.first z)
+      was z back = (held-in st w agrees s e z at back, horizon-low st.heap.statuses st.sessions s e z agrees.sound.window (held-in st w agrees) at back)
+
+  pub sound-both : (IsSome kept → IsSome cursor) → GoesAlong st.heap.indexes cursor → Sound (put_session st s (Some (with_both cursor kept e)))
+  sound-both some along = record {
+    count = length-set st.sessions s (Some (with_both cursor kept e)) ∙ agrees.sound.count;
+    max_pages = agrees.sound.max_pages;
+    stop_age = agrees.sound.stop_age;
+    window = agrees.sound.window;
+    sessions = λ o f bt. elim (open-set_cases st.sessions s o (Some (with_both cursor kept e)) f (open-within st.sessions s e at) bt) [
+      | inl is ↦ subst (λ f. SessionKeeps st.heap.statuses f) (same_Some (with_both cursor kept e) f is.1) (keeps-both some)
+      | inr other ↦ agrees.sound.sessions o f other.1
+    ];
+    tops = agrees.sound.tops;
+    indexes = agrees.sound.indexes;
+    cursors = cursors-put st.sessions st.heap.indexes st.heap.indexes s (with_both cursor kept e) (open-within st.sessions s e at) (used-still st.heap.indexes) along agrees.sound.cursors;
+    table = later-sound st w st.heap s e (with_both cursor kept e) at agrees agrees.sound.window refl (omega arith) (λ y upto. upto) back-both agrees.sound.table;
+  }
+
+-- what readers see of it
+
+put-both : (st st' : State) (s : ℕ) (e : Session) (cursor : Option Scan) (kept : Option Snap) → session_at st s ≡ Some e → HasCursor st st' s cursor kept → st' ≡ put_session st s (Some (with_both cursor kept e))
+put-both st st' s e cursor kept at is = is ∙ ap (λ o. put_session st s (map_session (with_both cursor kept) o)) at
+
+only-both : (st : State) (s : ℕ) (e : Session) (cursor : Option Scan) (kept : Option Snap) → session_at st s ≡ Some e
+    → OnlyIs (seen st).session (seen (put_session st s (Some (with_both cursor kept e)))).session s (Some (record (reader_of e) { isolation = isolation_seen (keeping kept e.isolation); cursor = position_of cursor }))
+only-both st s e cursor kept at = let only = only-set st s (Some (with_both cursor kept e)) (open-within st.sessions s e at) in record { others = only.others; itself = only.itself }
+
+opens-by : (st : State) (w : World) (i : SessionIsolation) → Agrees st w → cursors.OpensBy (seen st) (isolation_seen i) (isolation_seen (keeping (Some (now_taken st)) i))
+opens-by st w (BySnapshot snap) agrees = refl
+opens-by st w (ByStatement old) agrees = (now_taken st, refl, taken-fresh st w agrees)
+
+without-kept : (i : SessionIsolation) → isolation_seen (keeping None i) ≡ cursors.without_kept (isolation_seen i)
+without-kept (BySnapshot snap) = refl
+without-kept (ByStatement old) = refl
 
 along-span : (indexes : List (Option IndexView)) (span : IndexRange) → IsInUse indexes span.index → GoesAlong indexes (Some (Index span))
 along-span indexes span used other is = let same : span ≡ other = cc in subst (λ (span : IndexRange). IsInUse indexes span.index) same used
 
+-- what is taken now is kept
+taken-alone : (st : State) (snap : Snap) → Some (now_taken st) ≡ Some snap → snap ≡ now_taken st
+taken-alone st snap is = sym (same_Some (now_taken st) snap is)
+
+-- what is kept is what the session keeps of the snapshot that is taken now
+pub opens-as : (st st' : State) (s : ℕ) (e : Session) (cursor : Scan) (kept : Option Snap) → session_at st s ≡ Some e → keeping kept e.isolation ≡ keeping (Some (now_taken st)) e.isolation
+    → HasCursor st st' s (Some cursor) kept → OpensCursor st st' s cursor
+opens-as st st' s e cursor kept at same is =
+    put-both st st' s e (Some cursor) kept at is ∙ ap (λ (i : SessionIsolation). put_session st s (Some (record e { isolation = i; cursor = Some cursor }))) same
+    ∙ sym (ap (λ o. put_session st s (map_session (with_both (Some cursor) (Some (now_taken st))) o)) at)
+
 pub Follows-opened_index : (st st' : State) (s : ℕ) (e : Session) (span : IndexRange) → session_at st s ≡ Some e → e.failed ≡ false → e.cursor ≡ None → span.low ≤ℤ span.high → span.last ≡ None → IsInUse st.heap.indexes span.index
-    → st' ≡ put_session st s (map_session (with_cursor (Some (Index span))) (session_at st s)) → Follows st (step.OpenIndex s span.index span.low span.high) reply.Done st'
+    → OpensCursor st st' s (Index span) → Follows st (step.OpenIndex s span.index span.low span.high) reply.Done st'
 Follows-opened_index st st' s e span at sound bare order none used is w agrees =
+    let now = put_session st s (Some (with_both (Some (Index span)) (Some (now_taken st)) e)) in
     let position : position_of (Some (Index span)) ≡ Some (relation.in_index span.index span.low span.high None) = rw none refl in
-    let only = subst (λ p. OnlyIs (seen st).session (seen (put_session st s (Some (with_cursor (Some (Index span)) e)))).session s (Some (record (reader_of e) { cursor = p }))) position (only-cursor st st' s e (Some (Index span)) at is) in
-    let f = cursors.Follows-open_index (seen st) s (reader_of e) span.index span.low span.high (seen (put_session st s (Some (with_cursor (Some (Index span)) e)))).session only
+    let isolation = isolation_seen (keeping (Some (now_taken st)) e.isolation) in
+    let only = subst (λ p. OnlyIs (seen st).session (seen now).session s (Some (record (reader_of e) { isolation = isolation; cursor = p }))) position (only-both st s e (Some (Index span)) (Some (now_taken st)) at) in
+    let f = cursors.Follows-open_index (seen st) s (reader_of e) span.index span.low span.high isolation (seen now).session only (λ w' found. opens-by st w e.isolation agrees)
     (reader-is st s e at) sound (ap position_of bare) order w ((agrees.indexes span.index).0 used) agrees.found in
-    subst (λ st'. Allows w (step.OpenIndex s span.index span.low span.high) reply.Done × Agrees st' (next w (step.OpenIndex s span.index span.low span.high) reply.Done) × KeepsAllTargets st st') (sym (moved st st' s e (Some (Index span)) at is))
-    (f.0, agree agrees refl refl f.1 (sound-cursor st st' s e (Some (Index span)) at is (along-span st.heap.indexes span used) agrees.sound), led-same st w agrees)
+    subst (λ st'. Allows w (step.OpenIndex s span.index span.low span.high) reply.Done × Agrees st' (next w (step.OpenIndex s span.index span.low span.high) reply.Done) × KeepsAllTargets st st')
+    (sym (put-both st st' s e (Some (Index span)) (Some (now_taken st)) at is))
+    (f.0, agree agrees refl refl f.1 (sound-both st w s e (Some (Index span)) (Some (now_taken st)) at agrees (taken-alone st) (λ some. refl) (along-span st.heap.indexes span used)), led-same st w agrees)
 
-pub Follows-opened_heap : (st st' : State) (s : ℕ) (e : Session) → session_at st s ≡ Some e → e.failed ≡ false → e.cursor ≡ None
-    → st' ≡ put_session st s (map_session (with_cursor (Some (Heap heap_start))) (session_at st s)) → Follows st (step.OpenHeap s) reply.Done st'
+pub Follows-opened_heap : (st st' : State) (s : ℕ) (e : Session) → session_at st s ≡ Some e → e.failed ≡ false → e.cursor ≡ None → OpensCursor st st' s (Heap heap_start) → Follows st (step.OpenHeap s) reply.Done st'
 Follows-opened_heap st st' s e at sound bare is w agrees =
-    let f = cursors.Follows-open_heap (seen st) s (reader_of e) (seen (put_session st s (Some (with_cursor (Some (Heap heap_start)) e)))).session (only-cursor st st' s e (Some (Heap heap_start)) at is)
-    (reader-is st s e at) sound (ap position_of bare) w agrees.found in
-    subst (λ st'. Allows w (step.OpenHeap s) reply.Done × Agrees st' (next w (step.OpenHeap s) reply.Done) × KeepsAllTargets st st') (sym (moved st st' s e (Some (Heap heap_start)) at is))
-    (f.0, agree agrees refl refl f.1 (sound-cursor st st' s e (Some (Heap heap_start)) at is (λ span here. absurd (cc)) agrees.sound), led-same st w agrees)
+    let now = put_session st s (Some (with_both (Some (Heap heap_start)) (Some (now_taken st)) e)) in
+    let f = cursors.Follows-open_heap (seen st) s (reader_of e) (isolation_seen (keeping (Some (now_taken st)) e.isolation)) (seen now).session (only-both st s e (Some (Heap heap_start)) (Some (now_taken st)) at)
+    (λ w' found. opens-by st w e.isolation agrees) (reader-is st s e at) sound (ap position_of bare) w agrees.found in
+    subst (λ st'. Allows w (step.OpenHeap s) reply.Done × Agrees st' (next w (step.OpenHeap s) reply.Done) × KeepsAllTargets st st') (sym (put-both st st' s e (Some (Heap heap_start)) (Some (now_taken st)) at is))
+    (f.0, agree agrees refl refl f.1 (sound-both st w s e (Some (Heap heap_start)) (Some (now_taken st)) at agrees (taken-alone st) (λ some. refl) (λ span here. absurd (cc))), led-same st w agrees)
 
-pub Follows-closed_cursor : (st st' : State) (s : ℕ) (e : Session) → session_at st s ≡ Some e → e.failed ≡ false → IsSome e.cursor
-    → st' ≡ put_session st s (map_session (with_cursor None) (session_at st s)) → Follows st (step.Close s) reply.Done st'
+pub Follows-closed_cursor : (st st' : State) (s : ℕ) (e : Session) → session_at st s ≡ Some e → e.failed ≡ false → IsSome e.cursor → HasCursor st st' s None None → Follows st (step.Close s) reply.Done st'
 Follows-closed_cursor st st' s e at sound some is w agrees =
-    let f = cursors.Follows-close (seen st) s (reader_of e) (seen (put_session st s (Some (with_cursor None e)))).session (only-cursor st st' s e None at is)
-    (reader-is st s e at) sound (some-position e.cursor some) w agrees.found in
-    subst (λ st'. Allows w (step.Close s) reply.Done × Agrees st' (next w (step.Close s) reply.Done) × KeepsAllTargets st st') (sym (moved st st' s e None at is))
-    (f.0, agree agrees refl refl f.1 (sound-cursor st st' s e None at is (no-cursor st.heap.indexes None refl) agrees.sound), led-same st w agrees)
+    let now = put_session st s (Some (with_both None None e)) in
+    let only = subst (λ i. OnlyIs (seen st).session (seen now).session s (Some (record (reader_of e) { isolation = i; cursor = None }))) (without-kept e.isolation) (only-both st s e None None at) in
+    let f = cursors.Follows-close (seen st) s (reader_of e) (seen now).session only (reader-is st s e at) sound (some-position e.cursor some) w agrees.found in
+    subst (λ st'. Allows w (step.Close s) reply.Done × Agrees st' (next w (step.Close s) reply.Done) × KeepsAllTargets st st') (sym (put-both st st' s e None None at is))
+    (f.0, agree agrees refl refl f.1 (sound-both st w s e None None at agrees (λ snap none. absurd (none-some snap none)) (λ some. some) (no-cursor st.heap.indexes None refl)), led-same st w agrees)
 
 abbrev pub span-of : ℕ → ℤ → ℤ → IndexRange
 span-of index low high = record { index = index; low = low; high = high; last = None }

@@ -44,6 +44,7 @@ use Rattle.calls.specs.declared.settings.Settings.{Settings}
 use Rattle.session_steps.proofs.InUse.{AreInUse, GoesAlong, still-in_use, same-cursor}
 use Rattle.session_steps.proofs.OwnIdsLemmas.{open-within, open-set_cases}
 use Rattle.session_steps.proofs.Owns.{reader-is, reader-at}
+use Rattle.session_steps.proofs.Statements.{statement_sight}
 use Rattle.session_steps.proofs.Placing.{normal-active}
 use Rattle.session_steps.proofs.Returning.{keeps-returned, fewer-back}
 use Rattle.session_steps.proofs.Horizons.{IsHeldIn, held-in, horizon-above, horizon-next, horizon-low, horizon-upto, upto-horizon}
@@ -70,7 +71,8 @@ in-window-finish w v ids end s f h = record {
 
 pub keeps-finish : (w v : Window) (ids : List ℕ) (end : Status) (e : Session) → Finishes w v ids end → SessionKeeps w e → SessionKeeps v e
 keeps-finish w v ids end e f h = record {
-  snapshot = in-window-finish w v ids end e.snapshot f h.snapshot;
+  snapshot = λ snap is. in-window-finish w v ids end snap f (h.snapshot snap is);
+  for_cursor = h.for_cursor;
   topmost = λ x mine. h.topmost x mine ∙ ap Some (sym (finishes-top w v ids end x f));
   prefixes = h.prefixes;
   distinct = h.distinct;
@@ -107,7 +109,7 @@ module _ (st : State) (w : World) (agrees : Agrees st w) where
       → Contains e.own.ids x ⊎ HasCommitted (state_of st.heap.statuses) x
   made-with s e p t x y at there made gone mine =
       let m = agrees.found.opened s (reader_of e) (reader-is st s e at) in
-      read-by (state_of st.heap.statuses) ((seen st).sees e.snapshot) e.own.ids x
+      read-by (state_of st.heap.statuses) (statement_sight st e.isolation) e.own.ids x
       ((Levels-top e.own.ids e.own.saved m.0.levels m.2.levels).whole p y t there gone (by_itself mine) x made)
 
   -- an id in progress of a session made the version: no deletion of it counts, or one of the session's ids made it
@@ -191,8 +193,8 @@ module _ (st : State) (w : World) (agrees : Agrees st w) where
           let o = agrees.found.opened s (reader_of e) (reader-is st s e at) in
           let active = active-to st.heap.statuses y (o.2.own_active y (subst (λ xs. Contains xs y) (sym ids) (Contains-append_left before since y early))) in
           let gone = is-deleter t.header y (normal-active st.heap.statuses y active) refl in
-          elim (read-by (state_of st.heap.statuses) ((seen st).sees e.snapshot) before x
-          ((newest-reader (state_of st.heap.statuses) (seen st).version w.history ((seen st).sees e.snapshot) (start_now w.history o.0) e.own.ids before saved e.own.saved o.0.levels is o.2.levels).1.whole p y t there gone (by_itself early) x made)) [
+          elim (read-by (state_of st.heap.statuses) (statement_sight st e.isolation) before x
+          ((newest-reader (state_of st.heap.statuses) (seen st).version w.history (statement_sight st e.isolation) (start_now w.history o.0) e.own.ids before saved e.own.saved o.0.levels is o.2.levels).1.whole p y t there gone (by_itself early) x made)) [
             | inl both ↦ distinct-after e.own.ids before since (agrees.sound.sessions s e at).distinct ids x mine both
             | inr done ↦ (let going = o.2.own_active x (subst (λ xs. Contains xs x) (sym ids) (Contains-append_right before since x mine)) in cc)
           ]
@@ -304,7 +306,7 @@ rolls-back-sound st st' s before saved w back is agrees =
     e = back.session
 
     less : (f : Session) (y : ℕ) → Some back.now ≡ Some f → Contains (holds_back f) y → Contains (holds_back e) y
-    less f y same among = fewer-back e back.now back.back.since y back.back.returns.snapshot back.back.ids (subst (λ (g : Session). Contains (holds_back g) y) (sym (same_Some back.now f same)) among)
+    less f y same among = fewer-back e back.now back.back.since y back.back.returns.isolation back.back.ids (subst (λ (g : Session). Contains (holds_back g) y) (sym (same_Some back.now f same)) among)
 
     along : (f : Session) → Some back.now ≡ Some f → GoesAlong st.heap.indexes f.cursor
     along f same = same-cursor st.sessions st.heap.indexes s e f back.at (ap (λ (g : Session). g.cursor) (sym (same_Some back.now f same)) ∙ back.back.returns.cursor) agrees.sound.cursors

@@ -1,5 +1,5 @@
 -- The reply to each step of the engine follows the history.
-use Rattle.std.proofs.Common.{◌≡◌, ℕ, zero, suc, ◌<◌, ◌≤◌, List, [], ◌∷◌, ◌++◌, length, set, Option, Some, None, true, false, refl, sym, ap, ◌∙◌, subst, inl, inr, arith}
+use Rattle.std.proofs.Common.{◌≡◌, ℕ, zero, suc, ◌<◌, ◌≤◌, List, [], ◌∷◌, ◌++◌, length, set, Option, Some, None, true, false, refl, sym, ap, ◌∙◌, subst, ◌⊎◌, inl, inr, arith}
 use Rattle.std.proofs.Math.ListN.{length-set}
 use Rattle.std.specs.Prelude.{Contains, IsSome}
 use Rattle.std.specs.Option.{option_map}
@@ -38,17 +38,21 @@ use Rattle.refinement.specs.Allowed.{Allows, next}
 use Rattle.refinement.specs.Finds as finds
 use Rattle.refinement.specs.Changes as change
 use Rattle.refinement.proofs.Itself.{new_session}
-use Rattle.refinement.proofs.Steps.{OnlyIs, SameSights}
+use Rattle.refinement.proofs.Isolations.{SameSights}
+use Rattle.refinement.proofs.Steps.{OnlyIs}
 use Rattle.refinement.proofs.Follows as theory
 use Rattle.refinement.proofs.Hindrances as hindrances
 use Rattle.session_steps.specs.declared.session.Session.{Session}
+use Rattle.session_steps.specs.declared.session.SessionIsolation.{SessionIsolation}
+use Rattle.session_steps.specs.declared.session.SessionIsolation.TheVariants.{BySnapshot, ByStatement}
 use Rattle.visibility.specs.Visible.{state_of}
-use Rattle.session_steps.specs.State.{State, session_at, put_session, seen, position_of, reader_of, failed_session, holds_back, held_back, horizon_of, engine_sessions}
+use Rattle.session_steps.specs.State.{State, session_at, put_session, seen, position_of, reader_of, isolation_seen, kept_by, IsByStatement, failed_session, holds_back, held_back, horizon_of, engine_sessions}
 use Rattle.session_steps.specs.Keeps.{open_at}
 use Rattle.session_steps.specs.Agrees.{Agrees, Sound, Follows, SessionKeeps, KeepsAllTargets}
 use Rattle.table_scans.specs.declared.progress.Scan.{Scan}
 use Rattle.table_scans.specs.declared.progress.Scan.TheVariants.{Index, Heap}
 use Rattle.session_steps.specs.Changes.{Opens, Closes}
+use Rattle.session_steps.specs.Tests.{BarsBegin}
 use Rattle.refinement.proofs.Runs.{same_indexes}
 use Rattle.refinement.specs.Heap.{seen_sessions}
 use Rattle.session_steps.proofs.InUse.{GoesAlong, used-still, no-cursor, cursors-put, agree}
@@ -114,28 +118,31 @@ Follows-closed_abort st s r is = Follows-same st (step.Abort s) (reply.Refused r
 pub Follows-unready_get : (st : State) (s k : ℕ) (r : Refusal) → BarsReady (engine_sessions st) s r → Follows st (step.Get s k) (reply.Refused r) st
 Follows-unready_get st s k r is = Follows-same st (step.Get s k) (reply.Refused r) (theory.Follows-unready_get (seen st) s k r (unready_by st s r is))
 
-pub Follows-already_open : (st : State) (s : ℕ) (e : Session) → session_at st s ≡ Some e → Follows st (step.Begin s) (reply.Refused refusal.AlreadyOpen) st
-Follows-already_open st s e at = Follows-same st (step.Begin s) (reply.Refused refusal.AlreadyOpen) (theory.Follows-already_open (seen st) s (reader_of e) (reader-is st s e at))
-
 pub Follows-begin_no_memory : (st : State) (s : ℕ) → s < 64 → session_at st s ≡ None → Follows st (step.Begin s) (reply.Refused refusal.NoMemory) st
 Follows-begin_no_memory st s within idle =
     Follows-same st (step.Begin s) (reply.Refused refusal.NoMemory) (theory.Follows-begin_refused (seen st) s refusal.NoMemory (λ w agrees. (within, agrees.idle s (ap (option_map reader_of) idle))))
 
-pub Follows-no_such_session : (st : State) (s : ℕ) → 64 ≤ s → Follows st (step.Begin s) (reply.Refused refusal.NoSuchSession) st
-Follows-no_such_session st s past = Follows-same st (step.Begin s) (reply.Refused refusal.NoSuchSession) (theory.Follows-begin_refused (seen st) s refusal.NoSuchSession (λ w agrees. past))
+pub Follows-barred_begin : (st : State) (s : ℕ) (r : Refusal) → BarsBegin st s r → Follows st (step.Begin s) (reply.Refused r) st
+Follows-barred_begin st s refusal.NoSuchSession is = Follows-same st (step.Begin s) (reply.Refused refusal.NoSuchSession) (theory.Follows-begin_refused (seen st) s refusal.NoSuchSession (λ w agrees. is))
+Follows-barred_begin st s refusal.AlreadyOpen is = Follows-same st (step.Begin s) (reply.Refused refusal.AlreadyOpen) (theory.Follows-already_open (seen st) s (reader_of is.0) (reader-is st s is.0 is.1))
+Follows-barred_begin st s _ is = absurd is
 
-pub Follows-closed_begin : (st : State) (s : ℕ) (r : Refusal) → (r ≡ refusal.NotOpen → ⊥) → BarsOpen (engine_sessions st) s r → Follows st (step.Begin s) (reply.Refused r) st
-Follows-closed_begin st s refusal.NoSuchSession ne is = Follows-no_such_session st s is
-Follows-closed_begin st s refusal.NotOpen ne is = absurd (ne refl)
-Follows-closed_begin st s _ ne is = absurd is
+pub Follows-barred_begin_by_statement : (st : State) (s : ℕ) (r : Refusal) → BarsBegin st s r → Follows st (step.BeginReadCommitted s) (reply.Refused r) st
+Follows-barred_begin_by_statement st s refusal.NoSuchSession is =
+    Follows-same st (step.BeginReadCommitted s) (reply.Refused refusal.NoSuchSession) (theory.Follows-begin_by_statement_refused (seen st) s refusal.NoSuchSession (λ w agrees. is))
+Follows-barred_begin_by_statement st s refusal.AlreadyOpen is =
+    Follows-same st (step.BeginReadCommitted s) (reply.Refused refusal.AlreadyOpen) (theory.Follows-already_open_by_statement (seen st) s (reader_of is.0) (reader-is st s is.0 is.1))
+Follows-barred_begin_by_statement st s _ is = absurd is
 
 -- Begin.
 
-opened_reader : (e : Session) (snapshot : Snap) → e.snapshot ≡ snapshot → e.own.ids ≡ [] → e.own.saved ≡ [] → e.failed ≡ false → e.cursor ≡ None → reader_of e ≡ new_session snapshot
-opened_reader e snapshot a b c d f = rw (a, b, c, d, f) refl
+opened_reader : (e : Session) (i : SessionIsolation) → e.isolation ≡ i → e.own.ids ≡ [] → e.own.saved ≡ [] → e.failed ≡ false → e.cursor ≡ None → reader_of e ≡ new_session (isolation_seen i)
+opened_reader e i a b c d f = rw (a, b, c, d, f) refl
 
-pub Sound-opens : (st : State) (w : World) (s : ℕ) (e : Session) → s < 64 → e.snapshot ≡ now_taken st → e.own.ids ≡ [] → e.own.saved ≡ [] → e.cursor ≡ None → Agrees st w → Sound (put_session st s (Some e))
-Sound-opens st w s e within snapshot ids saved bare agrees = record {
+-- a session opens, which keeps no snapshot but that of this moment, and by statement none
+pub Sound-opens : (st : State) (w : World) (s : ℕ) (e : Session) → s < 64 → ((snap : Snap) → kept_by e.isolation ≡ Some snap → snap ≡ now_taken st) → (IsByStatement e.isolation → IsSome (kept_by e.isolation) → ⊥)
+    → e.own.ids ≡ [] → e.own.saved ≡ [] → e.cursor ≡ None → Agrees st w → Sound (put_session st s (Some e))
+Sound-opens st w s e within snapshot none_kept ids saved bare agrees = record {
   count = length-set st.sessions s (Some e) ∙ agrees.sound.count;
   max_pages = agrees.sound.max_pages;
   stop_age = agrees.sound.stop_age;
@@ -153,7 +160,8 @@ Sound-opens st w s e within snapshot ids saved bare agrees = record {
   where
     mine : SessionKeeps st.heap.statuses e
     mine = record {
-      snapshot = rw snapshot (taken-within st w agrees);
+      snapshot = λ snap kept. rw (snapshot snap kept) (taken-within st w agrees);
+      for_cursor = λ by kept. absurd (none_kept by kept);
       topmost = λ x among. absurd (Contains-none x (subst (λ xs. Contains xs x) ids among));
       prefixes = rw saved tt;
       distinct = subst AreDistinct (sym ids) tt;
@@ -162,14 +170,14 @@ Sound-opens st w s e within snapshot ids saved bare agrees = record {
     within' : s < length st.sessions
     within' = (let count = agrees.sound.count in omega arith)
 
-    -- what holds of what others hold back, and of the xmin of the new snapshot, holds of all that is held back then
+    -- what holds of what others hold back, and of the xmin of a snapshot of this moment, holds of all that is held back then
     held-then : {P : ℕ → Type 0} → ((o : ℕ) (f : Session) (y : ℕ) → session_at st o ≡ Some f → Contains (holds_back f) y → P y) × P (now_taken st).xmin
         → (o : ℕ) (f : Session) (y : ℕ) → open_at (set st.sessions s (Some e)) o ≡ Some f → Contains (holds_back f) y → P y
     held-then {P} h o f y bt among = elim (open-set_cases st.sessions s o (Some e) f within' bt) [
       | inr other ↦ h.0 o f y other.1 among
       | inl same ↦ (let is : f ≡ e = sym (same_Some e f same.1) in
           elim (back-cases e y (subst (λ (g : Session). Contains (holds_back g) y) is among)) [
-            | inl here ↦ subst P (ap (λ (s : Snap). s.xmin) (sym snapshot) ∙ here) h.1
+            | inl kept ↦ subst P (ap (λ (s : Snap). s.xmin) (sym (snapshot kept.snap kept.kept)) ∙ kept.is_xmin) h.1
             | inr own ↦ absurd (Contains-none y (subst (λ xs. Contains xs y) ids own))
           ])
     ]
@@ -185,18 +193,42 @@ Sound-opens st w s e within snapshot ids saved bare agrees = record {
           taken-late st w agrees,
         ))
 
-pub Follows-begin : (st st' : State) (s : ℕ) (snapshot : Snap) → s < 64 → session_at st s ≡ None → snapshot ≡ now_taken st → Opens st st' s snapshot → Follows st (step.Begin s) reply.Done st'
-Follows-begin st st' s snapshot within idle is opens w agrees =
-    let e = opens.session in
+-- of the sessions that readers see, one opens
+only-opens : (st st' : State) (w : World) (s : ℕ) (i : SessionIsolation) → s < 64 → (opens : Opens st st' s i) → Agrees st w
+    → OnlyIs (seen st).session (seen (put_session st s (Some opens.session))).session s (Some (new_session (isolation_seen i)))
+only-opens st st' w s i within opens agrees =
     let count = agrees.sound.count in
-    let now : OnlyIs (seen st).session (seen (put_session st s (Some e))).session s (Some (new_session (now_taken st))) =
-    record {
-      others = (only-set st s (Some e) (omega arith)).others;
-      itself = (only-set st s (Some e) (omega arith)).itself ∙ ap Some (opened_reader e (now_taken st) (opens.with_snapshot ∙ is) opens.no_ids opens.unsaved opens.sound opens.bare);
-    } in
-    let f = theory.Follows-begin (seen st) s (now_taken st) (seen (put_session st s (Some e))).session now within (ap (option_map reader_of) idle) (λ w' found. taken-fresh st w agrees) w agrees.found in
+    let only = only-set st s (Some opens.session) (omega arith) in
+    record { others = only.others; itself = only.itself ∙ ap Some (opened_reader opens.session i opens.reads opens.no_ids opens.unsaved opens.sound opens.bare) }
+
+-- by snapshot none is kept but that which was taken, and by statement none at all
+
+kept-new : (st : State) (i : SessionIsolation) (snap : Snap) → (i ≡ BySnapshot (now_taken st)) ⊎ (i ≡ ByStatement None) → kept_by i ≡ Some snap → snap ≡ now_taken st
+kept-new st i snap (inl is) kept = same_Some snap (now_taken st) (sym kept ∙ ap kept_by is)
+kept-new st i snap (inr is) kept = absurd (none-some snap (ap kept_by (sym is) ∙ kept))
+
+none-new : (st : State) (i : SessionIsolation) → (i ≡ BySnapshot (now_taken st)) ⊎ (i ≡ ByStatement None) → IsByStatement i → IsSome (kept_by i) → ⊥
+none-new st i (inl is) by some = absurd (subst (λ i. IsByStatement i) is by)
+none-new st i (inr is) by some = absurd (let e : IsSome {T = Snap} None = subst (λ i. IsSome (kept_by i)) is some in cc)
+
+opens-sound : (st st' : State) (w : World) (s : ℕ) (i : SessionIsolation) → s < 64 → (i ≡ BySnapshot (now_taken st)) ⊎ (i ≡ ByStatement None) → (opens : Opens st st' s i) → Agrees st w → Sound (put_session st s (Some opens.session))
+opens-sound st st' w s i within new opens agrees =
+    let as_new = subst (λ j. (j ≡ BySnapshot (now_taken st)) ⊎ (j ≡ ByStatement None)) (sym opens.reads) new in
+    Sound-opens st w s opens.session within (λ snap kept. kept-new st opens.session.isolation snap as_new kept) (none-new st opens.session.isolation as_new) opens.no_ids opens.unsaved opens.bare agrees
+
+pub Follows-begin : (st st' : State) (s : ℕ) → s < 64 → session_at st s ≡ None → Opens st st' s (BySnapshot (now_taken st)) → Follows st (step.Begin s) reply.Done st'
+Follows-begin st st' s within idle opens w agrees =
+    let f = theory.Follows-begin (seen st) s (now_taken st) (seen (put_session st s (Some opens.session))).session (only-opens st st' w s (BySnapshot (now_taken st)) within opens agrees) within
+    (ap (option_map reader_of) idle) (λ w' found. taken-fresh st w agrees) w agrees.found in
     subst (λ st'. Allows w (step.Begin s) reply.Done × Agrees st' (next w (step.Begin s) reply.Done) × KeepsAllTargets st st') (sym opens.is)
-    (f.0, agree agrees refl refl f.1 (Sound-opens st w s e within (opens.with_snapshot ∙ is) opens.no_ids opens.unsaved opens.bare agrees), led-same st w agrees)
+    (f.0, agree agrees refl refl f.1 (opens-sound st st' w s (BySnapshot (now_taken st)) within (inl refl) opens agrees), led-same st w agrees)
+
+pub Follows-begin_by_statement : (st st' : State) (s : ℕ) → s < 64 → session_at st s ≡ None → Opens st st' s (ByStatement None) → Follows st (step.BeginReadCommitted s) reply.Done st'
+Follows-begin_by_statement st st' s within idle opens w agrees =
+    let f = theory.Follows-begin_by_statement (seen st) s (seen (put_session st s (Some opens.session))).session (only-opens st st' w s (ByStatement None) within opens agrees) within
+    (ap (option_map reader_of) idle) w agrees.found in
+    subst (λ st'. Allows w (step.BeginReadCommitted s) reply.Done × Agrees st' (next w (step.BeginReadCommitted s) reply.Done) × KeepsAllTargets st st') (sym opens.is)
+    (f.0, agree agrees refl refl f.1 (opens-sound st st' w s (ByStatement None) within (inr refl) opens agrees), led-same st w agrees)
 
 -- Commit and Abort.
 
@@ -216,7 +248,7 @@ module _ (st st' : State) (s : ℕ) (e : Session) (end : Status) (at : session_a
       (λ x mine. active-to st.heap.statuses x ((found.opened s (reader_of e) (reader-is st s e at)).2.own_active x mine)) (closes.finishes e at)
 
   same-sights : SameSights (seen st) (seen st').sees
-  same-sights o r bt = SameSight-finish r.snapshot st.heap.statuses st'.heap.statuses e.own.ids end (closes.finishes e at)
+  same-sights snap kept = SameSight-finish snap st.heap.statuses st'.heap.statuses e.own.ids end (closes.finishes e at)
 
   -- the pages stay
   closed-with : (w' : World) → relation.HeapAgrees (with_pages st' st.heap.pages) w' → relation.HeapAgrees (seen st') w'
@@ -239,7 +271,7 @@ Follows-commit_failed st st' s e at failed closes w agrees =
 pub Follows-commit : (st st' : State) (s : ℕ) (e : Session) → session_at st s ≡ Some e → e.failed ≡ false → Closes st st' s Committed → Follows st (step.Commit s) reply.Committed st'
 Follows-commit st st' s e at sound closes w agrees =
     let f = theory.Follows-commit (seen st) s (reader_of e) (seen st').status (seen st').sees (seen st').session (only-closes st st' s e Committed at closes) (reader-is st s e at) sound
-    (own-finishes st st' s e Committed at closes) (same-sights st st' s e Committed at closes) (λ x. decided e.snapshot st.heap.statuses x) w agrees.found in
+    (own-finishes st st' s e Committed at closes) (same-sights st st' s e Committed at closes) (λ snap x. decided snap st.heap.statuses x) w agrees.found in
     let sound' = commits-sound st st' s e w at closes agrees in
     (f.0, agree agrees closes.settings refl (closed-with st st' s e Committed at closes (next w (step.Commit s) reply.Committed) f.1) sound'.0, sound'.1)
 
@@ -282,4 +314,4 @@ pub Sound-fails : (st : State) (s : ℕ) (e : Session) → session_at st s ≡ S
 Sound-fails st s e at sound =
     let h = sound.sessions s e at in
     subst (λ o. Sound (put_session st s (option_map failed_session o))) (sym at)
-    (Sound-put st s e (failed_session e) at refl (record { snapshot = h.snapshot; topmost = h.topmost; prefixes = h.prefixes; distinct = h.distinct }) (λ span is. sound.cursors s e span at is) sound)
+    (Sound-put st s e (failed_session e) at refl (record { snapshot = h.snapshot; for_cursor = h.for_cursor; topmost = h.topmost; prefixes = h.prefixes; distinct = h.distinct }) (λ span is. sound.cursors s e span at is) sound)

@@ -6,8 +6,8 @@ use Rattle.std.specs.Option.{option_map}
 use Rattle.std.proofs.lemmas.Bool.{cases_eq}
 use Rattle.std.proofs.lemmas.Option.{same_Some, none-some}
 use Rattle.std.proofs.lemmas.List.{append-nil}
-use Rattle.std.proofs.lemmas.List.Elements.{Contains-append_cases}
-use Rattle.xid_circle.proofs.Members.{Contains-first, Contains-rest, Contains-cases, Contains-none}
+use Rattle.std.proofs.lemmas.List.Elements.{Contains-append_left, Contains-append_cases}
+use Rattle.xid_circle.proofs.Members.{Contains-none}
 use Rattle.page_slots.specs.declared.slot.Slot.{Slot}
 use Rattle.commit_status.specs.Window.{Window, IsWindow, IsActive, IsCommitted, IsGiven, IsGivenBefore, IsUpToNext, next_id, top_of, turns, place}
 use Rattle.commit_status.proofs.Places.{upto-given, place-lt, some-from_is, is-from_some}
@@ -32,21 +32,24 @@ use Rattle.refinement.specs.Heap as relation
 use Rattle.refinement.specs.Agrees as theory
 use Rattle.refinement.specs.Changes.{GivesEach, with_id, with_ids}
 use Rattle.refinement.proofs.Itself.{IsCurrent}
-use Rattle.refinement.proofs.Steps.{OnlyIs, SameSights}
+use Rattle.refinement.proofs.Isolations.{SameSights}
+use Rattle.refinement.proofs.Steps.{OnlyIs}
 use Rattle.refinement.proofs.GivenBelow.{AreUnseen, Agrees-give_each}
 use Rattle.refinement.proofs.Follows.{Agrees-sessions}
 use Rattle.refinement.proofs.Sights.{Agrees-sights}
 use Rattle.session_steps.specs.declared.session.Session.{Session}
 use Rattle.visibility.specs.Visible.{state_of}
-use Rattle.session_steps.specs.State.{State, session_at, seen, seen_in, reader_of, holds_back, horizon_of}
+use Rattle.session_steps.specs.State.{State, session_at, seen, seen_in, reader_of, kept_by, kept_xmin, holds_back, horizon_of}
 use Rattle.session_steps.specs.Keeps.{open_at, OwnIdsKeep, EngineKeeps}
 use Rattle.session_steps.specs.Agrees.{Agrees, Sound, SessionKeeps}
 use Rattle.session_steps.specs.Writes.{SameSession}
 use Rattle.session_steps.proofs.OwnIdsLemmas.{open-within, open-set_same, open-set_other, open-set_cases, distinct-both, keep-same, keep-given}
 use Rattle.session_steps.proofs.StateLemmas.{only-set}
 use Rattle.session_steps.proofs.Windows.{GivesEach-from, SameSight-given, in-window-given, unseen-given}
-use Rattle.session_steps.proofs.Owns.{reader-is, reader-at}
-use Rattle.session_steps.proofs.Horizons.{IsHeldIn, contains-first, held-in, horizon-above, horizon-next, horizon-low, horizon-upto, upto-horizon}
+use Rattle.session_steps.proofs.Owns.{reader-is}
+use Rattle.session_steps.proofs.Statements.{for-same, kept-at}
+use Rattle.session_steps.proofs.Returning.{same-holds}
+use Rattle.session_steps.proofs.Horizons.{IsHeldIn, contains-first, own-back, held-in, horizon-above, horizon-next, horizon-low, horizon-upto, upto-horizon}
 
 -- the state after a write: another heap, and another session in its place
 abbrev pub with_write : State → HeapView → ℕ → Session → State
@@ -55,7 +58,7 @@ with_write st h s e = record { settings = st.settings; heap = h; sessions = set 
 -- A session that has as much memory or more, and is otherwise the same.
 
 reader-same : (e e' : Session) → SameSession e e' → reader_of e' ≡ reader_of e
-reader-same e e' same = rw (same.snapshot, same.own.ids, same.own.saved, same.failed, same.cursor) refl
+reader-same e e' same = rw (same.isolation, same.own.ids, same.own.saved, same.failed, same.cursor) refl
 
 pub sessions-same : (xs : List (Option Session)) (s : ℕ) (e e' : Session) → open_at xs s ≡ Some e → SameSession e e' → (o : ℕ) → option_map reader_of (open_at (set xs s (Some e')) o) ≡ option_map reader_of (open_at xs o)
 sessions-same xs s e e' at same o = elim (cases_eq o s) [
@@ -97,20 +100,21 @@ in-window-spared w k s h =
 
 keeps-spared : (w : Window) (k : ℕ) (e e' : Session) → SameSession e e' → SessionKeeps w e → SessionKeeps (spared w k) e'
 keeps-spared w k e e' same h = record {
-  snapshot = rw same.snapshot (in-window-spared w k e.snapshot h.snapshot);
+  snapshot = λ snap is. in-window-spared w k snap (h.snapshot snap (ap kept_by (sym same.isolation) ∙ is));
+  for_cursor = for-same e e' same.isolation same.cursor h.for_cursor;
   topmost = λ x mine. ap (λ ids. slice_get ids 0) same.own.ids ∙ h.topmost x (subst (λ ids. Contains ids x) same.own.ids mine) ∙ ap Some (sym (top-spared w k x));
   prefixes = rw (same.own.ids, same.own.saved) h.prefixes;
   distinct = subst AreDistinct (sym same.own.ids) h.distinct;
 }
 
 itself : (e : Session) → SameSession e e
-itself e = record { snapshot = refl; own = record { ids = refl; saved = refl }; failed = refl; cursor = refl }
+itself e = record { isolation = refl; own = record { ids = refl; saved = refl }; failed = refl; cursor = refl }
 
 -- what readers see of the ids
 found-spared : (slots : List (List Slot)) (w v : Window) (xs : List (Option Session)) (m : World) → SameIds w v → theory.HeapAgrees (seen_in slots w xs) m → theory.HeapAgrees (seen_in slots v xs) m
 found-spared slots w v xs m same found = subst (λ t. theory.HeapAgrees (seen_in slots t xs) m) (sym (spared-is w v same))
     (Agrees-sights (seen_in slots w xs) m (λ s x. Sees s (spared w v.spare) x)
-    (λ s e at x status is. (λ sees. sees-top e.snapshot (spared w v.spare) w x (top-spared w v.spare x) sees, λ sees. sees-top e.snapshot w (spared w v.spare) x (sym (top-spared w v.spare x)) sees)) found)
+    (λ snap kept x status is. (λ sees. sees-top snap (spared w v.spare) w x (top-spared w v.spare x) sees, λ sees. sees-top snap w (spared w v.spare) x (sym (top-spared w v.spare x)) sees)) found)
 
 -- all that readers see is as it was
 pub found-kept : (slots : List (List Slot)) (w v : Window) (xs : List (Option Session)) (s : ℕ) (e e' : Session) (m : World) → open_at xs s ≡ Some e → SameSession e e' → SameIds w v
@@ -127,7 +131,8 @@ with_own e own = record e { own = own }
 -- the others keep theirs
 keeps-give : (xs : List ℕ) (w v : Window) (parent : Option ℕ) (e : Session) → IsWindow v → GivesUnder w parent xs v → ((x : ℕ) → Contains e.own.ids x → IsGiven w x) → SessionKeeps w e → SessionKeeps v e
 keeps-give xs w v parent e is gives there h = record {
-  snapshot = in-window-given xs w v parent e.snapshot gives h.snapshot;
+  snapshot = λ snap is. in-window-given xs w v parent snap gives (h.snapshot snap is);
+  for_cursor = h.for_cursor;
   topmost = λ x mine. h.topmost x mine ∙ ap Some (sym (given-top_old xs w v parent x gives is (there x mine)));
   prefixes = h.prefixes;
   distinct = h.distinct;
@@ -168,7 +173,8 @@ module _ (w v : Window) (e : Session) (own : Own) (x : ℕ) (is : IsWindow v) (t
   -- the session that took them
   keeps-taken : SessionKeeps v (with_own e own)
   keeps-taken = record {
-    snapshot = in-window-given takes.given w v (current_xid e.own.ids e.own.saved) e.snapshot takes.gives h.snapshot;
+    snapshot = λ snap is. in-window-given takes.given w v (current_xid e.own.ids e.own.saved) snap takes.gives (h.snapshot snap is);
+    for_cursor = h.for_cursor;
     topmost = topmost-taken;
     prefixes = prefixes-taken;
     distinct = distinct-taken;
@@ -215,7 +221,7 @@ held-then xs s e e' at all mine o f y bt among = elim (open-set_cases xs s o (So
 
 module _ (st : State) (w : World) (h : HeapView) (s : ℕ) (e e' : Session) (at : session_at st s ≡ Some e) (agrees : Agrees st w) where
   -- whatever the session holds back now is in the window, and not before the horizon
-  later-sound : IsWindow h.statuses → h.statuses.first ≡ st.heap.statuses.first → turns st.heap.statuses.first (next_id st.heap.statuses) ≤ turns st.heap.statuses.first (next_id h.statuses)
+  pub later-sound : IsWindow h.statuses → h.statuses.first ≡ st.heap.statuses.first → turns st.heap.statuses.first (next_id st.heap.statuses) ≤ turns st.heap.statuses.first (next_id h.statuses)
       → ((y : ℕ) → IsUpToNext st.heap.statuses y → IsUpToNext h.statuses y)
       → ((y : ℕ) → Contains (holds_back e') y → IsUpToNext h.statuses y × (turns st.heap.statuses.first (horizon_of st) ≤ turns st.heap.statuses.first y))
       → SoundTable h (horizon_of st) → SoundTable h (horizon_of (with_write st h s e'))
@@ -251,8 +257,7 @@ module _ (st : State) (w : World) (h : HeapView) (s : ℕ) (e e' : Session) (at 
         tops = rw is (λ x done. well-spared statuses k x (agrees.sound.tops x done));
         table = later-sound (rw is (window-spared statuses k agrees.sound.window)) ids.first (subst (λ n. turns statuses.first (next_id statuses) ≤ turns statuses.first n) (sym (ap next_id is)) (omega arith))
             (λ y upto. rw is (upto-spared statuses k y upto))
-            (λ y among. let mine = subst (λ (ids : List ℕ). Contains (e'.snapshot.xmin ∷ take 1 ids) y) same.own.ids among in
-            let back : Contains (holds_back e) y = subst (λ (sn : Snap). Contains (sn.xmin ∷ take 1 e.own.ids) y) same.snapshot mine in
+            (λ y among. let back : Contains (holds_back e) y = subst (λ xs. Contains xs y) (same-holds e e' same.isolation same.own.ids) among in
             (rw is (upto-spared statuses k y (held-in st w agrees s e y at back)), horizon-low statuses st.sessions s e y agrees.sound.window (held-in st w agrees) at back)) sound;
       }
 
@@ -296,11 +301,12 @@ module _ (st : State) (w : World) (h : HeapView) (s : ℕ) (e e' : Session) (at 
       mine-then own x takes is window y among =
           let statuses = st.heap.statuses in
           let parent = current_xid e.own.ids e.own.saved in
-          let back : Contains (e.snapshot.xmin ∷ take 1 own.ids) y = subst (λ (f : Session). Contains (holds_back f) y) is among in
-          elim (Contains-cases e.snapshot.xmin y (take 1 own.ids) back) [
-            | inl here ↦ old-then own x y takes (subst (λ z. Contains (holds_back e) z) here (Contains-first e.snapshot.xmin (take 1 e.own.ids)))
+          let xmin = kept_xmin (kept_by e.isolation) in
+          let back : Contains (xmin ++ take 1 own.ids) y = subst (λ (f : Session). Contains (holds_back f) y) is among in
+          elim (Contains-append_cases xmin (take 1 own.ids) y back) [
+            | inl here ↦ old-then own x y takes (Contains-append_left xmin (take 1 e.own.ids) y here)
             | inr first ↦ elim (first-cases e.own.ids takes.given y (subst (λ ids. Contains (take 1 ids) y) takes.ids first)) [
-              | inl old ↦ old-then own x y takes (Contains-rest e.snapshot.xmin y (take 1 e.own.ids) old)
+              | inl old ↦ old-then own x y takes (own-back e y old)
               | inr new ↦ (
                 upto-given h.statuses y (given-active takes.given statuses h.statuses parent y takes.gives window new).is_given,
                 (let late = given-late takes.given statuses h.statuses parent y takes.gives window new in let next = horizon-next statuses st.sessions agrees.sound.window (held-in st w agrees) in omega arith),
@@ -326,12 +332,11 @@ module _ (st : State) (w : World) (v : Window) (s : ℕ) (e : Session) (own : Ow
   gives-each = GivesEach-from takes.given st.heap.statuses v (current_xid e.own.ids e.own.saved) takes.gives window
 
   pub same-sights : SameSights (seen st) (λ sn y. Sees sn v y)
-  same-sights o r bt = SameSight-given r.snapshot takes.given st.heap.statuses v (current_xid e.own.ids e.own.saved) takes.gives window
+  same-sights snap kept = SameSight-given snap takes.given st.heap.statuses v (current_xid e.own.ids e.own.saved) takes.gives window
 
   pub are-unseen : AreUnseen (seen st) (λ sn y. Sees sn v y) takes.given
-  are-unseen y among o r bt = let f = reader-at st o r bt in
-      subst (λ (r : relation.SeenSession). ¬ Sees r.snapshot v y) f.2
-      (unseen-given takes.given st.heap.statuses v v (current_xid e.own.ids e.own.saved) f.0.snapshot y takes.gives window (agrees.sound.sessions o f.0 f.1).snapshot.bounds among)
+  are-unseen y among snap kept = let k = kept-at st snap kept in
+      unseen-given takes.given st.heap.statuses v v (current_xid e.own.ids e.own.saved) snap y takes.gives window ((agrees.sound.sessions k.0 k.1 k.2).snapshot snap k.3).bounds among
 
   -- the pages may have been pruned before
   pub found-given : (slots : List (List Slot)) → theory.HeapAgrees (seen_in slots st.heap.statuses st.sessions) w → theory.HeapAgrees (seen_in slots v (set st.sessions s (Some (with_own e own)))) w

@@ -8,6 +8,7 @@ use Rattle.tuple_header.specs.Version.{Version}
 use Rattle.page_slots.specs.Slots.{version_at}
 use Rattle.page_slots.specs.View.{PageView}
 use Rattle.page_slots.proofs.SlotLemmas.{version_at-none}
+use Rattle.commit_status.specs.Window.{IsWindow}
 use Rattle.index_lookup.specs.Pages.{slots_on}
 use Rattle.heap_write.specs.Heap.{slots_of}
 use Rattle.refinement.specs.Cursors.{IsFrom, Stands, Gathers}
@@ -18,6 +19,7 @@ use Rattle.table_scans.specs.Takes.{IsAtEnd, TakesPage, TakesPart}
 use Rattle.session_steps.specs.declared.session.Session.{Session}
 use Rattle.session_steps.specs.State.{State, seen}
 use Rattle.session_steps.specs.Takes.{session_sight}
+use Rattle.session_steps.proofs.Statements.{cursor-sees}
 use Rattle.session_steps.proofs.AtCursor.{seen_by, NoneToCome, SomeToCome, first-row}
 
 abbrev StandsOn : State → Session → Tid → Row → Type 0
@@ -47,40 +49,40 @@ page-onward p q (inr (same, le)) = inl (let is : p.page + 1 ≡ q.page = same in
 later-page : (p q : Tid) → p.page < q.page → IsFrom (start_of (p.page + 1)) q
 later-page p q lt = elim (cases_lt (p.page + 1) q.page) [ inl further ↦ inl further | inr near ↦ inr (omega arith, omega arith) ]
 
-module _ (st : State) (e : Session) where
+module _ (st : State) (e : Session) (window : IsWindow st.heap.statuses) where
   row-stands : (p : Tid) (row : Row) → SeesRow (session_sight st e) p row → StandsOn st e p row
-  row-stands p row is = record { version = is.version; here = is.there; shown = is.shown; same_row = sym is.is_row }
+  row-stands p row is = record { version = is.version; here = is.there; shown = (cursor-sees st window e.isolation e.own.ids is.version).0 is.shown; same_row = sym is.is_row }
 
   none-stands : (p : Tid) → SeesNone (session_sight st e) p → (row : Row) → ¬ StandsOn st e p row
-  none-stands p none row stands = none stands.version stands.here stands.shown
+  none-stands p none row stands = none stands.version stands.here ((cursor-sees st window e.isolation e.own.ids stands.version).1 stands.shown)
 
   -- a walk goes on to the next page where the session sees nothing up to the end of this one
   walk-turns : (from p : Tid) (rows : List Row) → NoneToPageEnd (session_sight st e) p → WalksHeap st e from p rows → WalksHeap st e from (start_of (p.page + 1)) rows
   walk-turns from p rows none walks = Gathers-pass (page-onward p) (λ q row past stands. elim past [
     | inl later ↦ later-page p q later
-    | inr here ↦ absurd (none q.slot here.1 stands.version (ap (λ (m : ℕ). version_at (slots_on (slots_of st.heap) m) q.slot) here.0 ∙ stands.here) stands.shown)
+    | inr here ↦ absurd (none q.slot here.1 stands.version (ap (λ (m : ℕ). version_at (slots_on (slots_of st.heap) m) q.slot) here.0 ∙ stands.here) ((cursor-sees st window e.isolation e.own.ids stands.version).1 stands.shown))
   ]) walks
 
-pub scans-gather : (st : State) (e : Session) {from to : Tid} {rows : List Row} → ScansHeap (session_sight st e) from to rows → WalksHeap st e from to rows
-scans-gather st e {from} heap_begins = Gathers-none from
-scans-gather st e {from} (heap_passes p rows scans none) = Gathers-pass_slot (none-stands st e p none) (scans-gather st e scans)
-scans-gather st e {from} (heap_finds p rows row scans shows) = Gathers-one row (row-stands st e p row shows) (scans-gather st e scans)
-scans-gather st e {from} (heap_turns p rows scans none) = walk-turns st e from p rows none (scans-gather st e scans)
+pub scans-gather : (st : State) (e : Session) → IsWindow st.heap.statuses → {from to : Tid} {rows : List Row} → ScansHeap (session_sight st e) from to rows → WalksHeap st e from to rows
+scans-gather st e window {from} heap_begins = Gathers-none from
+scans-gather st e window {from} (heap_passes p rows scans none) = Gathers-pass_slot (none-stands st e window p none) (scans-gather st e window scans)
+scans-gather st e window {from} (heap_finds p rows row scans shows) = Gathers-one row (row-stands st e window p row shows) (scans-gather st e window scans)
+scans-gather st e window {from} (heap_turns p rows scans none) = walk-turns st e window from p rows none (scans-gather st e window scans)
 
 -- What is taken is met on a walk.
 
-module _ (st : State) (e : Session) (from : Tid) where
+module _ (st : State) (e : Session) (window : IsWindow st.heap.statuses) (from : Tid) where
   pub page-walk : (page : ℕ) (rows : List Row) → TakesPage (session_sight st e) from page rows → WalksHeap st e from (start_of (page + 1)) rows
-  page-walk page rows takes = Gathers-after (scans-gather st e takes.comes.scans) (scans-gather st e takes.scans)
+  page-walk page rows takes = Gathers-after (scans-gather st e window takes.comes.scans) (scans-gather st e window takes.scans)
 
   pub part-walk : (most : ℕ) (rows : List Row) (to : Tid) → TakesPart (session_sight st e) from most rows to → WalksHeap st e from to rows
-  part-walk most rows to takes = Gathers-after (scans-gather st e takes.comes.scans) (scans-gather st e takes.scans)
+  part-walk most rows to takes = Gathers-after (scans-gather st e window takes.comes.scans) (scans-gather st e window takes.scans)
 
   -- no page in use is left
   pub none-on : IsAtEnd (session_sight st e) (Heap from) → NoneToCome st e (Heap from)
   none-on (to, scans, all) row comes =
       let within = page-within st.heap.pages.pages comes.place.page comes.place.slot comes.version comes.here in
-      elim ((scans-gather st e scans).met comes.place row comes.to_come (record { version = comes.version; here = comes.here; shown = comes.shown; same_row = comes.same_row })) [
+      elim ((scans-gather st e window scans).met comes.place row comes.to_come (record { version = comes.version; here = comes.here; shown = comes.shown; same_row = comes.same_row })) [
         | inl behind ↦ absurd (let le = page-from to comes.place behind in omega arith)
         | inr some ↦ none-some row some.1
       ]
@@ -89,6 +91,6 @@ module _ (st : State) (e : Session) (from : Tid) where
   pub some-on : (to : Tid) (rows : List Row) → ScansHeap (session_sight st e) from to rows → 0 < length rows → SomeToCome st e (Heap from)
   some-on to rows scans some =
       let first = first-row rows some in
-      let met = (scans-gather st e scans).theirs 0 first.0 first.1 in
+      let met = (scans-gather st e window scans).theirs 0 first.0 first.1 in
       let stands = met.3 in
       (first.0, record { place = met.0; version = stands.version; here = stands.here; shown = stands.shown; same_row = stands.same_row; to_come = met.1 })

@@ -20,7 +20,7 @@ use Rattle.session_steps.specs.declared.session.Session.{Session}
 use Rattle.session_steps.specs.State.{State, session_at, put_session, refused_state, seen, reader_of, failed_session, engine_sessions}
 use Rattle.session_steps.specs.Agrees.{Agrees, Follows}
 use Rattle.session_steps.specs.Tests.{ReadsPlace, IsLateKey, IsHeld, RefusesInsertOfKey, RefusesChangeOfKey, MayWriteKey}
-use Rattle.session_steps.specs.Tests.{MayAct}
+use Rattle.session_steps.specs.Tests.{MayAct, BarsBegin}
 use Rattle.session_steps.specs.Exact.{ExactInsert, ExactUpdate, ExactDelete, Exact}
 use Rattle.session_steps.specs.Follows.{FollowsInsert, FollowsUpdate}
 use Rattle.refinement.proofs.Runs.{same_indexes}
@@ -138,9 +138,19 @@ exact-unready_delete st s key refusal.NeedsFreeze is = absurd is
 exact-unready_delete st s key refusal.NoMemory is = absurd is
 exact-unready_delete st s key _ is = refl
 
-pub exact-closed : (st : State) (s : ℕ) (r : Refusal) → BarsOpen (engine_sessions st) s r → Exact st (step.Begin s) (reply.Refused r) st
-exact-closed st s refusal.NoMemory is = absurd is
-exact-closed st s _ is = refl
+pub exact-barred_begin : (st : State) (s : ℕ) (r : Refusal) → BarsBegin st s r → Exact st (step.Begin s) (reply.Refused r) st
+exact-barred_begin st s refusal.NoMemory is = absurd is
+exact-barred_begin st s _ is = refl
+
+pub exact-barred_begin_by_statement : (st : State) (s : ℕ) (r : Refusal) → BarsBegin st s r → Exact st (step.BeginReadCommitted s) (reply.Refused r) st
+exact-barred_begin_by_statement st s refusal.NoMemory is = absurd is
+exact-barred_begin_by_statement st s _ is = refl
+
+-- a session that is open, or is not there, may not begin
+pub barred-begin : (st : State) (s : ℕ) (r : Refusal) → (r ≡ refusal.NotOpen → ⊥) → BarsOpen (engine_sessions st) s r → BarsBegin st s r
+barred-begin st s refusal.NoSuchSession ne is = is
+barred-begin st s refusal.NotOpen ne is = absurd (ne refl)
+barred-begin st s _ ne is = absurd is
 
 -- What keeps a session that may act from a write.
 

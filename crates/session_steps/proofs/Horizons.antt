@@ -6,14 +6,14 @@ use Rattle.std.proofs.lemmas.List.Elements.{Contains-append_left, Contains-appen
 use Rattle.commit_status.specs.Window.{Window, IsWindow, IsUpToNext, next_id, turns}
 use Rattle.commit_status.proofs.Places.{upto-next, upto-given}
 use Rattle.std.specs.List.{fold}
-use Rattle.xid_circle.proofs.Members.{Contains-first, Contains-rest, Contains-cases}
+use Rattle.xid_circle.proofs.Members.{Contains-first, Contains-rest, Contains-cases, Contains-none}
 use Rattle.snapshot.specs.Snap.{Snap, earliest, listing, empty_at}
 use Rattle.snapshot.specs.Laws.{IsEarliest}
 use Rattle.snapshot.proofs.Earliest.{earliest-is, earlier-cases}
 use Rattle.history.specs.World.{World}
 use Rattle.visibility.proofs.Makers.{active-to}
 use Rattle.session_steps.specs.declared.session.Session.{Session}
-use Rattle.session_steps.specs.State.{State, session_at, reader_of, owns_of, holds_back, held_back, horizon_of}
+use Rattle.session_steps.specs.State.{State, session_at, reader_of, kept_by, kept_xmin, owns_of, holds_back, held_back, horizon_of}
 use Rattle.session_steps.specs.Keeps.{open_at}
 use Rattle.session_steps.specs.Agrees.{Agrees}
 use Rattle.session_steps.proofs.Owns.{reader-is, owns-cases, now_taken}
@@ -41,9 +41,32 @@ contains-first (x ∷ xs) y among = elim (Contains-cases x y (take 0 xs) among) 
   | inr none ↦ absurd (let below : none.0 < 0 = none.1 in omega arith)
 ]
 
--- what a session holds back: its snapshot's xmin, or an id of its own
-pub back-cases : (e : Session) (y : ℕ) → Contains (holds_back e) y → (e.snapshot.xmin ≡ y) ⊎ Contains e.own.ids y
-back-cases e y among = elim (Contains-cases e.snapshot.xmin y (take 1 e.own.ids) among) [ inl here ↦ inl here | inr own ↦ inr (contains-first e.own.ids y own) ]
+-- it keeps this snapshot, whose xmin is this id
+pub record KeepsXmin (e : Session) (y : ℕ) : Type 0 where
+  pub snap : Snap
+  pub kept : kept_by e.isolation ≡ Some snap
+  pub is_xmin : snap.xmin ≡ y
+
+pub kept-cases : (o : Option Snap) (y : ℕ) → Contains (kept_xmin o) y → (snap : Snap) × (o ≡ Some snap) × (snap.xmin ≡ y)
+kept-cases None y among = absurd (Contains-none y among)
+kept-cases (Some snap) y among = elim (Contains-cases snap.xmin y [] among) [ inl here ↦ (snap, refl, here) | inr none ↦ absurd (Contains-none y none) ]
+
+-- what a session holds back: the xmin of the snapshot that it keeps, or an id of its own
+pub back-cases : (e : Session) (y : ℕ) → Contains (holds_back e) y → KeepsXmin e y ⊎ Contains e.own.ids y
+back-cases e y among = elim (Contains-append_cases (kept_xmin (kept_by e.isolation)) (take 1 e.own.ids) y among) [
+  | inl here ↦ (let k = kept-cases (kept_by e.isolation) y here in inl (record { snap = k.0; kept = k.1; is_xmin = k.2 }))
+  | inr own ↦ inr (contains-first e.own.ids y own)
+]
+
+-- it holds back both
+pub xmin-held : (e : Session) (snap : Snap) → kept_by e.isolation ≡ Some snap → Contains (kept_xmin (kept_by e.isolation)) snap.xmin
+xmin-held e snap is = subst (λ o. Contains (kept_xmin o) snap.xmin) (sym is) (Contains-first snap.xmin [])
+
+pub xmin-back : (e : Session) (snap : Snap) → kept_by e.isolation ≡ Some snap → Contains (holds_back e) snap.xmin
+xmin-back e snap is = Contains-append_left (kept_xmin (kept_by e.isolation)) (take 1 e.own.ids) snap.xmin (xmin-held e snap is)
+
+pub own-back : (e : Session) (y : ℕ) → Contains (take 1 e.own.ids) y → Contains (holds_back e) y
+own-back e y first = Contains-append_right (kept_xmin (kept_by e.isolation)) (take 1 e.own.ids) y first
 
 -- Of ids in a window.
 
@@ -82,27 +105,27 @@ horizon-above w xs turn is held next each = elim (horizon-least w xs is held).is
 
 pub held-in : (st : State) (w : World) → Agrees st w → IsHeldIn st.heap.statuses st.sessions
 held-in st w agrees s e y at among = elim (back-cases e y among) [
-  | inl here ↦ subst (λ z. IsUpToNext st.heap.statuses z) here (agrees.sound.sessions s e at).snapshot.bounds.xmin
+  | inl kept ↦ subst (λ z. IsUpToNext st.heap.statuses z) kept.is_xmin ((agrees.sound.sessions s e at).snapshot kept.snap kept.kept).bounds.xmin
   | inr own ↦ upto-given st.heap.statuses y (active-to st.heap.statuses y ((agrees.found.opened s (reader_of e) (reader-is st s e at)).2.own_active y own)).is_given
 ]
 
 pub upto-horizon : (st : State) (w : World) → Agrees st w → IsUpToNext st.heap.statuses (horizon_of st)
 upto-horizon st w agrees = horizon-upto st.heap.statuses st.sessions agrees.sound.window (held-in st w agrees)
 
--- it is not after the xmin of any open session
-pub below-xmin : (st : State) (w : World) → Agrees st w → (s : ℕ) (e : Session) → session_at st s ≡ Some e → turns st.heap.statuses.first (horizon_of st) ≤ turns st.heap.statuses.first e.snapshot.xmin
-below-xmin st w agrees s e at =
-    horizon-low st.heap.statuses st.sessions s e e.snapshot.xmin agrees.sound.window (held-in st w agrees) at (Contains-first e.snapshot.xmin (take 1 e.own.ids))
+-- it is not after the xmin of any snapshot that is kept
+pub below-xmin : (st : State) (w : World) → Agrees st w → (s : ℕ) (e : Session) (snap : Snap) → session_at st s ≡ Some e → kept_by e.isolation ≡ Some snap
+    → turns st.heap.statuses.first (horizon_of st) ≤ turns st.heap.statuses.first snap.xmin
+below-xmin st w agrees s e snap at kept = horizon-low st.heap.statuses st.sessions s e snap.xmin agrees.sound.window (held-in st w agrees) at (xmin-back e snap kept)
 
 -- The snapshot that is taken now.
 
 -- the first id of a session is held back
 pub first-back : (e : Session) (top : ℕ) → slice_get e.own.ids 0 ≡ Some top → Contains (holds_back e) top
-first-back e top at = first-of e.own.ids at
+first-back e top at = own-back e top (first-of e.own.ids at)
   where
-    first-of : (ids : List ℕ) → slice_get ids 0 ≡ Some top → Contains (e.snapshot.xmin ∷ take 1 ids) top
+    first-of : (ids : List ℕ) → slice_get ids 0 ≡ Some top → Contains (take 1 ids) top
     first-of [] at = absurd (none-some top at)
-    first-of (x ∷ xs) at = subst (λ y. Contains (e.snapshot.xmin ∷ x ∷ take 0 xs) y) (same_Some x top at) (Contains-rest e.snapshot.xmin x (x ∷ take 0 xs) (Contains-first x (take 0 xs)))
+    first-of (x ∷ xs) at = subst (λ y. Contains (x ∷ take 0 xs) y) (same_Some x top at) (Contains-first x (take 0 xs))
 
 -- what is listed first, or a topmost id
 xmin-cases : (owns : List (List ℕ)) (s : Snap)

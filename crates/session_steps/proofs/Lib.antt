@@ -4,6 +4,7 @@ pub mod StateLemmas
 pub mod Idle
 pub mod Windows
 pub mod Owns
+pub mod Statements
 pub mod Horizons
 pub mod Searches
 pub mod Holding

@@ -5,6 +5,7 @@ use Rattle.std.specs.declared.alloc.Global.{Global}
 use denote.RawPtr.{null_ptr}
 use Rattle.xid_circle.specs.declared.Tid.{Tid}
 use Rattle.tuple_header.specs.declared.version.Row.{Row}
+use Rattle.commit_status.specs.Window.{IsWindow}
 use Rattle.index_lookup.specs.declared.index_scan.IndexRange.{IndexRange}
 use Rattle.table_indexes.specs.Indexes.{IsInUse}
 use Rattle.history.specs.World.{World}
@@ -46,12 +47,12 @@ at-cursor st w s e cursor agrees at opened = record { world = w; agrees = agrees
 -- nothing is to come where a scan is at its end
 none-to-come : (st : State) (e : Session) (cursor : Scan) → IsAtEnd (session_sight st e) cursor → IsAtCursor st e cursor → NoneToCome st e cursor
 none-to-come st e (Index span) none at = none-in st e span none at
-none-to-come st e (Heap from) none at = none-on st e from none
+none-to-come st e (Heap from) none at = none-on st e at.agrees.sound.window from none
 
 -- something is where one meets a row
 some-to-come : (st : State) (e : Session) (cursor : Scan) → MeetsSome (session_sight st e) cursor → IsAtCursor st e cursor → SomeToCome st e cursor
 some-to-come st e (Index span) (left, rows, scans, some) at = some-in st e span left rows scans some at
-some-to-come st e (Heap from) (to, rows, scans, some) at = some-on st e from to rows scans some
+some-to-come st e (Heap from) (to, rows, scans, some) at = some-on st e at.agrees.sound.window from to rows scans some
 
 pub Follows-end : (st : State) (s n : ℕ) (e : Session) (cursor : Scan) → session_at st s ≡ Some e → e.failed ≡ false → e.cursor ≡ Some cursor → IsAtEnd (session_sight st e) cursor
     → Follows st (step.Next s n) reply.End st
@@ -88,11 +89,11 @@ module _ (st st' : State) (s n : ℕ) (e : Session) (after : Scan) (rows : Vec R
       → ((w : World) → Agrees st w → finds.HeapFollows (seen st) (step.Next s n) (reply.Rows rows) (seen now)) → Follows st (step.Next s n) (reply.Rows rows) st'
   put-after along follows w agrees =
       let f = follows w agrees w agrees.found in
-      subst (λ st'. Allows w (step.Next s n) (reply.Rows rows) × Agrees st' (next w (step.Next s n) (reply.Rows rows)) × KeepsAllTargets st st') (sym (moved st st' s e (Some after) at is))
-      (f.0, agree agrees refl refl f.1 (sound-cursor st st' s e (Some after) at is along agrees.sound), led-same st w agrees)
+      subst (λ st'. Allows w (step.Next s n) (reply.Rows rows) × Agrees st' (next w (step.Next s n) (reply.Rows rows)) × KeepsAllTargets st st') (sym (moved st st' s e after at is))
+      (f.0, agree agrees refl refl f.1 (sound-cursor st st' s e after at is along agrees.sound), led-same st w agrees)
 
   only-at : (position : Position) → position_of (Some after) ≡ Some position → OnlyIs (seen st).session (seen now).session s (Some (record (reader_of e) { cursor = Some position }))
-  only-at position same = subst (λ p. OnlyIs (seen st).session (seen now).session s (Some (record (reader_of e) { cursor = p }))) same (only-cursor st st' s e (Some after) at is)
+  only-at position same = subst (λ p. OnlyIs (seen st).session (seen now).session s (Some (record (reader_of e) { cursor = p }))) same (only-cursor st st' s e after at is)
 
 -- where the cursor is after a walk in an index
 walked-to : (span left : IndexRange) → left ≡ record span { last = left.last } → position_of (Some (Index left)) ≡ Some (in_index span.index span.low span.high (seen_position left.last))
@@ -115,12 +116,12 @@ module _ (st st' : State) (s n : ℕ) (e : Session) (rows : Vec Row Global) (at 
       (λ fewer row comes. none-left st e span left rows.items walks (takes.all fewer) here row (left-in st e span left row same comes)) in
       put-after st st' s n e (Index left) rows at is (λ other is'. along-left st span left other same (used-at st e span here) is') (λ w' agrees'. f) w agrees
 
-  Follows-rows_in_heap : (from to : Tid) → e.cursor ≡ Some (Heap from) → WalksHeap st e from to rows.items
+  Follows-rows_in_heap : (from to : Tid) → e.cursor ≡ Some (Heap from) → (IsWindow st.heap.statuses → WalksHeap st e from to rows.items)
       → st' ≡ put_session st s (map_session (with_cursor (Some (Heap to))) (session_at st s)) → Follows st (step.Next s n) (reply.Rows rows) st'
   Follows-rows_in_heap from to opened walks is =
       put-after st st' s n e (Heap to) rows at is (λ other is'. absurd (cc))
       (λ w agrees. cursors.Follows-next_in_heap (seen st) s (reader_of e) from to n rows (seen (now st st' s n e (Heap to) rows at is)).session
-      (only-at st st' s n e (Heap to) rows at is (in_heap to) refl) (reader-is st s e at) sound (ap position_of opened) walks some)
+      (only-at st st' s n e (Heap to) rows at is (in_heap to) refl) (reader-is st s e at) sound (ap position_of opened) (walks agrees.sound.window) some)
 
   moved-as : (after after' : Scan) → after ≡ after' → st' ≡ put_session st s (map_session (with_cursor (Some after)) (session_at st s))
       → st' ≡ put_session st s (map_session (with_cursor (Some after')) (session_at st s))
@@ -129,14 +130,14 @@ module _ (st st' : State) (s n : ℕ) (e : Session) (rows : Vec Row Global) (at 
   Follows-taken : (cursor after : Scan) → e.cursor ≡ Some cursor → Takes (session_sight st e) cursor n rows.items after
       → st' ≡ put_session st s (map_session (with_cursor (Some after)) (session_at st s)) → Follows st (step.Next s n) (reply.Rows rows) st'
   Follows-taken (Index span) after opened (left, same, takes) is = Follows-rows_in_index span left opened takes (moved-as after (Index left) same is)
-  Follows-taken (Heap from) after opened (page, same, takes) is = Follows-rows_in_heap from (start_of (page + 1)) opened (page-walk st e from page rows.items takes) (moved-as after (Heap (start_of (page + 1))) same is)
+  Follows-taken (Heap from) after opened (page, same, takes) is = Follows-rows_in_heap from (start_of (page + 1)) opened (λ window. page-walk st e window from page rows.items takes) (moved-as after (Heap (start_of (page + 1))) same is)
 
   -- so many at most
   Follows-taken_up_to : (cursor after : Scan) → 0 < n → e.cursor ≡ Some cursor → TakesUpTo (session_sight st e) cursor n rows.items after
       → st' ≡ put_session st s (map_session (with_cursor (Some after)) (session_at st s)) → Follows st (step.Next s n) (reply.Rows rows) st'
   Follows-taken_up_to (Index span) after above opened (left, same, takes) is =
       Follows-rows_in_index span left opened (subst (λ most. TakesRows (session_sight st e) span left most rows.items) (omega arith) takes) (moved-as after (Index left) same is)
-  Follows-taken_up_to (Heap from) after above opened (to, same, takes) is = Follows-rows_in_heap from to opened (part-walk st e from n rows.items to takes) (moved-as after (Heap to) same is)
+  Follows-taken_up_to (Heap from) after above opened (to, same, takes) is = Follows-rows_in_heap from to opened (λ window. part-walk st e window from n rows.items to takes) (moved-as after (Heap to) same is)
 
 pub Follows-rows : (st st' : State) (s n : ℕ) (e : Session) (cursor after : Scan) (rows : Vec Row Global) → session_at st s ≡ Some e → e.failed ≡ false → e.cursor ≡ Some cursor
     → TakesSome (session_sight st e) cursor n rows.items after → st' ≡ put_session st s (map_session (with_cursor (Some after)) (session_at st s)) → Follows st (step.Next s n) (reply.Rows rows) st'
@@ -157,7 +158,7 @@ hands-out takes st st' s n e cursor after rows at opened taken is = record {
   at = opened;
   after = after;
   takes = taken;
-  is = moved st st' s e (Some after) at is;
+  is = moved st st' s e after at is;
 }
 
 pub bare-next_rows : (st : State) (s n : ℕ) (r : Refusal) → BarsWithCursor (engine_sessions st) s r → ExactNextRows st s n (reply.Refused r) st

@@ -1,11 +1,6 @@
 -- What a session reads.
-use Rattle.table_indexes.specs.Indexes.{entries_in}
 use Rattle.std.proofs.Common.{◌≡◌, ℕ, Option, Some, false}
-use Rattle.std.specs.Prelude.{pos}
 use Rattle.tuple_header.specs.declared.version.Row.{Row}
-use Rattle.visibility.specs.Visible.{IsVisible}
-use Rattle.index_lookup.specs.Looking.{FirstFound}
-use Rattle.heap_write.specs.Heap.{slots_of}
 use Rattle.history.specs.World.{World, OpenSession, view}
 use Rattle.calls.specs.declared.step.Step.TheVariants as step
 use Rattle.calls.specs.declared.reply.Reply.TheVariants as reply
@@ -13,13 +8,9 @@ use Rattle.refinement.proofs.Follows as theory
 use Rattle.session_steps.specs.declared.session.Session.{Session}
 use Rattle.session_steps.specs.State.{State, session_at, seen, reader_of}
 use Rattle.session_steps.specs.Agrees.{Agrees, Follows}
-use Rattle.session_steps.proofs.Searches.{row-to}
+use Rattle.session_steps.proofs.Searches.{RowOf, row-to}
 use Rattle.session_steps.proofs.Owns.{reader-is}
 use Rattle.session_steps.proofs.Follows.{Follows-same}
-
--- the row of the key that the index leads the session to
-abbrev RowOf : State → Session → ℕ → Option Row → Type 0
-RowOf st e k found = FirstFound st.heap.statuses (IsVisible st.heap.statuses e.snapshot e.own.ids) (slots_of st.heap) (entries_in st.heap.indexes 0) (pos k) k found
 
 pub Follows-get : (st : State) (s : ℕ) (e : Session) (k : ℕ) (found : Option Row) → session_at st s ≡ Some e → e.failed ≡ false → RowOf st e k found → Follows st (step.Get s k) (reply.Found found) st
 Follows-get st s e k found at sound finds = λ w agrees.

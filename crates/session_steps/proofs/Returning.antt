@@ -2,30 +2,32 @@
 use Rattle.std.proofs.Common.{◌≡◌, ℕ, List, [], ◌∷◌, ◌++◌, take, Some, slice_get, refl, sym, ap, ◌∙◌, subst, inl, inr, append_assoc}
 use Rattle.std.specs.Prelude.{Contains}
 use Rattle.std.proofs.lemmas.List.{append-nil}
+use Rattle.std.proofs.lemmas.List.Elements.{Contains-append_left, Contains-append_right, Contains-append_cases}
 use Rattle.xid_circle.proofs.Members.{Contains-first, Contains-rest, Contains-cases, Contains-none}
 use Rattle.commit_status.specs.Window.{Window, top_of}
-use Rattle.snapshot.specs.Laws.{IsInWindow}
 use Rattle.snapshot.specs.Own.{newest, older, ArePrefixes, AreDistinct}
 use Rattle.snapshot.proofs.Levels.{distinct-prefix}
 use Rattle.session_steps.specs.declared.session.Session.{Session}
-use Rattle.session_steps.specs.State.{holds_back}
+use Rattle.session_steps.specs.State.{kept_by, kept_xmin, holds_back}
 use Rattle.session_steps.specs.Agrees.{SessionKeeps}
 use Rattle.session_steps.specs.Changes.{SetsSavepoint, Returns, Releases}
+use Rattle.session_steps.proofs.Statements.{for-same}
 
 -- the ids stay
-keeps-ids : (w : Window) (e now : Session) → now.snapshot ≡ e.snapshot → now.own.ids ≡ e.own.ids → ArePrefixes e.own.ids now.own.saved → SessionKeeps w e → SessionKeeps w now
-keeps-ids w e now snapshot ids prefixes h = record {
-  snapshot = subst (λ s. IsInWindow w s) (sym snapshot) h.snapshot;
+keeps-ids : (w : Window) (e now : Session) → now.isolation ≡ e.isolation → now.own.ids ≡ e.own.ids → now.cursor ≡ e.cursor → ArePrefixes e.own.ids now.own.saved → SessionKeeps w e → SessionKeeps w now
+keeps-ids w e now reads ids cursor prefixes h = record {
+  snapshot = λ snap is. h.snapshot snap (ap kept_by (sym reads) ∙ is);
+  for_cursor = for-same e now reads cursor h.for_cursor;
   topmost = λ x mine. ap (λ xs. slice_get xs 0) ids ∙ h.topmost x (subst (λ xs. Contains xs x) ids mine);
   prefixes = subst (λ xs. ArePrefixes xs now.own.saved) (sym ids) prefixes;
   distinct = subst AreDistinct (sym ids) h.distinct;
 }
 
-pub same-holds : (e now : Session) → now.snapshot ≡ e.snapshot → now.own.ids ≡ e.own.ids → holds_back now ≡ holds_back e
-same-holds e now snapshot ids = rw (snapshot, ids) refl
+pub same-holds : (e now : Session) → now.isolation ≡ e.isolation → now.own.ids ≡ e.own.ids → holds_back now ≡ holds_back e
+same-holds e now reads ids = rw (reads, ids) refl
 
 pub keeps-saved : (w : Window) (e now : Session) → SetsSavepoint e now → SessionKeeps w e → SessionKeeps w now
-keeps-saved w e now sets h = keeps-ids w e now sets.snapshot sets.ids (subst (λ saved. ArePrefixes e.own.ids saved) (sym sets.saved) ([], sym (append-nil e.own.ids), h.prefixes)) h
+keeps-saved w e now sets h = keeps-ids w e now sets.isolation sets.ids sets.cursor (subst (λ saved. ArePrefixes e.own.ids saved) (sym sets.saved) ([], sym (append-nil e.own.ids), h.prefixes)) h
 
 -- what is a prefix of a prefix is one
 prefixes-below : (ids before since : List ℕ) (saved : List (List ℕ)) → ids ≡ before ++ since → ArePrefixes before saved → ArePrefixes ids saved
@@ -33,7 +35,7 @@ prefixes-below ids before since [] is prefixes = tt
 prefixes-below ids before since (prefix ∷ saved) is prefixes = (prefixes.0 ++ since, is ∙ (ap (λ xs. xs ++ since) prefixes.1 ∙ append_assoc prefix prefixes.0 since), prefixes.2)
 
 pub keeps-released : (w : Window) (e now : Session) → Releases e now → SessionKeeps w e → SessionKeeps w now
-keeps-released w e now releases h = keeps-ids w e now releases.snapshot releases.ids (subst (λ saved. ArePrefixes e.own.ids saved) (sym releases.saved) (below e.own.ids e.own.saved h.prefixes)) h
+keeps-released w e now releases h = keeps-ids w e now releases.isolation releases.ids releases.cursor (subst (λ saved. ArePrefixes e.own.ids saved) (sym releases.saved) (below e.own.ids e.own.saved h.prefixes)) h
   where
     below : (ids : List ℕ) (saved : List (List ℕ)) → ArePrefixes ids saved → ArePrefixes ids (older saved)
     below ids [] prefixes = tt
@@ -54,7 +56,8 @@ contains-prefix (y ∷ ids) xs x among = elim (Contains-cases y x ids among) [
 
 pub keeps-returned : (w : Window) (e now : Session) (before since : List ℕ) (saved : List (List ℕ)) → Returns e now → e.own.ids ≡ now.own.ids ++ since → e.own.saved ≡ before ∷ saved → SessionKeeps w e → SessionKeeps w now
 keeps-returned w e now before since saved returns ids is h = record {
-  snapshot = subst (λ s. IsInWindow w s) (sym returns.snapshot) h.snapshot;
+  snapshot = λ snap same. h.snapshot snap (ap kept_by (sym returns.isolation) ∙ same);
+  for_cursor = for-same e now returns.isolation returns.cursor h.for_cursor;
   topmost = λ x mine. first-prefix now.own.ids since (top_of w x) x mine (ap (λ xs. slice_get xs 0) (sym ids) ∙ h.topmost x (subst (λ xs. Contains xs x) (sym ids) (contains-prefix now.own.ids since x mine)));
   prefixes = let now-ids : now.own.ids ≡ before = returns.ids ∙ ap newest is in
       let below : ArePrefixes e.own.ids (before ∷ saved) = subst (λ xs. ArePrefixes e.own.ids xs) is h.prefixes in
@@ -63,10 +66,10 @@ keeps-returned w e now before since saved returns ids is h = record {
 }
 
 -- no more is held back
-pub fewer-back : (e now : Session) (since : List ℕ) (y : ℕ) → now.snapshot ≡ e.snapshot → e.own.ids ≡ now.own.ids ++ since → Contains (holds_back now) y → Contains (holds_back e) y
-fewer-back e now since y snapshot ids among = elim (Contains-cases now.snapshot.xmin y (take 1 now.own.ids) among) [
-  | inl here ↦ subst (λ z. Contains (holds_back e) z) (ap (λ s. s.xmin) (sym snapshot) ∙ here) (Contains-first e.snapshot.xmin (take 1 e.own.ids))
-  | inr own ↦ Contains-rest e.snapshot.xmin y (take 1 e.own.ids) (subst (λ xs. Contains (take 1 xs) y) (sym ids) (first-of now.own.ids own))
+pub fewer-back : (e now : Session) (since : List ℕ) (y : ℕ) → now.isolation ≡ e.isolation → e.own.ids ≡ now.own.ids ++ since → Contains (holds_back now) y → Contains (holds_back e) y
+fewer-back e now since y reads ids among = elim (Contains-append_cases (kept_xmin (kept_by now.isolation)) (take 1 now.own.ids) y among) [
+  | inl here ↦ Contains-append_left (kept_xmin (kept_by e.isolation)) (take 1 e.own.ids) y (subst (λ i. Contains (kept_xmin (kept_by i)) y) reads here)
+  | inr own ↦ Contains-append_right (kept_xmin (kept_by e.isolation)) (take 1 e.own.ids) y (subst (λ xs. Contains (take 1 xs) y) (sym ids) (first-of now.own.ids own))
 ]
   where
     first-of : (xs : List ℕ) → Contains (take 1 xs) y → Contains (take 1 (xs ++ since)) y

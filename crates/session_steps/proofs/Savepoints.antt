@@ -20,7 +20,8 @@ use Rattle.refinement.specs.Heap as relation
 use Rattle.refinement.specs.Allowed.{Allows, next}
 use Rattle.refinement.specs.Agrees as theory
 use Rattle.refinement.specs.Changes as change
-use Rattle.refinement.proofs.Steps.{OnlyIs, SameSights}
+use Rattle.refinement.proofs.Isolations.{SameSights}
+use Rattle.refinement.proofs.Steps.{OnlyIs}
 use Rattle.refinement.proofs.FollowsSavepoints as savepoints
 use Rattle.session_steps.specs.declared.session.Session.{Session}
 use Rattle.visibility.specs.Visible.{state_of}
@@ -73,13 +74,13 @@ only-becomes st s e now r at is = let only = only-set st s (Some now) (open-with
 pub Follows-savepoint : (st st' : State) (s : ℕ) (e : Session) → session_at st s ≡ Some e → e.failed ≡ false → e.cursor ≡ None → length e.own.saved < 32 → (now : Session) → st' ≡ put_session st s (Some now) → SetsSavepoint e now
     → Follows st (step.Savepoint s) reply.Done st'
 Follows-savepoint st st' s e at sound bare room now is sets w agrees =
-    let reader : reader_of now ≡ record (reader_of e) { saved = e.own.ids ∷ e.own.saved } = rw (sets.snapshot, sets.ids, sets.saved, sets.failed, sets.cursor) refl in
+    let reader : reader_of now ≡ record (reader_of e) { saved = e.own.ids ∷ e.own.saved } = rw (sets.isolation, sets.ids, sets.saved, sets.failed, sets.cursor) refl in
     let f = savepoints.Follows-savepoint (seen st) s (reader_of e) (seen (put_session st s (Some now))).session (only-becomes st s e now (record (reader_of e) { saved = e.own.ids ∷ e.own.saved }) at reader)
     (reader-is st s e at) sound (ap position_of bare) room w agrees.found in
     subst (λ st'. Allows w (step.Savepoint s) reply.Done × Agrees st' (next w (step.Savepoint s) reply.Done) × KeepsAllTargets st st') (sym is) (
       f.0,
       agree agrees refl refl f.1
-          (Sound-put st s e now at (same-holds e now sets.snapshot sets.ids) (keeps-saved st.heap.statuses e now sets (agrees.sound.sessions s e at)) (same-cursor st.sessions st.heap.indexes s e now at sets.cursor agrees.sound.cursors) agrees.sound),
+          (Sound-put st s e now at (same-holds e now sets.isolation sets.ids) (keeps-saved st.heap.statuses e now sets (agrees.sound.sessions s e at)) (same-cursor st.sessions st.heap.indexes s e now at sets.cursor agrees.sound.cursors) agrees.sound),
       led-same st w agrees,
     )
 
@@ -87,13 +88,13 @@ pub Follows-release : (st st' : State) (s : ℕ) (e : Session) (before : List �
     → st' ≡ put_session st s (Some now) → Releases e now → Follows st (step.Release s) reply.Done st'
 Follows-release st st' s e before saved at sound bare some now is releases w agrees =
     let rest : now.own.saved ≡ saved = releases.saved ∙ ap older some in
-    let reader : reader_of now ≡ record (reader_of e) { saved = saved } = rw (releases.snapshot, releases.ids, rest, releases.failed, releases.cursor) refl in
+    let reader : reader_of now ≡ record (reader_of e) { saved = saved } = rw (releases.isolation, releases.ids, rest, releases.failed, releases.cursor) refl in
     let f = savepoints.Follows-release (seen st) s (reader_of e) before saved (seen (put_session st s (Some now))).session (only-becomes st s e now (record (reader_of e) { saved = saved }) at reader)
     (reader-is st s e at) sound (ap position_of bare) some w agrees.found in
     subst (λ st'. Allows w (step.Release s) reply.Done × Agrees st' (next w (step.Release s) reply.Done) × KeepsAllTargets st st') (sym is) (
       f.0,
       agree agrees refl refl f.1
-          (Sound-put st s e now at (same-holds e now releases.snapshot releases.ids) (keeps-released st.heap.statuses e now releases (agrees.sound.sessions s e at)) (same-cursor st.sessions st.heap.indexes s e now at releases.cursor agrees.sound.cursors) agrees.sound),
+          (Sound-put st s e now at (same-holds e now releases.isolation releases.ids) (keeps-released st.heap.statuses e now releases (agrees.sound.sessions s e at)) (same-cursor st.sessions st.heap.indexes s e now at releases.cursor agrees.sound.cursors) agrees.sound),
       led-same st w agrees,
     )
 
@@ -108,7 +109,7 @@ module _ (st st' : State) (s : ℕ) (before : List ℕ) (saved : List (List ℕ)
 
   only-returns : OnlyIs (seen st).session (seen st').session s (Some (record (reader_of back.session) { own = before; failed = false }))
   only-returns =
-      let reader : reader_of back.now ≡ record (reader_of back.session) { own = before; failed = false } = rw (back.back.returns.snapshot, back.back.returns.ids, back.back.returns.saved, back.back.returns.sound, back.back.returns.cursor, ap newest is) refl in
+      let reader : reader_of back.now ≡ record (reader_of back.session) { own = before; failed = false } = rw (back.back.returns.isolation, back.back.returns.ids, back.back.returns.saved, back.back.returns.sound, back.back.returns.cursor, ap newest is) refl in
       let only = only-becomes st s back.session back.now (record (reader_of back.session) { own = before; failed = false }) back.at reader in
       subst (λ xs. OnlyIs (seen st).session (λ o. option_map reader_of (session_at (record st { sessions = xs }) o)) s (Some (record (reader_of back.session) { own = before; failed = false }))) (sym back.sessions) only
 
@@ -132,7 +133,7 @@ module _ (st st' : State) (s : ℕ) (before : List ℕ) (saved : List (List ℕ)
       late-of x own new = elim (Contains-append_cases before back.back.since x (subst (λ xs. Contains xs x) were own)) [ inl early ↦ absurd (new early) | inr late ↦ late ]
 
   same-sights : SameSights (seen st) (seen st').sees
-  same-sights o r bt = SameSight-finish r.snapshot st.heap.statuses st'.heap.statuses back.back.since Aborted back.back.finishes
+  same-sights snap kept = SameSight-finish snap st.heap.statuses st'.heap.statuses back.back.since Aborted back.back.finishes
 
 pub Follows-roll_back_to : (st st' : State) (s : ℕ) (before : List ℕ) (saved : List (List ℕ)) (back : RollsBack st st' s) → back.session.cursor ≡ None → back.session.own.saved ≡ before ∷ saved → Follows st (step.RollbackTo s) reply.Done st'
 Follows-roll_back_to st st' s before saved back bare is w agrees =

@@ -10,7 +10,6 @@ use Rattle.xid_circle.specs.declared.Tid.{Tid}
 use Rattle.xid_circle.specs.declared.Xid.{Xid}
 use Rattle.commit_status.specs.Window.{Window, place, status_of}
 use Rattle.commit_status.specs.Window as window
-use Rattle.snapshot.specs.Snap.{Sees}
 use Rattle.visibility.specs.Visible as visibility
 use Rattle.index_lookup.specs.Pages.{version_in}
 use Rattle.index_lookup.specs.Looking.{FirstFound}
@@ -23,11 +22,12 @@ use Rattle.calls.specs.declared.reply.Refusal.{Refusal}
 use Rattle.calls.specs.declared.reply.Refusal.TheVariants as refusal
 use Rattle.session_steps.specs.declared.session.Session.{Session}
 use Rattle.visibility.specs.Visible.{state_of}
-use Rattle.session_steps.specs.State.{State, session_at, seen, position_of, reader_of, horizon_of}
+use Rattle.session_steps.specs.State.{State, session_at, seen, statement_snapshot, position_of, reader_of, horizon_of}
 use Rattle.session_steps.specs.Agrees.{Agrees}
 use Rattle.session_steps.specs.Tests.{FindsPlace, IsLateBy, IsHeldUnder, IsUncontested, ConflictsWrite, RefusesInsertOfKey, RefusesChangeOfKey}
 use Rattle.session_steps.specs.Tests as tests
 use Rattle.session_steps.proofs.Owns.{reader-is}
+use Rattle.session_steps.proofs.Statements.{statement_sight, statement-sees, statement-misses}
 
 -- the answers of a search for an id
 
@@ -42,50 +42,59 @@ Holds h e key answer = MatchOption answer ((x : ℕ) → ¬ IsHeldUnder h e key 
 pub own-active : (st : State) (w : World) (s : ℕ) (e : Session) → Agrees st w → session_at st s ≡ Some e → (x : ℕ) → Contains e.own.ids x → window.IsActive st.heap.statuses x
 own-active st w s e agrees at x mine = active-to st.heap.statuses x ((agrees.found.opened s (reader_of e) (reader-is st s e at)).2.own_active x mine)
 
+-- what a statement of the session sees
+abbrev pub statement_seen : State → Session → Version → Type 0
+statement_seen st e = ReaderSees (state_of st.heap.statuses) (statement_sight st e.isolation) e.own.ids
+
 -- the session reads the row of the key by this version
 pub record IsTarget (st : State) (e : Session) (key : ℕ) (p : Tid) (t : Version) : Type 0 where
   pub there : version_in (slots_of st.heap) p ≡ Some t
   pub of_key : t.row.key ≡ key
-  pub seen : ReaderSees (state_of st.heap.statuses) (λ x. Sees e.snapshot st.heap.statuses x) e.own.ids t
+  pub seen : statement_seen st e t
 
 abbrev pub FoundIn : State → Session → ℕ → Option Tid → Type 0
-FoundIn st e key None = FindsOfKey (seen st).version (ReaderSees (state_of st.heap.statuses) (λ x. Sees e.snapshot st.heap.statuses x) e.own.ids) key None
+FoundIn st e key None = FindsOfKey (seen st).version (statement_seen st e) key None
 FoundIn st e key (Some p) = (t : Version) × IsTarget st e key p t
 
 pub place-to : (st : State) (w : World) (s : ℕ) (e : Session) (key : ℕ) (found : Option Tid) → Agrees st w → session_at st s ≡ Some e → FindsPlace st.heap e key found → FoundIn st e key found
 place-to st w s e key None agrees at finds = λ p v there seen is.
-    place-on_heap key_value st.heap.statuses (horizon_of st) (slots_of st.heap) (entries_in st.heap.indexes 0) e.snapshot e.own.ids (by-key st agrees.sound) (own-active st w s e agrees at) (pos key) key None finds p v
-    (record { there = there; of_value = ap (λ n. pos n) is; of_key = is; has = seen })
+    place-on_heap key_value st.heap.statuses (horizon_of st) (slots_of st.heap) (entries_in st.heap.indexes 0) (statement_snapshot st.heap.statuses e.isolation) e.own.ids (by-key st agrees.sound) (own-active st w s e agrees at) (pos key) key None finds p v
+    (record { there = there; of_value = ap (λ n. pos n) is; of_key = is; has = (statement-sees st agrees.sound.window e.isolation e.own.ids v).1 seen })
 place-to st w s e key (Some p) agrees at finds =
-    let h = place-on_heap key_value st.heap.statuses (horizon_of st) (slots_of st.heap) (entries_in st.heap.indexes 0) e.snapshot e.own.ids (by-key st agrees.sound) (own-active st w s e agrees at) (pos key) key (Some p) finds in
-    (h.0, record { there = h.1.there; of_key = h.1.of_key; seen = h.1.has })
+    let h = place-on_heap key_value st.heap.statuses (horizon_of st) (slots_of st.heap) (entries_in st.heap.indexes 0) (statement_snapshot st.heap.statuses e.isolation) e.own.ids (by-key st agrees.sound) (own-active st w s e agrees at) (pos key) key (Some p) finds in
+    (h.0, record { there = h.1.there; of_key = h.1.of_key; seen = (statement-sees st agrees.sound.window e.isolation e.own.ids h.0).0 h.1.has })
+
+-- the row of the key that the index leads the session to
+abbrev pub RowOf : State → Session → ℕ → Option Row → Type 0
+RowOf st e k found = FirstFound st.heap.statuses (visibility.IsVisible st.heap.statuses (statement_snapshot st.heap.statuses e.isolation) e.own.ids) (slots_of st.heap) (entries_in st.heap.indexes 0) (pos k) k found
 
 pub row-to : (st : State) (w : World) (s : ℕ) (e : Session) (key : ℕ) (found : Option Row) → Agrees st w → session_at st s ≡ Some e
-    → FirstFound st.heap.statuses (visibility.IsVisible st.heap.statuses e.snapshot e.own.ids) (slots_of st.heap) (entries_in st.heap.indexes 0) (pos key) key found
-    → FindsOfKey (seen st).version (ReaderSees (state_of st.heap.statuses) (λ x. Sees e.snapshot st.heap.statuses x) e.own.ids) key found
+    → RowOf st e key found
+    → FindsOfKey (seen st).version (statement_seen st e) key found
 row-to st w s e key None agrees at finds = λ p v there seen is.
-    found-on_heap key_value st.heap.statuses (horizon_of st) (slots_of st.heap) (entries_in st.heap.indexes 0) e.snapshot e.own.ids (by-key st agrees.sound) (own-active st w s e agrees at) (pos key) key None finds p v
-    (record { there = there; of_value = ap (λ n. pos n) is; of_key = is; has = seen })
+    found-on_heap key_value st.heap.statuses (horizon_of st) (slots_of st.heap) (entries_in st.heap.indexes 0) (statement_snapshot st.heap.statuses e.isolation) e.own.ids (by-key st agrees.sound) (own-active st w s e agrees at) (pos key) key None finds p v
+    (record { there = there; of_value = ap (λ n. pos n) is; of_key = is; has = (statement-sees st agrees.sound.window e.isolation e.own.ids v).1 seen })
 row-to st w s e key (Some row) agrees at finds =
-    let h = found-on_heap key_value st.heap.statuses (horizon_of st) (slots_of st.heap) (entries_in st.heap.indexes 0) e.snapshot e.own.ids (by-key st agrees.sound) (own-active st w s e agrees at) (pos key) key (Some row) finds in
-    (h.0, h.1, h.2.there, h.2.of_key, (h.2.has, h.3))
+    let h = found-on_heap key_value st.heap.statuses (horizon_of st) (slots_of st.heap) (entries_in st.heap.indexes 0) (statement_snapshot st.heap.statuses e.isolation) e.own.ids (by-key st agrees.sound) (own-active st w s e agrees at) (pos key) key (Some row) finds in
+    (h.0, h.1, h.2.there, h.2.of_key, ((statement-sees st agrees.sound.window e.isolation e.own.ids h.1).0 h.2.has, h.3))
 
 pub late-to : (st : State) (w : World) (e : Session) (key x : ℕ) → Agrees st w → IsLateBy st.heap e key x → IsLateFor (seen st) (reader_of e) key
 late-to st w e key x agrees late =
-    let h = (newer_commit-on_heap key_value st.heap.statuses (horizon_of st) (slots_of st.heap) (entries_in st.heap.indexes 0) e.snapshot x (by-key st agrees.sound) (pos key) key).0 late in
-    (h.0, h.1, h.2.there, h.2.of_key, (x, h.2.has))
+    let h = (newer_commit-on_heap key_value st.heap.statuses (horizon_of st) (slots_of st.heap) (entries_in st.heap.indexes 0) (statement_snapshot st.heap.statuses e.isolation) x (by-key st agrees.sound) (pos key) key).0 late in
+    (h.0, h.1, h.2.there, h.2.of_key, (statement-misses st agrees.sound.window e.isolation h.1).0 (x, h.2.has))
 
 pub not-late : (st : State) (w : World) (e : Session) (key : ℕ) → Agrees st w → ((x : ℕ) → ¬ IsLateBy st.heap e key x) → ¬ IsLateFor (seen st) (reader_of e) key
 not-late st w e key agrees timely some =
-    let x = some.4.0 in
-    timely x ((newer_commit-on_heap key_value st.heap.statuses (horizon_of st) (slots_of st.heap) (entries_in st.heap.indexes 0) e.snapshot x (by-key st agrees.sound) (pos key) key).1 (
+    let missed = (statement-misses st agrees.sound.window e.isolation some.1).1 some.4 in
+    let x = missed.0 in
+    timely x ((newer_commit-on_heap key_value st.heap.statuses (horizon_of st) (slots_of st.heap) (entries_in st.heap.indexes 0) (statement_snapshot st.heap.statuses e.isolation) x (by-key st agrees.sound) (pos key) key).1 (
       some.0,
       some.1,
       record {
         there = some.2;
         of_value = ap (λ n. pos n) some.3;
         of_key = some.3;
-        has = some.4.1;
+        has = missed.1;
       },
     ))
 

@@ -28,9 +28,10 @@ use Rattle.refinement.specs.Visible.{At}
 use Rattle.refinement.specs.Cursors.{IsPastPosition, IsAhead, Comes}
 use Rattle.refinement.specs.Cursors as cursors
 use Rattle.session_steps.specs.declared.session.Session.{Session}
-use Rattle.session_steps.specs.State.{State, session_at, seen, seen_position, horizon_of}
+use Rattle.session_steps.specs.State.{State, session_at, seen, cursor_snapshot, seen_position, horizon_of}
 use Rattle.session_steps.specs.Agrees.{Agrees}
 use Rattle.session_steps.proofs.AtCursor.{seen_by}
+use Rattle.session_steps.proofs.Statements.{cursor-sees}
 use Rattle.session_steps.proofs.Searches.{own-active}
 
 -- Places in the order of an index.
@@ -91,19 +92,19 @@ comes-after index row other e m value key value' key' ne isnt = by_lt_z m.value 
     (λ le'. let same : e.value ≡ m.value = same-value e.value m.value le le' in
     inr (value ∙ (sym same ∙ sym value'), key-first other.key row.key ne (λ below. isnt (inr (same, subst (λ k. k < m.key) key' (subst (λ k. other.key < k) key below)))))))
 
--- What the session sees, and what the entries of an index in use lead it to.
+-- What the session's cursor sees, and what the entries of an index in use lead it to.
 
 -- what is found by a value and a key along the entries of the index
 abbrev pub FindsBy : State → Session → ℕ → ℤ → ℕ → Option Row → Type 0
 FindsBy st e index value key found =
-    FirstFound st.heap.statuses (visibility.IsVisible st.heap.statuses e.snapshot e.own.ids) (slots_of st.heap) (entries_in st.heap.indexes index) value key found
+    FirstFound st.heap.statuses (visibility.IsVisible st.heap.statuses (cursor_snapshot st.heap.statuses e.isolation) e.own.ids) (slots_of st.heap) (entries_in st.heap.indexes index) value key found
 
 abbrev pub IsNextFor : State → Session → IndexRange → IndexPosition → Row → Type 0
 IsNextFor st e span position row =
-    IsNextRow st.heap.statuses (visibility.IsVisible st.heap.statuses e.snapshot e.own.ids) (slots_of st.heap) (entries_in st.heap.indexes span.index) span position row
+    IsNextRow st.heap.statuses (visibility.IsVisible st.heap.statuses (cursor_snapshot st.heap.statuses e.isolation) e.own.ids) (slots_of st.heap) (entries_in st.heap.indexes span.index) span position row
 
 abbrev pub NoneIsLeft : State → Session → IndexRange → Type 0
-NoneIsLeft st e span = NoneLeft st.heap.statuses (visibility.IsVisible st.heap.statuses e.snapshot e.own.ids) (slots_of st.heap) (entries_in st.heap.indexes span.index) span
+NoneIsLeft st e span = NoneLeft st.heap.statuses (visibility.IsVisible st.heap.statuses (cursor_snapshot st.heap.statuses e.isolation) e.own.ids) (slots_of st.heap) (entries_in st.heap.indexes span.index) span
 
 -- a version of the row is seen, and it has this value and key
 record SeesRow (st : State) (e : Session) (index : ℕ) (value : ℤ) (key : ℕ) (row : Row) : Type 0 where
@@ -128,12 +129,12 @@ module _ (st : State) (w : World) (s : ℕ) (e : Session) (agrees : Agrees st w)
 
   row-shown : (value : ℤ) (key : ℕ) (row : Row) → FindsBy st e index value key (Some row) → SeesRow st e index value key row
   row-shown value key row finds =
-      let h = found-on_heap (value_in index) st.heap.statuses (horizon_of st) (slots_of st.heap) (entries_in st.heap.indexes index) e.snapshot e.own.ids sound-in (own-active st w s e agrees at) value key (Some row) finds in
+      let h = found-on_heap (value_in index) st.heap.statuses (horizon_of st) (slots_of st.heap) (entries_in st.heap.indexes index) (cursor_snapshot st.heap.statuses e.isolation) e.own.ids sound-in (own-active st w s e agrees at) value key (Some row) finds in
       record {
         place = h.0;
         version = h.1;
         here = h.2.there;
-        shown = h.2.has;
+        shown = (cursor-sees st agrees.sound.window e.isolation e.own.ids h.1).0 h.2.has;
         same_row = sym h.3;
         of_value = ap (value_in index) h.3 ∙ h.2.of_value;
         of_key = ap (λ (r : Row). r.key) h.3 ∙ h.2.of_key;
@@ -141,18 +142,18 @@ module _ (st : State) (w : World) (s : ℕ) (e : Session) (agrees : Agrees st w)
 
   none-shown : (value : ℤ) (key : ℕ) (row : Row) → FindsBy st e index value key None → SeesRow st e index value key row → ⊥
   none-shown value key row finds shows =
-      found-on_heap (value_in index) st.heap.statuses (horizon_of st) (slots_of st.heap) (entries_in st.heap.indexes index) e.snapshot e.own.ids sound-in (own-active st w s e agrees at) value key None finds
+      found-on_heap (value_in index) st.heap.statuses (horizon_of st) (slots_of st.heap) (entries_in st.heap.indexes index) (cursor_snapshot st.heap.statuses e.isolation) e.own.ids sound-in (own-active st w s e agrees at) value key None finds
       shows.place shows.version (record {
         there = shows.here;
         of_value = ap (value_in index) shows.same_row ∙ shows.of_value;
         of_key = ap (λ (r : Row). r.key) shows.same_row ∙ shows.of_key;
-        has = shows.shown;
+        has = (cursor-sees st agrees.sound.window e.isolation e.own.ids shows.version).1 shows.shown;
       })
 
   has-entry : (p : Tid) (v : Version) → At (seen st).version p v → seen_by st e v → HasEntry st index v.row
   has-entry p v here shown =
-      let i = (visible-found (value_in index) st.heap.statuses (horizon_of st) (slots_of st.heap) (entries_in st.heap.indexes index) sound-in e.snapshot e.own.ids (own-active st w s e agrees at) (value_in index v.row) v.row.key p v).0
-      (record { there = here; of_value = refl; of_key = refl; has = shown }) in
+      let i = (visible-found (value_in index) st.heap.statuses (horizon_of st) (slots_of st.heap) (entries_in st.heap.indexes index) sound-in (cursor_snapshot st.heap.statuses e.isolation) e.own.ids (own-active st w s e agrees at) (value_in index v.row) v.row.key p v).0
+      (record { there = here; of_value = refl; of_key = refl; has = (cursor-sees st agrees.sound.window e.isolation e.own.ids v).1 shown }) in
       record { entry = i.entry; there = i.leads.there; value = sym i.of.0; key = sym i.of.1 }
 
 module _ (st : State) (w : World) (s : ℕ) (e : Session) (agrees : Agrees st w) (at : session_at st s ≡ Some e) (span : IndexRange) (used : IsInUse st.heap.indexes span.index) where

@@ -35,7 +35,7 @@ use Rattle.refinement.proofs.GivenBelow.{visible_given_each}
 use Rattle.refinement.proofs.FollowsWrites.{insert_done, update_done, delete_done}
 use Rattle.session_steps.specs.declared.session.Session.{Session}
 use Rattle.visibility.specs.Visible.{state_of}
-use Rattle.session_steps.specs.State.{State, session_at, seen, seen_in, reader_of, horizon_of}
+use Rattle.session_steps.specs.State.{State, session_at, seen, seen_in, reader_of, isolation_seen, horizon_of}
 use Rattle.session_steps.specs.Agrees.{Agrees, Follows, KeepsAllTargets}
 use Rattle.session_steps.specs.Tests.{MayWriteKey}
 use Rattle.session_steps.specs.Writes.{SameSession, TriesInsert, TriesUpdate, TriesDelete, reply_for}
@@ -157,9 +157,10 @@ Follows-inserted st st' s row r tried window text fits same w agrees =
 
 module _ (st : State) (w : World) (s : ℕ) (key : ℕ) (e : Session) (place : Tid) (t : Version) (target : IsTarget st e key place t) (at : session_at st s ≡ Some e) (agrees : Agrees st w) where
   -- it still sees it when it writes
-  seen-now : (v : Window) (own : Own) (x : ℕ) → TakesIds st.heap.statuses v e.own own x → IsWindow v → ReaderSees (state_of v) (λ y. Sees e.snapshot v y) own.ids t
+  seen-now : (v : Window) (own : Own) (x : ℕ) → TakesIds st.heap.statuses v e.own own x → IsWindow v
+      → ReaderSees (state_of v) (relation.SightOfStatement (state_of v) (λ snap y. Sees snap v y) (isolation_seen e.isolation)) own.ids t
   seen-now v own x takes window =
-      subst (λ (r : relation.SeenSession). ReaderSees (state_of v) (λ y. Sees r.snapshot v y) r.own t) (sym (reader-taken st w v s e own x at takes window agrees))
+      subst (λ (r : relation.SeenSession). ReaderSees (state_of v) (relation.SightOfStatement (state_of v) (λ snap y. Sees snap v y) r.isolation) r.own t) (sym (reader-taken st w v s e own x at takes window agrees))
       (visible_given_each takes.given (seen st) w s (reader_of e) place t (state_of v) (λ sn y. Sees sn v y) (reader-is st s e at) (gives-each st w v s e own x at takes window agrees)
       (same-sights st w v s e own x at takes window agrees) (are-unseen st w v s e own x at takes window agrees) agrees.found target.there target.seen)
 

@@ -1,6 +1,7 @@
 -- When an engine agrees with a world of the history.
 use Rattle.std.specs.Prelude.{◌≡◌, ◌↔◌, ℕ, true, length, Some, IsSome, slice_get, Contains}
 use Rattle.history.specs.World.{World}
+use Rattle.snapshot.specs.Snap.{Snap}
 use Rattle.snapshot.specs.Laws.{IsInWindow}
 use Rattle.snapshot.specs.Own.{ArePrefixes, AreDistinct}
 use Rattle.commit_status.specs.Window.{Window, IsWindow, IsCommitted, top_of}
@@ -16,13 +17,15 @@ use Rattle.index_lookup.specs.declared.index_scan.IndexRange.{IndexRange}
 use Rattle.table_integrity.specs.Table.{SoundTable}
 use Rattle.session_steps.specs.declared.session.Session.{Session}
 use Rattle.table_scans.specs.declared.progress.Scan.TheVariants.{Index}
-use Rattle.session_steps.specs.State.{State, session_at, seen, horizon_of}
+use Rattle.session_steps.specs.State.{State, session_at, seen, IsByStatement, kept_by, horizon_of}
 use Rattle.calls.specs.declared.step.TheConstants.{MOST_SESSIONS}
 
 -- what the ids of an open session keep
 pub record SessionKeeps (w : Window) (e : Session) : Type 0 where
-  -- the ids that its snapshot names are in the window, or the next one, and each that it lists is between xmin and xmax
-  pub snapshot : IsInWindow w e.snapshot
+  -- the ids that the snapshot names which it keeps are in the window, or the next one, and each that this lists is between xmin and xmax
+  pub snapshot : (snap : Snap) → kept_by e.isolation ≡ Some snap → IsInWindow w snap
+  -- by statement it keeps one only while its cursor is open
+  pub for_cursor : IsByStatement e.isolation → IsSome (kept_by e.isolation) → IsSome e.cursor
   -- its first id is the topmost parent of each
   pub topmost : (x : ℕ) → Contains e.own.ids x → slice_get e.own.ids 0 ≡ Some (top_of w x)
   -- what it had at each savepoint is a prefix of what it had at the next

@@ -1,6 +1,5 @@
 -- What the engine's own changes do to its state.
 use Rattle.std.specs.Prelude.{◌≡◌, ℕ, List, [], ◌∷◌, ◌++◌, Some, None, false, slice_set}
-use Rattle.snapshot.specs.Snap.{Snap}
 use Rattle.snapshot.specs.Own.{newest, older}
 use Rattle.commit_status.specs.declared.status.Status.{Status}
 use Rattle.commit_status.specs.declared.status.Status.TheVariants.{Aborted}
@@ -8,13 +7,14 @@ use Rattle.commit_status.specs.Window.{IsWindow}
 use Rattle.commit_status.specs.Changes.{Finishes}
 use Rattle.heap_write.specs.Heap.{HeapView}
 use Rattle.session_steps.specs.declared.session.Session.{Session}
+use Rattle.session_steps.specs.declared.session.SessionIsolation.{SessionIsolation}
 use Rattle.session_steps.specs.State.{State, session_at, put_session}
 
--- the session is open, with this snapshot and no ids
-pub record Opens (old new : State) (s : ℕ) (snapshot : Snap) : Type 0 where
+-- the session is open, reads so, and has no ids
+pub record Opens (old new : State) (s : ℕ) (isolation : SessionIsolation) : Type 0 where
   pub session : Session
   pub is : new ≡ put_session old s (Some session)
-  pub with_snapshot : session.snapshot ≡ snapshot
+  pub reads : session.isolation ≡ isolation
   pub no_ids : session.own.ids ≡ []
   pub unsaved : session.own.saved ≡ []
   pub sound : session.failed ≡ false
@@ -35,7 +35,7 @@ pub record Closes (old new : State) (s : ℕ) (status : Status) : Type 0 where
 
 -- the session has one savepoint more, at which it has the ids that it has now
 pub record SetsSavepoint (e e' : Session) : Type 0 where
-  pub snapshot : e'.snapshot ≡ e.snapshot
+  pub isolation : e'.isolation ≡ e.isolation
   pub ids : e'.own.ids ≡ e.own.ids
   pub saved : e'.own.saved ≡ e.own.ids ∷ e.own.saved
   pub failed : e'.failed ≡ e.failed
@@ -43,7 +43,7 @@ pub record SetsSavepoint (e e' : Session) : Type 0 where
 
 -- it has the ids that it had at its newest savepoint, which it keeps, and has not failed
 pub record Returns (e e' : Session) : Type 0 where
-  pub snapshot : e'.snapshot ≡ e.snapshot
+  pub isolation : e'.isolation ≡ e.isolation
   pub ids : e'.own.ids ≡ newest e.own.saved
   pub saved : e'.own.saved ≡ e.own.saved
   pub sound : e'.failed ≡ false
@@ -51,7 +51,7 @@ pub record Returns (e e' : Session) : Type 0 where
 
 -- it has forgotten its newest savepoint, and keeps its ids
 pub record Releases (e e' : Session) : Type 0 where
-  pub snapshot : e'.snapshot ≡ e.snapshot
+  pub isolation : e'.isolation ≡ e.isolation
   pub ids : e'.own.ids ≡ e.own.ids
   pub saved : e'.own.saved ≡ older e.own.saved
   pub failed : e'.failed ≡ e.failed

@@ -19,9 +19,10 @@ use Rattle.calls.specs.declared.reply.Refusal.TheVariants as refusal
 use Rattle.calls.specs.Words.{row_of}
 use Rattle.refinement.specs.Cursors.{heap_start}
 use Rattle.session_steps.specs.declared.session.Session.{Session}
+use Rattle.session_steps.specs.declared.session.SessionIsolation.TheVariants.{BySnapshot, ByStatement}
 use Rattle.table_scans.specs.declared.progress.Scan.{Scan}
 use Rattle.table_scans.specs.declared.progress.Scan.TheVariants.{Index, Heap}
-use Rattle.session_steps.specs.State.{State, session_at, engine_index, put_session, map_session, with_cursor, failed_session, owns_of, horizon_of}
+use Rattle.session_steps.specs.State.{State, session_at, engine_index, put_session, map_session, with_cursor, with_kept, IsByStatement, failed_session, owns_of, horizon_of}
 use Rattle.session_steps.specs.Agrees.{Follows}
 use Rattle.session_steps.specs.Changes.{Opens, Closes, SetsSavepoint, Releases, SessionBecomes, RollsBack}
 use Rattle.session_steps.specs.Takes.{HandsOut}
@@ -93,18 +94,33 @@ MustList st = 8 < length (snapshot_of st).listed
 abbrev pub MustNote : State → ℕ → Type 0
 MustNote st s = (e : Session) × (session_at st s ≡ Some e) × (4 ≤ length e.own.saved) × (e.own.spare_marks ≡ 0)
 
+-- the session reads by statement, and the snapshot that its cursor needs lists more ids than it holds without memory
+abbrev pub MustKeep : State → ℕ → Type 0
+MustKeep st s = (e : Session) × (session_at st s ≡ Some e) × IsByStatement e.isolation × MustList st
+
 -- the session has this cursor now, or none, and nothing else changes
-abbrev pub HasCursor : State → State → ℕ → Option Scan → Type 0
-HasCursor old new s cursor = new ≡ put_session old s (map_session (with_cursor cursor) (session_at old s))
+abbrev pub MovesCursor : State → State → ℕ → Option Scan → Type 0
+MovesCursor old new s cursor = new ≡ put_session old s (map_session (with_cursor cursor) (session_at old s))
+
+-- it has this cursor now, or none, and by statement it keeps this snapshot, or none; nothing else changes
+abbrev pub HasCursor : State → State → ℕ → Option Scan → Option Snap → Type 0
+HasCursor old new s cursor kept = new ≡ put_session old s (map_session (λ e. with_kept kept (with_cursor cursor e)) (session_at old s))
+
+-- a cursor is opened: by statement the session keeps the snapshot that is taken now
+abbrev pub OpensCursor : State → State → ℕ → Scan → Type 0
+OpensCursor old new s cursor = HasCursor old new s (Some cursor) (Some (snapshot_of old))
 
 -- Beside what the history says of a reply: a read and a refusal leave all as it was, but for a page that an update has pruned;
--- a beginning takes the snapshot of that moment and no id, and an end gives its status to the session's ids, and no others; neither
--- changes a page, nor do savepoints; a return to one aborts the ids that were given since, and no others; a step of a cursor
--- changes that cursor alone; memory is refused only where something has to grow, and never to a prune or the opening of a cursor.
--- (That no read, return, release, closing, commit or abort is refused memory is said by what the history allows.)
+-- a beginning takes no id, and by snapshot the snapshot of that moment, and an end gives its status to the session's ids, and no
+-- others; neither changes a page, nor do savepoints; a return to one aborts the ids that were given since, and no others; a step of
+-- a cursor changes that cursor alone, but by statement a snapshot is kept from its opening to its closing; memory is refused only
+-- where something has to grow, and never to a prune, a beginning by statement or the opening of a cursor by snapshot. (That no read,
+-- return, release, closing, commit or abort is refused memory is said by what the history allows.)
 abbrev pub Exact : State → Step → Reply → State → Type 0
-Exact old (step.Begin s) reply.Done new = Opens old new s (snapshot_of old)
+Exact old (step.Begin s) reply.Done new = Opens old new s (BySnapshot (snapshot_of old))
 Exact old (step.Begin s) (reply.Refused refusal.NoMemory) new = MustList old × (new ≡ old)
+Exact old (step.BeginReadCommitted s) reply.Done new = Opens old new s (ByStatement None)
+Exact old (step.BeginReadCommitted s) (reply.Refused refusal.NoMemory) new = ⊥
 Exact old (step.Insert s row) reply new = ExactInsert old s (row_of row) reply new
 Exact old (step.Update s row) reply new = ExactUpdate old s (row_of row) reply new
 Exact old (step.Delete s key) reply new = ExactDelete old s key reply new
@@ -113,15 +129,15 @@ Exact old (step.Savepoint s) reply.Done new = SessionBecomes old new s SetsSavep
 Exact old (step.Savepoint s) (reply.Refused refusal.NoMemory) new = MustNote old s × (new ≡ old)
 Exact old (step.RollbackTo s) reply.Done new = RollsBack old new s
 Exact old (step.Release s) reply.Done new = SessionBecomes old new s Releases
-Exact old (step.OpenIndex s index low high) reply.Done new = HasCursor old new s (Some (Index (record { index = index; low = low; high = high; last = None })))
+Exact old (step.OpenIndex s index low high) reply.Done new = OpensCursor old new s (Index (record { index = index; low = low; high = high; last = None }))
 Exact old (step.OpenIndex s index low high) (reply.Refused refusal.NoSuchIndex) new = (engine_index old index ≡ None) × (new ≡ old)
 Exact old (step.OpenIndex s index low high) (reply.Refused refusal.BadBounds) new = IsSome (engine_index old index) × (new ≡ old)
-Exact old (step.OpenIndex s index low high) (reply.Refused refusal.NoMemory) new = ⊥
-Exact old (step.OpenHeap s) reply.Done new = HasCursor old new s (Some (Heap heap_start))
-Exact old (step.OpenHeap s) (reply.Refused refusal.NoMemory) new = ⊥
+Exact old (step.OpenIndex s index low high) (reply.Refused refusal.NoMemory) new = MustKeep old s × (new ≡ old)
+Exact old (step.OpenHeap s) reply.Done new = OpensCursor old new s (Heap heap_start)
+Exact old (step.OpenHeap s) (reply.Refused refusal.NoMemory) new = MustKeep old s × (new ≡ old)
 Exact old (step.Next s n) (reply.Rows rows) new = HandsOut old new s n rows.items
 Exact old (step.Next s n) reply.End new = new ≡ old
-Exact old (step.Close s) reply.Done new = HasCursor old new s None
+Exact old (step.Close s) reply.Done new = HasCursor old new s None None
 Exact old (step.Commit s) reply.Committed new = Closes old new s status.Committed
 Exact old (step.Commit s) reply.RolledBack new = Closes old new s status.Aborted
 Exact old (step.Abort s) reply.RolledBack new = Closes old new s status.Aborted

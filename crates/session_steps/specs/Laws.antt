@@ -14,7 +14,7 @@ use Rattle.tuple_header.specs.IndexValue.{value_in}
 use Rattle.history.specs.History.{Write, Transaction, committed, reading}
 use Rattle.history.specs.World.{World, OpenSession, joined, start_now, view}
 use Rattle.session_steps.specs.declared.session.Session.{Session}
-use Rattle.session_steps.specs.State.{State, session_at, owns_of, horizon_of}
+use Rattle.session_steps.specs.State.{State, session_at, statement_snapshot, kept_by, kept_xmin, owns_of, horizon_of}
 use Rattle.session_steps.specs.Agrees.{Agrees}
 
 -- a version that the reader sees stands in a chain to which an entry of this value and this key leads, in the index of this
@@ -34,10 +34,10 @@ FindsAtEach h s n history start [] levels = Unit {0}
 FindsAtEach h s n history start (before ∷ saved) [] = ⊥
 FindsAtEach h s n history start (before ∷ saved) (since ∷ levels) = FindsRows h s before n (reading history start (joined levels)) × FindsAtEach h s n history start saved levels
 
--- an open session finds its view, and could return to each savepoint
+-- a statement of an open session finds its view, and it could return to each savepoint
 pub record FindsLevels (h : HeapView) (n : ℕ) (history : List Transaction) (e : Session) (m : OpenSession) : Type 0 where
-  pub now : FindsRows h e.snapshot e.own.ids n (view history m)
-  pub saved : FindsAtEach h e.snapshot n history (start_now history m) e.own.saved m.levels
+  pub now : FindsRows h (statement_snapshot h.statuses e.isolation) e.own.ids n (view history m)
+  pub saved : FindsAtEach h (statement_snapshot h.statuses e.isolation) n history (start_now history m) e.own.saved m.levels
 
 -- Each open session finds its view through each index in use, as it is and as it was at each savepoint, and one that would
 -- begin now finds what is committed.
@@ -46,13 +46,13 @@ ViewsByIndex = (st : State) (w : World) → Agrees st w → (n : ℕ) → IsInUs
     → ((s : ℕ) (e : Session) (m : OpenSession) → session_at st s ≡ Some e → w.session s ≡ Some m → FindsLevels st.heap n w.history e m)
     × FindsRows st.heap (taken (next_id st.heap.statuses) (owns_of st.sessions)) [] n (committed w.history (length w.history))
 
--- what the open sessions have: the xmin of each one's snapshot, and all its ids
+-- what the open sessions have: the xmin of the snapshot that each keeps, if it keeps one, and all its ids
 abbrev pub all_held : List (Option Session) → List ℕ
 all_held [] = []
 all_held (None ∷ sessions) = all_held sessions
-all_held (Some e ∷ sessions) = (e.snapshot.xmin ∷ e.own.ids) ++ all_held sessions
+all_held (Some e ∷ sessions) = (kept_xmin (kept_by e.isolation) ++ e.own.ids) ++ all_held sessions
 
--- The horizon, for which each session's first id is asked alone, is the earliest of the next id, each snapshot's xmin and all
+-- The horizon, for which each session's first id is asked alone, is the earliest of the next id, each kept snapshot's xmin and all
 -- open ids.
 abbrev pub HorizonIsEarliest : Type 0
 HorizonIsEarliest = (st : State) (w : World) → Agrees st w → IsEarliest st.heap.statuses (next_id st.heap.statuses) (all_held st.sessions) (horizon_of st)

@@ -1,7 +1,7 @@
 -- An engine as its callers see it, and what its readers see of it.
 use Rattle.std.specs.Prelude.{ℕ, ◌+◌, ◌*◌, true, List, [], ◌∷◌, ◌++◌, take, Option, Some, None, slice_get, slice_set}
 use Rattle.std.specs.Option.{option_map, option_flatten}
-use Rattle.snapshot.specs.Snap.{Sees, earliest}
+use Rattle.snapshot.specs.Snap.{Snap, Sees, earliest, empty_at}
 use Rattle.commit_status.specs.Window.{Window, next_id}
 use Rattle.visibility.specs.Visible.{state_of}
 use Rattle.page_slots.specs.declared.slot.Slot.{Slot}
@@ -17,6 +17,8 @@ use Rattle.calls.specs.declared.reply.Refusal.TheVariants as refusal
 use Rattle.calls.specs.Bars.{SessionLooks}
 use Rattle.refinement.specs.Heap as relation
 use Rattle.session_steps.specs.declared.session.Session.{Session}
+use Rattle.session_steps.specs.declared.session.SessionIsolation.{SessionIsolation}
+use Rattle.session_steps.specs.declared.session.SessionIsolation.TheVariants.{BySnapshot, ByStatement}
 use Rattle.index_lookup.specs.declared.index_scan.IndexPosition.{IndexPosition}
 use Rattle.table_scans.specs.declared.progress.Scan.{Scan}
 use Rattle.table_scans.specs.declared.progress.Scan.TheVariants.{Index, Heap}
@@ -43,6 +45,44 @@ bits_of Nothing = 0
 bits_of AllVisible = 1
 bits_of AllFrozen = 2
 
+-- Snapshots.
+
+-- it reads each statement by a snapshot of its own
+abbrev pub IsByStatement : SessionIsolation → Type 0
+IsByStatement (BySnapshot snap) = ⊥
+IsByStatement (ByStatement kept) = Unit {0}
+
+-- the snapshot that a session keeps from step to step, if it keeps one: that of its beginning, or that of its cursor's opening
+abbrev pub kept_by : SessionIsolation → Option Snap
+kept_by (BySnapshot snap) = Some snap
+kept_by (ByStatement kept) = kept
+
+-- what a statement is lent, if it does not read by the snapshot of the session's beginning: the snapshot that lists nobody, at the
+-- next id. It counts each id that has committed (`ListingNobodyCountsCommitted`)
+abbrev pub lent_to : Window → SessionIsolation → Option Snap
+lent_to w (BySnapshot snap) = None
+lent_to w (ByStatement kept) = Some (empty_at (next_id w))
+
+-- the snapshot by which a statement reads
+abbrev pub statement_snapshot : Window → SessionIsolation → Snap
+statement_snapshot w (BySnapshot snap) = snap
+statement_snapshot w (ByStatement kept) = empty_at (next_id w)
+
+-- and that by which the session's cursor does
+abbrev pub cursor_snapshot : Window → SessionIsolation → Snap
+cursor_snapshot w (BySnapshot snap) = snap
+cursor_snapshot w (ByStatement (Some snap)) = snap
+cursor_snapshot w (ByStatement None) = empty_at (next_id w)
+
+-- by statement the session keeps this from now on
+abbrev pub keeping : Option Snap → SessionIsolation → SessionIsolation
+keeping kept (BySnapshot snap) = BySnapshot snap
+keeping kept (ByStatement old) = ByStatement kept
+
+abbrev pub isolation_seen : SessionIsolation → relation.SeenIsolation
+isolation_seen (BySnapshot snap) = relation.seen_by_snapshot snap
+isolation_seen (ByStatement kept) = relation.seen_by_statement kept
+
 -- how far the cursor has got, as the relation has it
 abbrev pub seen_position : Option IndexPosition → Option relation.RowPosition
 seen_position None = None
@@ -54,7 +94,7 @@ position_of (Some (Index span)) = Some (relation.in_index span.index span.low sp
 position_of (Some (Heap from)) = Some (relation.in_heap from)
 
 abbrev pub reader_of : Session → relation.SeenSession
-reader_of e = record { snapshot = e.snapshot; own = e.own.ids; saved = e.own.saved; failed = e.failed; cursor = position_of e.cursor }
+reader_of e = record { isolation = isolation_seen e.isolation; own = e.own.ids; saved = e.own.saved; failed = e.failed; cursor = position_of e.cursor }
 
 -- what readers see of these slots, ids and sessions
 abbrev pub seen_in : List (List Slot) → Window → List (Option Session) → relation.Heap
@@ -75,16 +115,21 @@ owns_of [] = []
 owns_of (None ∷ sessions) = owns_of sessions
 owns_of (Some e ∷ sessions) = e.own.ids ∷ owns_of sessions
 
--- what an open session holds the horizon back to: its snapshot's xmin, and its first id
+-- the xmin of a snapshot that is kept
+abbrev pub kept_xmin : Option Snap → List ℕ
+kept_xmin None = []
+kept_xmin (Some snap) = snap.xmin ∷ []
+
+-- what an open session holds the horizon back to: the xmin of the snapshot that it keeps, if it keeps one, and its first id
 abbrev pub holds_back : Session → List ℕ
-holds_back e = e.snapshot.xmin ∷ take 1 e.own.ids
+holds_back e = kept_xmin (kept_by e.isolation) ++ take 1 e.own.ids
 
 abbrev pub held_back : List (Option Session) → List ℕ
 held_back [] = []
 held_back (None ∷ sessions) = held_back sessions
 held_back (Some e ∷ sessions) = holds_back e ++ held_back sessions
 
--- The horizon: the earliest of all that open sessions hold back, and the next id. No open snapshot, nor one that is taken
+-- The horizon: the earliest of all that open sessions hold back, and the next id. No snapshot that is kept, nor one that is taken
 -- later, misses what committed before it. (The manual's "Routine Vacuuming"; GetOldestNonRemovableTransactionId.)
 abbrev pub horizon_of : State → ℕ
 horizon_of st = earliest (next_id st.heap.statuses) (held_back st.sessions)
@@ -104,6 +149,9 @@ map_session f o = option_map f o
 
 abbrev pub with_cursor : Option Scan → Session → Session
 with_cursor cursor e = record e { cursor = cursor }
+
+abbrev pub with_kept : Option Snap → Session → Session
+with_kept kept e = record e { isolation = keeping kept e.isolation }
 
 abbrev pub failed_session : Session → Session
 failed_session e = record e { failed = true }

@@ -2,23 +2,24 @@
 use Rattle.std.specs.Prelude.{◌≡◌, List, Some}
 use Rattle.xid_circle.specs.Numbers.{SessionNo, Count}
 use Rattle.tuple_header.specs.declared.version.Row.{Row}
+use Rattle.snapshot.specs.Snap.{Snap}
 use Rattle.visibility.specs.Visible.{IsVisible}
 use Rattle.visibility.specs.declared.reader.Reader.{Reader}
 use Rattle.table_scans.specs.declared.progress.Scan.{Scan}
 use Rattle.table_scans.specs.Scans.{Sight}
 use Rattle.table_scans.specs.Takes as scans
 use Rattle.session_steps.specs.declared.session.Session.{Session}
-use Rattle.session_steps.specs.State.{State, session_at, put_session, with_cursor}
+use Rattle.session_steps.specs.State.{State, session_at, cursor_snapshot, put_session, with_cursor}
 
--- the reader is the session
-pub record ReadsAs (st : State) (e : Session) (r : Reader) : Type 0 where
-  pub snapshot : r.snapshot.now ≡ e.snapshot
+-- the reader is the session, by this snapshot
+pub record ReadsBy (st : State) (e : Session) (by : Snap) (r : Reader) : Type 0 where
+  pub snapshot : r.snapshot.now ≡ by
   pub own : r.own.now ≡ e.own
   pub statuses : r.statuses.now ≡ st.heap.statuses
 
--- what the session sees of the table
+-- what the session's cursor sees of the table
 abbrev pub session_sight : State → Session → Sight
-session_sight st e = record { heap = st.heap; statuses = st.heap.statuses; sees = IsVisible st.heap.statuses e.snapshot e.own.ids }
+session_sight st e = record { heap = st.heap; statuses = st.heap.statuses; sees = IsVisible st.heap.statuses (cursor_snapshot st.heap.statuses e.isolation) e.own.ids }
 
 -- the session has handed out these rows, as its cursor takes them: that cursor alone moves, behind them
 pub record HandsOutBy (by : Sight → Scan → Count → List Row → Scan → Type 0) (old new : State) (s : SessionNo) (n : Count) (rows : List Row) : Type 0 where

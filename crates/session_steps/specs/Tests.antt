@@ -1,6 +1,6 @@
 -- The tests of a write, in their order. What they look for is found through the index by key.
 use Rattle.table_indexes.specs.Indexes.{entries_in}
-use Rattle.std.specs.Prelude.{◌≡◌, ◌<◌, ℕ, pos, Option, Some, None, false, Contains}
+use Rattle.std.specs.Prelude.{◌≡◌, ◌<◌, ◌≤◌, ℕ, pos, Option, Some, None, false, Contains}
 use Rattle.xid_circle.specs.declared.Tid.{Tid}
 use Rattle.visibility.specs.Visible.{IsVisible, IsOtherWriterIn, IsNewerCommitIn}
 use Rattle.index_lookup.specs.Looking.{FirstPlace, SomeOf}
@@ -8,20 +8,26 @@ use Rattle.heap_write.specs.Heap.{HeapView, slots_of}
 use Rattle.calls.specs.declared.reply.Refusal.{Refusal}
 use Rattle.calls.specs.declared.reply.Refusal.TheVariants as refusal
 use Rattle.session_steps.specs.declared.session.Session.{Session}
-use Rattle.session_steps.specs.State.{State, session_at}
+use Rattle.session_steps.specs.State.{State, session_at, statement_snapshot}
 use Rattle.calls.specs.declared.step.TheConstants.{MOST_SESSIONS}
+
+-- what bars a session from a beginning, by snapshot or by statement
+abbrev pub BarsBegin : State → ℕ → Refusal → Type 0
+BarsBegin st s refusal.NoSuchSession = MOST_SESSIONS ≤ s
+BarsBegin st s refusal.AlreadyOpen = (e : Session) × (session_at st s ≡ Some e)
+BarsBegin st s refusal = ⊥
 
 -- the session is open, has not failed and has no cursor: it may do anything but a step of a cursor
 abbrev pub MayAct : State → ℕ → Session → Type 0
 MayAct st s e = (s < MOST_SESSIONS) × (session_at st s ≡ Some e) × (e.failed ≡ false) × (e.cursor ≡ None)
 
--- the place of the version of the key that the session reads, if it reads one
+-- the place of the version of the key that a statement of the session reads, if it reads one
 abbrev pub FindsPlace : HeapView → Session → ℕ → Option Tid → Type 0
-FindsPlace h e key found = FirstPlace h.statuses (IsVisible h.statuses e.snapshot e.own.ids) (slots_of h) (entries_in h.indexes 0) (pos key) key found
+FindsPlace h e key found = FirstPlace h.statuses (IsVisible h.statuses (statement_snapshot h.statuses e.isolation) e.own.ids) (slots_of h) (entries_in h.indexes 0) (pos key) key found
 
--- a commit that the session does not see wrote the key, by this id
+-- a commit that such a statement does not see wrote the key, by this id
 abbrev pub IsLateBy : HeapView → Session → ℕ → ℕ → Type 0
-IsLateBy h e key x = SomeOf h.statuses (IsNewerCommitIn h.statuses e.snapshot x) (slots_of h) (entries_in h.indexes 0) (pos key) key
+IsLateBy h e key x = SomeOf h.statuses (IsNewerCommitIn h.statuses (statement_snapshot h.statuses e.isolation) x) (slots_of h) (entries_in h.indexes 0) (pos key) key
 
 -- another session has written it, under this id
 abbrev pub IsHeldUnder : HeapView → Session → ℕ → ℕ → Type 0

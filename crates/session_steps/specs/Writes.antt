@@ -16,7 +16,7 @@ use Rattle.session_steps.specs.declared.session.Session.{Session}
 
 -- the session is as it was, though there may be more memory
 pub record SameSession (e e' : Session) : Type 0 where
-  pub snapshot : e'.snapshot ≡ e.snapshot
+  pub isolation : e'.isolation ≡ e.isolation
   pub own : SameOwn e.own e'.own
   pub failed : e'.failed ≡ e.failed
   pub cursor : e'.cursor ≡ e.cursor

@@ -13,14 +13,14 @@ ghost use Rattle.session_steps.specs.New.{IsNew};
 ghost use Rattle.calls.specs.declared.step.TheConstants.{MOST_SESSIONS};
 
 use crate::checked::CheckedSettings;
-use crate::session::Session;
+use crate::session::{SessionIsolation, Session};
 use crate::sessions::Sessions;
 use calls::{Refusal, Settings, SettingsFault};
 use commit_status::Status;
 use heap_write::HeapState;
 use page_slots::Page;
 use root_index::RootIndex;
-use snapshot::{OwnIds, Snapshot};
+use snapshot::OwnIds;
 use space_maps::Mark;
 use std::alloc::Global;
 use std::marker::Model;
@@ -178,14 +178,14 @@ impl SessionEngine {
         }
     }
 
-    /// Opens the session, which sees what its snapshot does.
-    pub(crate) fn open(&mut self, s: u8, snapshot: Snapshot)
+    /// Opens the session, which reads by its snapshot or by statements.
+    pub(crate) fn open(&mut self, s: u8, isolation: SessionIsolation)
         requires within { s < MOST_SESSIONS }
         requires idle { session_at self.old s ≡ None }
-        ensures { Opens self.old self.new s snapshot }
+        ensures { Opens self.old self.new s isolation }
     {
         *self.sessions.place_mut(s) = Some(Session {
-            snapshot,
+            isolation,
             own: OwnIds::new(self.alloc),
             failed: false,
             cursor: None,

@@ -17,7 +17,10 @@ impl SessionEngine {
         ensures { AnswersStep self.now (Step.Get s key) reply.new self.now }
     {
         match self.ready(s) {
-            Ok(session) => put_found(self.heap.row(key, &self.reader(session)), reply),
+            Ok(session) => {
+                let lent = self.lend(session);
+                put_found(self.heap.row(key, &self.reader(session, &lent)), reply)
+            }
             Err(refusal) => *reply = Reply::Refused(refusal),
         }
     }

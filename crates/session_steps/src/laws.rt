@@ -9,8 +9,8 @@ pub fn views_by_index()
     ensures { ViewsByIndex }
 {}
 
-/// The horizon is the earliest of the next id, the xmin of each open snapshot and all open ids, though it is reckoned from the
-/// first id of each session alone. (GetOldestNonRemovableTransactionId in src/backend/storage/ipc/procarray.c.)
+/// The horizon is the earliest of the next id, the xmin of each snapshot that is kept and all open ids, though it is reckoned from
+/// the first id of each session alone. (GetOldestNonRemovableTransactionId in src/backend/storage/ipc/procarray.c.)
 pub fn horizon_is_earliest()
     ensures { HorizonIsEarliest }
 {}

@@ -74,7 +74,7 @@ impl SessionEngine {
         Ok(count)
     }
 
-    /// The next rows of a scan as the session sees them, and what is left of it.
+    /// The next rows of a scan as the session's cursor sees them, and what is left of it.
     fn take(
         &self,
         session: &Session,
@@ -86,7 +86,9 @@ impl SessionEngine {
         ensures refused { OnErr result
             (MeetsSome (session_sight self.now session.now) cursor) }
     {
-        take_next(self.alloc, &self.heap, &self.reader(session), cursor, n)
+        let lent = self.lend(session);
+        let reader = self.cursor_reader(session, &lent);
+        take_next(self.alloc, &self.heap, &reader, cursor, n)
     }
 
     /// Writes them to the first places, and answers how many there are, and what is left.
@@ -95,6 +97,7 @@ impl SessionEngine {
         ensures { PutsNext (session_sight self.now session.now) cursor places.old
             result.0 result.1 places.new }
     {
-        put_next(&self.heap, &self.reader(session), cursor, places)
+        let lent = self.lend(session);
+        put_next(&self.heap, &self.cursor_reader(session, &lent), cursor, places)
     }
 }

@@ -1,6 +1,6 @@
 //! A page is cleaned while sessions go on.
 
-ghost use Rattle.std.specs.Prelude.{◌≡◌};
+ghost use Rattle.std.specs.Prelude.{◌≡◌, take};
 ghost use Rattle.snapshot.specs.Snap.{earliest};
 ghost use Rattle.calls.specs.declared.step.Step.{Step};
 ghost use Rattle.session_steps.specs.State.{held_back, holds_back, horizon_of};
@@ -12,18 +12,25 @@ use crate::outcome::Ack;
 use crate::session::Session;
 use calls::Refusal;
 use heap_write::PruneFault;
-use snapshot::earlier;
+use snapshot::{OwnIds, earlier};
 use xid_circle::Xid;
 
-/// The earlier of an id and those that the session holds back: its snapshot's xmin, and its first id.
+/// The earlier of an id and the first of own ids, if there is one.
+fn earlier_own(own: &OwnIds, x: Xid) -> Xid
+    ensures { result.0 ≡ earliest x.0 (take 1 own.now.ids) }
+{
+    match own.first() {
+        Some(first) => earlier(x, first),
+        None => x,
+    }
+}
+
+/// The earlier of an id and those that the session holds back: the xmin of the snapshot that it keeps, if it keeps one, and its
+/// first id.
 fn hold_back(session: &Session, x: Xid) -> Xid
     ensures { result.0 ≡ earliest x.0 (holds_back session.now) }
 {
-    let held = earlier(x, session.snapshot.xmin());
-    match session.own.first() {
-        Some(first) => earlier(held, first),
-        None => held,
-    }
+    earlier_own(&session.own, session.isolation.earlier_xmin(x))
 }
 
 /// The earliest of the next id and what open sessions hold back.

@@ -30,6 +30,7 @@ impl SessionEngine {
             Step::Get(s, key) => return self.get(s, key, reply),
             Step::Next(s, n) => return self.next_into(s, n, reply),
             Step::Begin(s) => self.begin(s),
+            Step::BeginReadCommitted(s) => self.begin_read_committed(s),
             Step::Insert(s, row) => self.insert(s, row),
             Step::Update(s, row) => self.update(s, row),
             Step::Delete(s, key) => self.delete(s, key),
@@ -55,6 +56,7 @@ impl SessionEngine {
             (λ refusal. BarsOpen (world_sessions w) s refusal) }
     {
         let session = self.open_session(s)?;
-        Ok(copy_of(self.heap.row(key, &self.reader(session))))
+        let lent = self.lend(session);
+        Ok(copy_of(self.heap.row(key, &self.reader(session, &lent))))
     }
 }

@@ -18,7 +18,7 @@ use Rattle.commit_status.proofs.Places.{at-from_place, some-from_is, is-from_som
 use Rattle.commit_status.proofs.Giving.{finished-place}
 use Rattle.commit_status.proofs.Ancestors.{top-before}
 use Rattle.commit_status.proofs.Tables.{window_of, table-dropped}
-use Rattle.snapshot.specs.Snap.{Sees, earliest}
+use Rattle.snapshot.specs.Snap.{Snap, Sees, earliest}
 use Rattle.snapshot.proofs.Sights.{sees-top}
 use Rattle.visibility.specs.Visible.{state_of}
 use Rattle.visibility.specs.Seeing.{IsRunning, Touches}
@@ -52,10 +52,11 @@ use Rattle.refinement.specs.Settling.{ForgetsIds}
 use Rattle.refinement.proofs.ForgettingLemmas.{Agrees-forgets}
 use Rattle.calls.specs.declared.vacuum.Mode.TheVariants.{Aggressive}
 use Rattle.session_steps.specs.declared.session.Session.{Session}
-use Rattle.session_steps.specs.State.{State, session_at, seen, seen_in, reader_of, horizon_of, held_back}
+use Rattle.session_steps.specs.State.{State, session_at, seen, seen_in, reader_of, kept_by, horizon_of, held_back}
 use Rattle.session_steps.specs.Agrees.{SessionKeeps, Agrees, KeepsAllTargets}
 use Rattle.session_steps.proofs.InUse.{agree}
 use Rattle.session_steps.proofs.Owns.{reader-is, reader-at}
+use Rattle.session_steps.proofs.Statements.{kept-at}
 use Rattle.session_steps.proofs.Horizons.{below-xmin}
 use Rattle.vacuum_passes.specs.View.{VacuumView}
 use Rattle.sound_vacuum.specs.Maps.{MapsAreTrue}
@@ -218,37 +219,39 @@ module _ (st : State) (u : Window) (w : World) (v : VacuumView) (agrees : Agrees
       (touch-cases r.header x touch) in
       state-same before u c is iv t up x (given-stays before u c is iv t up x there late)
 
-  forgets-for : (s : ℕ) (e : Session) → session_at st s ≡ Some e → ForgetsFor before u c e.snapshot
-  forgets-for s e at = record {
+  -- who keeps the snapshot
+  abbrev KeptAt : ℕ → Session → Snap → Type 0
+  KeptAt s e snap = (session_at st s ≡ Some e) × (kept_by e.isolation ≡ Some snap)
+
+  forgets-for : (s : ℕ) (e : Session) (snap : Snap) → KeptAt s e snap → ForgetsFor before u c snap
+  forgets-for s e snap kept = record {
     before = is;
     after = iv;
     truncates = t;
     upto = up;
-    low = let a = low in let b = below-xmin st w agrees s e at in omega (arith, a, b);
+    low = let a = low in let b = below-xmin st w agrees s e snap kept.0 kept.1 in omega (arith, a, b);
   }
 
-  sight-by : (s : ℕ) (e : Session) → session_at st s ≡ Some e → (x : ℕ) (status : Status) → status ≢ Aborted → state_of u x ≡ Some status → Sees e.snapshot before x ↔ Sees e.snapshot u x
-  sight-by s e at x InProgress ended now =
+  sight-by : (s : ℕ) (e : Session) (snap : Snap) → KeptAt s e snap → (x : ℕ) (status : Status) → status ≢ Aborted → state_of u x ≡ Some status → Sees snap before x ↔ Sees snap u x
+  sight-by s e snap kept x InProgress ended now =
       let there = (state-some u x InProgress now).0 in
       let running : IsRunning (state_of before) x = sym (state-same before u c is iv t up x there) ∙ now in
       let by = agrees.found.owned x running in
       let o = reader-at st by.0 by.1 by.2 in
       let top = own-top by.0 o.0 o.1 x (subst (λ (r : relation.SeenSession). Contains r.own x) (sym o.2) by.3) in
-      (sees-top e.snapshot u before x top, sees-top e.snapshot before u x (sym top))
-  sight-by s e at x Committed ended now =
+      (sees-top snap u before x top, sees-top snap before u x (sym top))
+  sight-by s e snap kept x Committed ended now =
       let k = state-some u x Committed now in
       let known = stays-known before u c x is iv t up k.0 in
-      same-sight before u c e.snapshot (forgets-for s e at) (agrees.sound.sessions s e at).snapshot x k.0 (agrees.sound.tops x (sym known.1 ∙ k.1))
-  sight-by s e at x Aborted ended now = absurd (ended refl)
+      same-sight before u c snap (forgets-for s e snap kept) ((agrees.sound.sessions s e kept.0).snapshot snap kept.1) x k.0 (agrees.sound.tops x (sym known.1 ∙ k.1))
+  sight-by s e snap kept x Aborted ended now = absurd (ended refl)
 
   forgets-ids : ForgetsIds (seen st) (state_of u) (λ s x. Sees s u x)
   forgets-ids = record {
     each = state-cases before u c is iv t up;
     touched = touched;
     active = λ x running. state-same before u c is iv t up x (active-stays x (active-to before x running));
-    sight = λ s r at x status ended now.
-        let e = reader-at st s r at in
-        subst (λ (r : relation.SeenSession). Sees r.snapshot before x ↔ Sees r.snapshot u x) e.2 (sight-by s e.0 e.1 x status ended now);
+    sight = λ snap kept x status ended now. let k = kept-at st snap kept in sight-by k.0 k.1 snap (k.2, k.3) x status ended now;
   }
 
   found : relation_agrees.HeapAgrees (seen_in pages u st.sessions) w
@@ -258,7 +261,8 @@ module _ (st : State) (u : Window) (w : World) (v : VacuumView) (agrees : Agrees
   session-keeps s e at =
       let k = agrees.sound.sessions s e at in
       record {
-        snapshot = window-kept before u c e.snapshot (forgets-for s e at) k.snapshot;
+        snapshot = λ snap kept. window-kept before u c snap (forgets-for s e snap (at, kept)) (k.snapshot snap kept);
+        for_cursor = k.for_cursor;
         topmost = λ x mine. k.topmost x mine ∙ ap Some (sym (own-top s e at x mine));
         prefixes = k.prefixes;
         distinct = k.distinct;

@@ -1,35 +1,31 @@
-use Rattle.std.proofs.Common.{rules, subst}
-use Rattle.calls.specs.declared.reply.Refusal.{Refusal}
-use Rattle.calls.specs.Bars.{BarsOpen}
-use Rattle.session_steps.proofs.Hindering.{exact-closed}
-use Rattle.session_steps.proofs.Follows.{Follows-begin, Follows-begin_no_memory, Follows-already_open, Follows-closed_begin}
+use Rattle.std.proofs.Common.{rules, subst, ◌≡◌, ℕ}
+use Rattle.snapshot.specs.Snap.{Snap}
+use Rattle.session_steps.specs.declared.session.SessionIsolation.TheVariants.{BySnapshot}
+use Rattle.session_steps.specs.State.{State}
+use Rattle.session_steps.specs.Changes.{Opens}
+use Rattle.session_steps.proofs.Outcomes.{handed-on}
+use Rattle.session_steps.proofs.Hindering.{exact-barred_begin}
+use Rattle.session_steps.proofs.Owns.{now_taken}
+use Rattle.session_steps.proofs.Follows.{Follows-begin, Follows-begin_no_memory, Follows-barred_begin}
 use Rattle.session_steps.proofs.engine.SessionEngine.begin.Goals as goal
-use Rattle.session_steps.specs.State.{engine_sessions}
 
-pub returns-in-Ok-snapshot : goal.returns-in-Ok-snapshot
-returns-in-Ok-snapshot c = record {
-  follows = (
-      let closed = subst (λ (r : Refusal). BarsOpen (engine_sessions c.args.self.now) c.args.s r) c.in-NotOpen.is c.in-Err.ensures in
-      Follows-begin c.args.self.now _ c.args.s c.in-Ok-snapshot.snapshot closed.0 closed.1 c.in-Ok-snapshot.ensures.ok c.open.ensures);
-  exact = search rules;
+pub returns-in_err-may_begin : goal.returns-in_err-may_begin
+returns-in_err-may_begin c = record {
+  follows = rw (handed-on c.from_residual.result c.from_residual.ensures.1) (Follows-barred_begin c.args.self.now c.args.s c.in_err-may_begin.field-0.0 c.in_err-may_begin.ensures);
+  exact = rw (handed-on c.from_residual.result c.from_residual.ensures.1) (exact-barred_begin c.args.self.now c.args.s c.in_err-may_begin.field-0.0 c.in_err-may_begin.ensures);
 }
 
-pub returns-in-Err-snapshot : goal.returns-in-Err-snapshot
-returns-in-Err-snapshot c = record {
-  follows = (
-      let closed = subst (λ (r : Refusal). BarsOpen (engine_sessions c.args.self.now) c.args.s r) c.in-NotOpen.is c.in-Err.ensures in
-      Follows-begin_no_memory c.args.self.now c.args.s closed.0 closed.1);
-  exact = search rules;
-}
+-- it reads by the snapshot that was taken
+taken-now : (st st' : State) (s : ℕ) (snap : Snap) → snap ≡ now_taken st → Opens st st' s (BySnapshot snap) → Opens st st' s (BySnapshot (now_taken st))
+taken-now st st' s snap is opens = subst (λ (t : Snap). Opens st st' s (BySnapshot t)) is opens
 
 pub returns-in-Ok : goal.returns-in-Ok
-returns-in-Ok c = record {
-  follows = Follows-already_open c.args.self.now c.args.s c.in-Ok.field-0.now c.in-Ok.ensures.1;
-  exact = search rules;
-}
+returns-in-Ok c =
+    let opens = taken-now c.args.self.now c.open.new.self c.args.s c.in-Ok.snapshot c.in-Ok.ensures.ok c.open.ensures in
+    record { follows = Follows-begin c.args.self.now _ c.args.s c.in_ok-may_begin.ensures.0 c.in_ok-may_begin.ensures.1 opens; exact = opens }
 
-pub returns-in_default : goal.returns-in_default
-returns-in_default c = record {
-  follows = Follows-closed_begin c.args.self.now c.args.s c.in-Err.refusal c.in_default.not-NotOpen c.in-Err.ensures;
-  exact = exact-closed c.args.self.now c.args.s c.in-Err.refusal c.in-Err.ensures;
+pub returns-in-Err : goal.returns-in-Err
+returns-in-Err c = record {
+  follows = Follows-begin_no_memory c.args.self.now c.args.s c.in_ok-may_begin.ensures.0 c.in_ok-may_begin.ensures.1;
+  exact = search rules;
 }

@@ -11,6 +11,6 @@ returns-in_err-with_cursor c = record {
 
 pub returns : goal.returns
 returns c = record {
-  follows = Follows-closed_cursor c.args.self.now _ c.args.s c.in_ok-with_cursor.field-0.0.now c.in_ok-with_cursor.ensures.1 c.in_ok-with_cursor.ensures.2 (ap is_some c.in_ok-with_cursor.ensures.3) c.move_cursor.ensures;
+  follows = Follows-closed_cursor c.args.self.now _ c.args.s c.in_ok-with_cursor.field-0.0.now c.in_ok-with_cursor.ensures.1 c.in_ok-with_cursor.ensures.2 (ap is_some c.in_ok-with_cursor.ensures.3) c.put_cursor.ensures;
   exact = search rules;
 }

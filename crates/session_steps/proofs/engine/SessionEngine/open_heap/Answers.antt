@@ -1,8 +1,9 @@
-use Rattle.std.proofs.Common.{rules, Some, subst}
+use Rattle.std.proofs.Common.{rules, Some, refl, subst}
 use Rattle.table_scans.specs.declared.progress.Scan.TheVariants.{Heap}
+use Rattle.refinement.specs.Cursors.{heap_start}
 use Rattle.session_steps.specs.Exact.{HasCursor}
 use Rattle.session_steps.proofs.Outcomes.{handed-on}
-use Rattle.session_steps.proofs.CursorSteps.{Follows-barred_open_heap, Follows-opened_heap}
+use Rattle.session_steps.proofs.CursorSteps.{Follows-barred_open_heap, Follows-open_heap_no_memory, Follows-opened_heap, opens-as}
 use Rattle.session_steps.proofs.engine.SessionEngine.open_heap.Goals as goal
 
 pub returns-in_err-free : goal.returns-in_err-free
@@ -11,10 +12,22 @@ returns-in_err-free c = record {
   exact = search rules;
 }
 
+pub returns-in_err-snapshot_to_keep : goal.returns-in_err-snapshot_to_keep
+returns-in_err-snapshot_to_keep c =
+    let e = c.in_ok-free.session.now in
+    let lacks = c.in_err-snapshot_to_keep.ensures.refused in
+    record {
+      follows = rw (handed-on c.from_residual-2.result c.from_residual-2.ensures.1, lacks.0) (Follows-open_heap_no_memory c.args.self.now c.args.s e c.in_ok-free.ensures.1 c.in_ok-free.ensures.2 c.in_ok-free.ensures.3);
+      exact = rw (handed-on c.from_residual-2.result c.from_residual-2.ensures.1, lacks.0) ((e, c.in_ok-free.ensures.1, lacks.1, lacks.2), refl);
+    }
+
 pub returns : goal.returns
 returns c =
-    let moved = subst (λ place. HasCursor c.args.self.now c.move_cursor.new.self c.args.s (Some (Heap place))) c.start_of.ensures c.move_cursor.ensures in
+    let st = c.args.self.now in
+    let e = c.in_ok-free.session.now in
+    let put = subst (λ place. HasCursor st c.put_cursor.new.self c.args.s (Some (Heap place)) c.in_ok-snapshot_to_keep.kept) c.start_of.ensures c.put_cursor.ensures in
+    let opens = opens-as st c.put_cursor.new.self c.args.s e (Heap heap_start) c.in_ok-snapshot_to_keep.kept c.in_ok-free.ensures.1 c.in_ok-snapshot_to_keep.ensures.kept put in
     record {
-      follows = Follows-opened_heap c.args.self.now c.move_cursor.new.self c.args.s c.in_ok-free.field-0.now c.in_ok-free.ensures.1 c.in_ok-free.ensures.2 c.in_ok-free.ensures.3 moved;
-      exact = moved;
+      follows = Follows-opened_heap st c.put_cursor.new.self c.args.s e c.in_ok-free.ensures.1 c.in_ok-free.ensures.2 c.in_ok-free.ensures.3 opens;
+      exact = opens;
     }

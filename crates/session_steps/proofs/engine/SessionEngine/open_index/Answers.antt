@@ -1,11 +1,11 @@
 use Rattle.std.proofs.Common.{rules, ◌≡◌, Some, None, refl, sym, ap, ◌∙◌, subst}
 use Rattle.std.specs.Prelude.{option_copied}
 use Rattle.index_lookup.specs.declared.index_scan.IndexRange.{IndexRange}
-use Rattle.session_steps.specs.State.{State, session_at, engine_index, put_session, map_session, with_cursor}
+use Rattle.session_steps.specs.Exact.{HasCursor}
 use Rattle.table_scans.specs.declared.progress.Scan.TheVariants.{Index}
 use Rattle.session_steps.proofs.InUse.{there-used}
 use Rattle.session_steps.proofs.Outcomes.{handed-on}
-use Rattle.session_steps.proofs.CursorSteps.{Follows-barred_open_index, Follows-no_such_index, Follows-bad_bounds, Follows-opened_index, over-bounds, in-bounds, stored-span}
+use Rattle.session_steps.proofs.CursorSteps.{Follows-barred_open_index, Follows-no_such_index, Follows-bad_bounds, Follows-open_index_no_memory, Follows-opened_index, opens-as, over-bounds, in-bounds, stored-span}
 use Rattle.session_steps.proofs.engine.SessionEngine.open_index.Goals as goal
 
 pub returns-in_err-free : goal.returns-in_err-free
@@ -17,28 +17,42 @@ returns-in_err-free c = record {
 pub returns-in-None : goal.returns-in-None
 returns-in-None c = record {
   follows = (
-      let P : State → Type 0 = λ st. engine_index st c.args.index ≡ None in
-      let none = subst P c.self.view_is (sym c.index.ensures ∙ ap option_copied c.in-None.is) in
-      Follows-no_such_index c.args.self.now c.args.s c.in_ok-free.field-0.now c.args.index c.args.low c.args.high c.in_ok-free.ensures.1 c.in_ok-free.ensures.2 c.in_ok-free.ensures.3 none);
+      let none = sym c.index.ensures ∙ ap option_copied c.in-None.is in
+      Follows-no_such_index c.args.self.now c.args.s c.in_ok-free.session.now c.args.index c.args.low c.args.high c.in_ok-free.ensures.1 c.in_ok-free.ensures.2 c.in_ok-free.ensures.3 none);
   exact = search rules;
 }
 
 pub returns-then-low-high : goal.returns-then-low-high
 returns-then-low-high c = record {
   follows = (
-      let used = there-used _ c.args.self.now c.args.index c.in-Some.field-0.now c.self.view_is (sym c.index.ensures ∙ ap option_copied c.in-Some.is) in
-      Follows-bad_bounds c.args.self.now c.args.s c.in_ok-free.field-0.now c.args.index c.args.low c.args.high c.in_ok-free.ensures.1 c.in_ok-free.ensures.2 c.in_ok-free.ensures.3 used
+      let used = there-used c.args.self.now c.args.self.now c.args.index c.in-Some.field-0.now refl (sym c.index.ensures ∙ ap option_copied c.in-Some.is) in
+      Follows-bad_bounds c.args.self.now c.args.s c.in_ok-free.session.now c.args.index c.args.low c.args.high c.in_ok-free.ensures.1 c.in_ok-free.ensures.2 c.in_ok-free.ensures.3 used
       (over-bounds c.args.low c.args.high c.ranges.low c.ranges.high c.if-low-high.true));
   exact = search rules;
 }
 
+pub returns-in_err-snapshot_to_keep : goal.returns-in_err-snapshot_to_keep
+returns-in_err-snapshot_to_keep c =
+    let used = there-used c.args.self.now c.args.self.now c.args.index c.in-Some.field-0.now refl (sym c.index.ensures ∙ ap option_copied c.in-Some.is) in
+    let e = c.in_ok-free.session.now in
+    let lacks = c.in_err-snapshot_to_keep.ensures.refused in
+    record {
+      follows = rw (handed-on c.from_residual-2.result c.from_residual-2.ensures.1, lacks.0) (Follows-open_index_no_memory c.args.self.now c.args.s e c.args.index c.args.low c.args.high
+          c.in_ok-free.ensures.1 c.in_ok-free.ensures.2 c.in_ok-free.ensures.3 used (in-bounds c.args.low c.args.high c.ranges.low c.ranges.high c.if-low-high.false));
+      exact = rw (handed-on c.from_residual-2.result c.from_residual-2.ensures.1, lacks.0) ((e, c.in_ok-free.ensures.1, lacks.1, lacks.2), refl);
+    }
+
 pub returns : goal.returns
-returns c = record {
-  follows = (
-      let used = there-used _ c.args.self.now c.args.index c.in-Some.field-0.now c.self.view_is (sym c.index.ensures ∙ ap option_copied c.in-Some.is) in
-      let span : IndexRange = record { index = c.args.index; low = c.args.low; high = c.args.high; last = None } in
-      Follows-opened_index c.args.self.now _ c.args.s c.in_ok-free.field-0.now span c.in_ok-free.ensures.1 c.in_ok-free.ensures.2 c.in_ok-free.ensures.3
-      (in-bounds c.args.low c.args.high c.ranges.low c.ranges.high c.if-low-high.false) refl used
-      (c.move_cursor.ensures ∙ ap (λ (sp : IndexRange). put_session c.args.self.now c.args.s (map_session (with_cursor (Some (Index sp))) (session_at c.args.self.now c.args.s))) (stored-span c.args.index c.args.low c.args.high c.ranges.low c.ranges.high)));
-  exact = search rules;
-}
+returns c =
+    let st = c.args.self.now in
+    let e = c.in_ok-free.session.now in
+    let used = there-used st st c.args.index c.in-Some.field-0.now refl (sym c.index.ensures ∙ ap option_copied c.in-Some.is) in
+    let span : IndexRange = record { index = c.args.index; low = c.args.low; high = c.args.high; last = None } in
+    let put = subst (λ (sp : IndexRange). HasCursor st c.put_cursor.new.self c.args.s (Some (Index sp)) c.in_ok-snapshot_to_keep.kept)
+    (stored-span c.args.index c.args.low c.args.high c.ranges.low c.ranges.high) c.put_cursor.ensures in
+    let opens = opens-as st c.put_cursor.new.self c.args.s e (Index span) c.in_ok-snapshot_to_keep.kept c.in_ok-free.ensures.1 c.in_ok-snapshot_to_keep.ensures.kept put in
+    record {
+      follows = Follows-opened_index st _ c.args.s e span c.in_ok-free.ensures.1 c.in_ok-free.ensures.2 c.in_ok-free.ensures.3
+          (in-bounds c.args.low c.args.high c.ranges.low c.ranges.high c.if-low-high.false) refl used opens;
+      exact = opens;
+    }

@@ -1,12 +1,12 @@
-use Rattle.std.proofs.Common.{sym, subst, pos}
+use Rattle.std.proofs.Common.{sym, subst}
 use Rattle.session_steps.proofs.Reading.{reads-view}
+use Rattle.session_steps.proofs.Searches.{RowOf}
 use Rattle.session_steps.proofs.SessionReader.{row-read}
-use Rattle.session_steps.proofs.Walks.{FindsBy}
 use Rattle.session_steps.proofs.engine.SessionEngine.read.Goals as goal
 
 pub returns : goal.returns
 returns c w agrees =
     let e = c.in_ok-session.session.now in
     reads-view c.args.self.now w c.args.s e c.args.key c.copy_of.result agrees c.in_ok-session.ensures.1
-    (subst (FindsBy c.args.self.now e 0 (pos c.args.key) c.args.key) (sym c.copy_of.ensures)
+    (subst (RowOf c.args.self.now e c.args.key) (sym c.copy_of.ensures)
     (row-read _ c.args.self.now e c.reader.result c.self.view_is c.reader.ensures c.args.key c.row.result c.row.ensures))

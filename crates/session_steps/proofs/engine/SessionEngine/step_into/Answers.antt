@@ -10,7 +10,7 @@ use Rattle.session_steps.specs.Replies.{reply_to}
 use Rattle.session_steps.specs.Exact.{AnswersStep}
 use Rattle.session_steps.proofs.CursorSteps.{stored-step}
 use Rattle.session_steps.proofs.engine.SessionEngine.step_into.Goals as goal
-use Rattle.session_steps.proofs.engine.SessionEngine.step_into.Goals.{in-Begin, in-Insert, in-Update, in-Delete, in-Savepoint, in-RollbackTo, in-Release, in-OpenIndex, in-OpenHeap, in-Close, in-Commit, in-Abort, in-Prune}
+use Rattle.session_steps.proofs.engine.SessionEngine.step_into.Goals.{in-Begin, in-BeginReadCommitted, in-Insert, in-Update, in-Delete, in-Savepoint, in-RollbackTo, in-Release, in-OpenIndex, in-OpenHeap, in-Close, in-Commit, in-Abort, in-Prune}
 
 -- of the step that was asked for, and what came of it
 told : {step asked : Step} {answer came : Result Ack Refusal} {new after : State} (P : Step → Result Ack Refusal → State → Type 0) → step ≡ asked → answer ≡ came → new ≡ after → P asked came after → P step answer new
@@ -37,6 +37,7 @@ returns c =
     let B : Step → Type 0 = λ step. HasBounds step in
     let does : P c.args.step c.match-step.answer c.match-step.self = elim c.match-step.branch [
       | in-Begin w ↦ told P w.in-Begin.is w.answer-is w.self-is (w.begin-answer.ensures, refl)
+      | in-BeginReadCommitted w ↦ told P w.in-BeginReadCommitted.is w.answer-is w.self-is (w.begin_read_committed-answer.ensures, refl)
       | in-Insert w ↦ told P w.in-Insert.is w.answer-is w.self-is (w.insert-answer.ensures, refl)
       | in-Update w ↦ told P w.in-Update.is w.answer-is w.self-is (w.update-answer.ensures, refl)
       | in-Delete w ↦ told P w.in-Delete.is w.answer-is w.self-is (w.delete-answer.ensures, refl)
