@@ -55,12 +55,12 @@ ShowsBytes (Some page) old code new =
     ⊎ ((PAGE_BYTES ≤ length old) × (code ≡ number_of_status status.Found) × AreBytesOf page old new)
 
 -- the page of this number, counted from 0, if it is in use
-abbrev pub page_in : State → PageNo → Option PageView
-page_in st number = slice_get st.heap.pages.pages number
+abbrev pub page_numbered : State → PageNo → Option PageView
+page_numbered st number = slice_get st.heap.pages.pages number
 
 abbrev pub page_by : Option Held → PageNo → Option PageView
 page_by None number = None
-page_by (Some held) number = page_in held.engine.core number
+page_by (Some held) number = page_numbered held.engine.core number
 
 abbrev pub ShowsBytesOf : Sandpiper → PageNo → List ℕ → (code : ℕ) → List ℕ → Type 0
 ShowsBytesOf table number old code new = ShowsBytes (page_by (held_by table) number) old code new

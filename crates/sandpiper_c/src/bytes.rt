@@ -3,7 +3,7 @@
 ghost use Rattle.std.specs.Prelude.{◌≡◌};
 ghost use Rattle.page_slots.specs.Faults.{page_fault};
 ghost use Rattle.sandpiper_c.specs.Calls.{StaysAsIs};
-ghost use Rattle.sandpiper_c.specs.Bytes.{number_of_page_fault, slot_of_page_fault, number_of_finding, slot_of_finding, page_in, ShowsBytes, ShowsBytesOf};
+ghost use Rattle.sandpiper_c.specs.Bytes.{number_of_page_fault, slot_of_page_fault, number_of_finding, slot_of_finding, page_numbered, ShowsBytes, ShowsBytesOf};
 
 use crate::database::Sandpiper;
 use crate::status::CallStatus;
@@ -24,7 +24,7 @@ fn put_bytes(page: &Page, bytes: &mut [u8]) -> u32
 
 /// Writes the bytes of the page of this number, if it is in use.
 fn put_bytes_of(engine: &Engine, number: u32, bytes: &mut [u8]) -> u32
-    ensures { ShowsBytes (page_in engine.now.core number) bytes.old result bytes.new }
+    ensures { ShowsBytes (page_numbered engine.now.core number) bytes.old result bytes.new }
 {
     match engine.page(number) {
         Some(page) => put_bytes(page, bytes),
