@@ -2,7 +2,6 @@
 use Rattle.std.proofs.Common.{◌≡◌, ℕ, suc, ◌<◌, ◌≤◌, List, [], ◌∷◌, ◌++◌, length, Option, Some, None, refl, subst, ◌⊎◌, inl, inr, arith}
 use Rattle.std.specs.Prelude.{Contains}
 use Rattle.std.proofs.lemmas.List.Elements.{Contains-append_left, Contains-append_right, Contains-append_cases}
-use Rattle.xid_circle.proofs.Members.{Contains-first, Contains-rest, Contains-cases}
 use Rattle.commit_status.specs.Window.{next_id, place, top_of, turns}
 use Rattle.commit_status.proofs.Places.{at-from_place, some-from_is}
 use Rattle.commit_status.proofs.Ancestors.{top-before}

@@ -7,7 +7,7 @@ use Rattle.tuple_header.specs.Version.{Version}
 use Rattle.commit_status.specs.declared.status.Status.TheVariants.{Committed}
 use Rattle.commit_status.specs.Window.{Window, IsWindow, next_id}
 use Rattle.snapshot.specs.Snap.{Snap, Sees, empty_at}
-use Rattle.visibility.specs.Seeing.{HasCommitted, Reads, VisibleBy, by_itself, by_others}
+use Rattle.visibility.specs.Seeing.{Reads, VisibleBy}
 use Rattle.visibility.specs.Visible.{state_of, ReadsIn, IsVisible, IsNewerCommitIn}
 use Rattle.visibility.proofs.Makers.{state-some}
 use Rattle.visibility.proofs.Statements.{given-before, statement-reads}
@@ -16,7 +16,7 @@ use Rattle.refinement.specs.Visible.{ReaderSees, HasMissed}
 use Rattle.session_steps.specs.declared.session.Session.{Session}
 use Rattle.session_steps.specs.declared.session.SessionIsolation.{SessionIsolation}
 use Rattle.session_steps.specs.declared.session.SessionIsolation.TheVariants.{BySnapshot, ByStatement}
-use Rattle.session_steps.specs.State.{State, session_at, seen, reader_of, isolation_seen, kept_by, lent_to, statement_snapshot, cursor_snapshot, keeping, kept_xmin, IsByStatement}
+use Rattle.session_steps.specs.State.{State, session_at, seen, isolation_seen, kept_by, lent_to, statement_snapshot, cursor_snapshot, keeping, IsByStatement}
 use Rattle.session_steps.proofs.Owns.{reader-at}
 
 -- what a statement of the session sees of the ids, and what its cursor does

@@ -1,4 +1,4 @@
-use Rattle.std.proofs.Common.{rules, ◌≡◌, Some, None, refl, sym, ap, ◌∙◌, subst}
+use Rattle.std.proofs.Common.{rules, Some, None, refl, sym, ap, ◌∙◌, subst}
 use Rattle.std.specs.Prelude.{option_copied}
 use Rattle.index_lookup.specs.declared.index_scan.IndexRange.{IndexRange}
 use Rattle.session_steps.specs.Exact.{HasCursor}
@@ -8,9 +8,9 @@ use Rattle.session_steps.proofs.Outcomes.{handed-on}
 use Rattle.session_steps.proofs.CursorSteps.{Follows-barred_open_index, Follows-no_such_index, Follows-bad_bounds, Follows-open_index_no_memory, Follows-opened_index, opens-as, over-bounds, in-bounds, stored-span}
 use Rattle.session_steps.proofs.engine.SessionEngine.open_index.Goals as goal
 
-pub returns-in_err-free : goal.returns-in_err-free
-returns-in_err-free c = record {
-  follows = rw (handed-on c.from_residual.result c.from_residual.ensures.1) (Follows-barred_open_index c.args.self.now c.args.s c.args.index c.args.low c.args.high c.in_err-free.field-0.0 c.in_err-free.ensures);
+pub returns-in_err-session : goal.returns-in_err-session
+returns-in_err-session c = record {
+  follows = rw (handed-on c.from_residual.result c.from_residual.ensures.1) (Follows-barred_open_index c.args.self.now c.args.s c.args.index c.args.low c.args.high c.in_err-session.field-0.0 c.in_err-session.ensures);
   exact = search rules;
 }
 
@@ -18,7 +18,7 @@ pub returns-in-None : goal.returns-in-None
 returns-in-None c = record {
   follows = (
       let none = sym c.index.ensures ∙ ap option_copied c.in-None.is in
-      Follows-no_such_index c.args.self.now c.args.s c.in_ok-free.session.now c.args.index c.args.low c.args.high c.in_ok-free.ensures.1 c.in_ok-free.ensures.2 c.in_ok-free.ensures.3 none);
+      Follows-no_such_index c.args.self.now c.args.s c.in_ok-session.session.now c.args.index c.args.low c.args.high c.in_ok-session.ensures.1 c.in_ok-session.ensures.2 c.in_ok-session.ensures.3 none);
   exact = search rules;
 }
 
@@ -26,33 +26,33 @@ pub returns-then-low-high : goal.returns-then-low-high
 returns-then-low-high c = record {
   follows = (
       let used = there-used c.args.self.now c.args.self.now c.args.index c.in-Some.field-0.now refl (sym c.index.ensures ∙ ap option_copied c.in-Some.is) in
-      Follows-bad_bounds c.args.self.now c.args.s c.in_ok-free.session.now c.args.index c.args.low c.args.high c.in_ok-free.ensures.1 c.in_ok-free.ensures.2 c.in_ok-free.ensures.3 used
+      Follows-bad_bounds c.args.self.now c.args.s c.in_ok-session.session.now c.args.index c.args.low c.args.high c.in_ok-session.ensures.1 c.in_ok-session.ensures.2 c.in_ok-session.ensures.3 used
       (over-bounds c.args.low c.args.high c.ranges.low c.ranges.high c.if-low-high.true));
   exact = search rules;
 }
 
-pub returns-in_err-snapshot_to_keep : goal.returns-in_err-snapshot_to_keep
-returns-in_err-snapshot_to_keep c =
+pub returns-in_err-kept : goal.returns-in_err-kept
+returns-in_err-kept c =
     let used = there-used c.args.self.now c.args.self.now c.args.index c.in-Some.field-0.now refl (sym c.index.ensures ∙ ap option_copied c.in-Some.is) in
-    let e = c.in_ok-free.session.now in
-    let lacks = c.in_err-snapshot_to_keep.ensures.refused in
+    let e = c.in_ok-session.session.now in
+    let lacks = c.in_err-kept.ensures.refused in
     record {
-      follows = rw (handed-on c.from_residual-2.result c.from_residual-2.ensures.1, lacks.0) (Follows-open_index_no_memory c.args.self.now c.args.s e c.args.index c.args.low c.args.high
-          c.in_ok-free.ensures.1 c.in_ok-free.ensures.2 c.in_ok-free.ensures.3 used (in-bounds c.args.low c.args.high c.ranges.low c.ranges.high c.if-low-high.false));
-      exact = rw (handed-on c.from_residual-2.result c.from_residual-2.ensures.1, lacks.0) ((e, c.in_ok-free.ensures.1, lacks.1, lacks.2), refl);
+      follows = rw (handed-on c.from_residual-in_err-kept.result c.from_residual-in_err-kept.ensures.1, lacks.0) (Follows-open_index_no_memory c.args.self.now c.args.s e c.args.index c.args.low c.args.high
+          c.in_ok-session.ensures.1 c.in_ok-session.ensures.2 c.in_ok-session.ensures.3 used (in-bounds c.args.low c.args.high c.ranges.low c.ranges.high c.if-low-high.false));
+      exact = rw (handed-on c.from_residual-in_err-kept.result c.from_residual-in_err-kept.ensures.1, lacks.0) ((e, c.in_ok-session.ensures.1, lacks.1, lacks.2), refl);
     }
 
 pub returns : goal.returns
 returns c =
     let st = c.args.self.now in
-    let e = c.in_ok-free.session.now in
+    let e = c.in_ok-session.session.now in
     let used = there-used st st c.args.index c.in-Some.field-0.now refl (sym c.index.ensures ∙ ap option_copied c.in-Some.is) in
     let span : IndexRange = record { index = c.args.index; low = c.args.low; high = c.args.high; last = None } in
-    let put = subst (λ (sp : IndexRange). HasCursor st c.put_cursor.new.self c.args.s (Some (Index sp)) c.in_ok-snapshot_to_keep.kept)
+    let put = subst (λ (sp : IndexRange). HasCursor st c.put_cursor.new.self c.args.s (Some (Index sp)) c.in_ok-kept.kept)
     (stored-span c.args.index c.args.low c.args.high c.ranges.low c.ranges.high) c.put_cursor.ensures in
-    let opens = opens-as st c.put_cursor.new.self c.args.s e (Index span) c.in_ok-snapshot_to_keep.kept c.in_ok-free.ensures.1 c.in_ok-snapshot_to_keep.ensures.kept put in
+    let opens = opens-as st c.put_cursor.new.self c.args.s e (Index span) c.in_ok-kept.kept c.in_ok-session.ensures.1 c.in_ok-kept.ensures.kept put in
     record {
-      follows = Follows-opened_index st _ c.args.s e span c.in_ok-free.ensures.1 c.in_ok-free.ensures.2 c.in_ok-free.ensures.3
+      follows = Follows-opened_index st _ c.args.s e span c.in_ok-session.ensures.1 c.in_ok-session.ensures.2 c.in_ok-session.ensures.3
           (in-bounds c.args.low c.args.high c.ranges.low c.ranges.high c.if-low-high.false) refl used opens;
       exact = opens;
     }

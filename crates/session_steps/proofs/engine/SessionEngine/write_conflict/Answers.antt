@@ -13,8 +13,8 @@ returns-in-Some-clause-place c = place-read _ c.args.self.now c.args.session.now
 pub returns-in-Some-owner-clause-place : goal.returns-in-Some-owner-clause-place
 returns-in-Some-owner-clause-place c = place-read _ c.args.self.now c.args.session.now c.reader.result c.self.view_is c.reader.ensures c.args.key c.check_write.result.0.place c.check_write.ensures.place
 
-pub returns-in-None-clause-place : goal.returns-in-None-clause-place
-returns-in-None-clause-place c = place-read _ c.args.self.now c.args.session.now c.reader.result c.self.view_is c.reader.ensures c.args.key c.check_write.result.0.place c.check_write.ensures.place
+pub returns-clause-place : goal.returns-clause-place
+returns-clause-place c = place-read _ c.args.self.now c.args.session.now c.reader.result c.self.view_is c.reader.ensures c.args.key c.check_write.result.0.place c.check_write.ensures.place
 
 pub returns-in-Some-clause-write_conflict : goal.returns-in-Some-clause-write_conflict
 returns-in-Some-clause-write_conflict c =
@@ -23,8 +23,8 @@ returns-in-Some-clause-write_conflict c =
     let newer_commit = late-read _ c.args.self.now e c.reader.result c.self.view_is c.reader.ensures c.args.key c.check_write.result.0.newer_commit c.check_write.ensures.newer_commit in
     record { id = c.in-Some.field-0.0; late = subst (λ (o : Option Xid). Misses h e c.args.key o) c.in-Some.is newer_commit }
 
-pub returns-in-None-clause-write_conflict : goal.returns-in-None-clause-write_conflict
-returns-in-None-clause-write_conflict c =
+pub returns-clause-write_conflict : goal.returns-clause-write_conflict
+returns-clause-write_conflict c =
     let e = c.args.session.now in
     let h = c.args.self.now.heap in
     let newer_commit = late-read _ c.args.self.now e c.reader.result c.self.view_is c.reader.ensures c.args.key c.check_write.result.0.newer_commit c.check_write.ensures.newer_commit in
