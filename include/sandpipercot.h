@@ -226,6 +226,29 @@ struct sandpiper_slot {
 /* Slot number 1, 2, .. of a page, counted from 0: FOUND or NO_ROW. */
 uint32_t sandpiper_slot_at(struct sandpiper *table, uint32_t page, uint16_t number, struct sandpiper_slot *slot);
 
+/* The bytes of a page are in PostgreSQL's layout (docs/format.md), so that a tool can look into one as pageinspect does. */
+#define SANDPIPER_PAGE_BYTES 8192
+
+/* Writes the bytes of a page, counted from 0, to the first 8192 of `length`: FOUND; NO_ROW where the page is not in use; NO_PLACE where
+ * `length` is less. */
+uint32_t sandpiper_page_bytes(struct sandpiper *table, uint32_t page, uint8_t *bytes, size_t length);
+
+/* What is wrong with bytes, as those of a page: the first that holds, in this order. Of slots the lowest is named. */
+enum sandpiper_page_fault {
+    SANDPIPER_PAGE_SOUND = 0,    /* nothing is */
+    SANDPIPER_PAGE_LENGTH = 1,   /* there are not 8192 */
+    SANDPIPER_PAGE_HEADER = 2,   /* the checksum, the flags, the special space, the size and version, or the id to prune at */
+    SANDPIPER_PAGE_BOUNDS = 3,   /* pd_lower or pd_upper */
+    SANDPIPER_PAGE_POINTER = 4,  /* the pointer of a slot */
+    SANDPIPER_PAGE_TUPLE = 5,    /* the version in a slot */
+    SANDPIPER_PAGE_REDIRECT = 6, /* a slot leads to no heap-only version */
+    SANDPIPER_PAGE_OVERLAP = 7   /* the version in a slot lies over that of a lower one */
+};
+
+/* Checks bytes from anywhere, and answers what is wrong first, no status. The slot that has it is written to `slot`, or 0. It needs no
+ * table. */
+uint32_t sandpiper_check_page(const uint8_t *bytes, size_t length, uint32_t *slot);
+
 /* A status in words: one sentence, which lasts as long as the program. */
 static inline const char *sandpiper_words(uint32_t status) {
     switch (status) {

@@ -13,7 +13,8 @@ sandpipercot.h, which says more of each call.
 """
 from __future__ import annotations
 
-from ._c import BODY, SAVEPOINTS, SESSIONS, VERSION
+from ._c import BODY, PAGE_BYTES, SAVEPOINTS, SESSIONS, VERSION
+from .pages import FaultKind, PageFault, check_page
 from .rows import Row
 from .sessions import Cursor, Session
 from .statuses import (
@@ -56,6 +57,7 @@ __version__ = ".".join(map(str, VERSION))
 
 __all__ = [
     "BODY",
+    "PAGE_BYTES",
     "SAVEPOINTS",
     "SESSIONS",
     "VERSION",
@@ -72,6 +74,7 @@ __all__ = [
     "Cursor",
     "CursorOpen",
     "Failed",
+    "FaultKind",
     "HasEngine",
     "Kind",
     "NeedsFreeze",
@@ -88,6 +91,7 @@ __all__ = [
     "NotOpen",
     "NotThere",
     "Page",
+    "PageFault",
     "Piece",
     "PieceKind",
     "Refused",
@@ -102,4 +106,5 @@ __all__ = [
     "TooLarge",
     "Vacuum",
     "VacuumRunning",
+    "check_page",
 ]

@@ -8,6 +8,7 @@ from ctypes import Structure, c_bool, c_int64, c_size_t, c_uint8, c_uint16, c_ui
 from typing import Any, Callable, Dict, List
 
 SESSIONS = 64  # sessions are numbered from 0 to 63
+PAGE_BYTES = 8192
 SAVEPOINTS = 32  # that a session may have at a time
 BODY = 1024  # bytes of the longest body
 
@@ -85,6 +86,8 @@ ARGUMENTS: Dict[str, List[Any]] = {
     "vacuum_begin": [POINTER, c_bool],
     "vacuum_step": [POINTER, POINTER],
     "vacuum_cancel": [POINTER],
+    "page_bytes": [POINTER, c_uint32, POINTER, c_size_t],
+    "check_page": [POINTER, c_size_t, POINTER],
     "slot_at": [POINTER, c_uint32, c_uint16, POINTER],
     "page_at": [POINTER, c_uint32, POINTER],
     "state": [POINTER, POINTER],

@@ -57,12 +57,14 @@ def main() -> None:
     assert {it.name: it.value for it in sp.Status} == statuses, statuses
     assert {it.name: it.value for it in sp.Kind} == enumeration(header, "sandpiper_kind")
     assert {it.name: it.value for it in sp.PieceKind} == enumeration(header, "sandpiper_piece_kind")
+    faults = {"PAGE_SOUND": 0, **{"PAGE_" + it.name: it.value for it in sp.FaultKind}}
+    assert faults == enumeration(header, "sandpiper_page_fault"), faults
     answered: Set[str] = set(pathlib.Path(sys.argv[2]).read_text().split())
     assert answered == set(statuses), answered ^ set(statuses)
 
     defines = dict(re.findall(r"#define SANDPIPER_(\w+) \"?([\d.]+)", header))
     major, minor = map(str, sp.VERSION)
-    ours = {"SESSIONS": str(sp.SESSIONS), "SAVEPOINTS": str(sp.SAVEPOINTS), "BODY": str(sp.BODY)}
+    ours = {"SESSIONS": str(sp.SESSIONS), "SAVEPOINTS": str(sp.SAVEPOINTS), "BODY": str(sp.BODY), "PAGE_BYTES": str(sp.PAGE_BYTES)}
     ours.update(VERSION=sp.__version__, VERSION_MAJOR=major, VERSION_MINOR=minor)
     assert defines == ours, defines
     assert f'version = "{sp.__version__}"' in (ROOT / "python/pyproject.toml").read_text()
