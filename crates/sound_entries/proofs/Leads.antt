@@ -1,5 +1,5 @@
 -- One entry leads to each version that isn't undone, so that what is found by the index is what is found on the heap.
-use Rattle.std.proofs.Common.{◌≡◌, ◌↔◌, ℕ, ℤ, List, Some, refl, sym, ap, ◌∙◌, subst, ⊎_elim}
+use Rattle.std.proofs.Common.{◌≡◌, ◌↔◌, ◌⊎◌, ℕ, ℤ, List, Option, Some, None, refl, sym, ap, ◌∙◌, subst, ⊎_elim}
 use Rattle.std.specs.List.{Contains}
 use Rattle.std.proofs.lemmas.Bool.{cases_Bool}
 use Rattle.xid_circle.specs.declared.Tid.{Tid}
@@ -18,12 +18,13 @@ use Rattle.visibility.specs.Visible.{ReadsIn, IsVisible}
 use Rattle.sound_page.specs.Sound.{IsIn, SoundPage, SomeRoot}
 use Rattle.sound_page.proofs.Links.{SomeVersion, member-version}
 use Rattle.sound_page.proofs.ChainPlaces.{place-of}
-use Rattle.sound_page.proofs.SoundChains.{entry-root, in-leads}
+use Rattle.sound_page.proofs.SoundChains.{in-leads}
 use Rattle.tuple_writes.proofs.Growth.{entry-normal}
 use Rattle.index_nodes.specs.declared.entry.Entry.{Entry}
+use Rattle.index_nodes.specs.Sets.{IsOf}
 use Rattle.index_lookup.specs.Pages.{slots_on, version_in}
-use Rattle.sound_entries.specs.Entries.{EntriesAreSound}
-use Rattle.sound_entries.specs.Leading.{IsUndone, HasOneEntry, IsOnHeap, IsByIndex}
+use Rattle.sound_entries.specs.Entries.{IsExcused, SomeEntry, EntriesAreSound}
+use Rattle.sound_entries.specs.Leading.{IsUndone, SeesNoExcused, HasOneEntry, IsOnHeap, IsByIndex}
 
 -- On one page.
 
@@ -55,17 +56,24 @@ seen-made w R t none seen undone = ⊎_elim (λ frozen. undone.thawed frozen) (�
 
 -- On all pages.
 
-module _ (value_of : Row → ℤ) (w : Window) (horizon : ℕ) (pages : List (List Slot)) (entries : List Entry) (sound : EntriesAreSound value_of w horizon pages entries) where
-  pub led_by_one : (p : Tid) (t : Version) → version_in pages p ≡ Some t → ¬ IsUndone w t.header → HasOneEntry w pages entries p (value_of t.row) t.row.key
-  led_by_one p t at done =
+module _ (value_of : Row → ℤ) (since : Option ℕ) (w : Window) (horizon : ℕ) (pages : List (List Slot)) (entries : List Entry) (sound : EntriesAreSound value_of since w horizon pages entries) where
+  led-or : (p : Tid) (t : Version) → ¬ IsExcused w since t → IsExcused w since t ⊎ SomeEntry entries p → SomeEntry entries p
+  led-or p t needed led = ⊎_elim (λ excused. absurd (needed excused)) (λ some. some) led
+
+  of-or : (e : Entry) (t : Version) → ¬ IsExcused w since t → IsExcused w since t ⊎ IsOf (value_of t.row) t.row.key e → IsOf (value_of t.row) t.row.key e
+  of-or e t needed alike = ⊎_elim (λ excused. absurd (needed excused)) (λ of. of) alike
+
+  pub led_by_one : (p : Tid) (t : Version) → version_in pages p ≡ Some t → ¬ IsUndone w t.header → ¬ IsExcused w since t → HasOneEntry w pages entries p (value_of t.row) t.row.key
+  led_by_one p t at done needed =
       let slots = slots_on pages p.page in
       let r = root-of w horizon slots p.slot t (sound.heap p.page) at done in
-      let s = sound.index.led (record { page = p.page; slot = r.root }) (entry-root slots r.root r.leads.entry r.leads.leads) in
+      let root : Tid = record { page = p.page; slot = r.root } in
+      let s = led-or root t needed (sound.index.led root p.slot t r.leads at) in
       let page : p.page ≡ s.entry.tid.page = sym (ap (λ (q : Tid). q.page) s.at) in
       let chain = subst (λ (q : Tid). IsIn w (slots_on pages q.page) q.slot p.slot) (sym s.at) r.leads in
       record {
         entry = s.entry;
-        of = sound.index.alike s.entry p.slot t s.there chain (ap (λ n. version_at (slots_on pages n) p.slot) (sym page) ∙ at);
+        of = of-or s.entry t needed (sound.index.alike s.entry p.slot t s.there chain (ap (λ n. version_at (slots_on pages n) p.slot) (sym page) ∙ at));
         leads = record { there = s.there; page = page; chain = chain };
         only = λ f l.
             let here = subst (λ n. IsIn w (slots_on pages n) f.tid.slot p.slot) (sym l.page) l.chain in
@@ -73,29 +81,32 @@ module _ (value_of : Row → ℤ) (w : Window) (horizon : ℕ) (pages : List (Li
             sound.index.one f s.entry l.there s.there (same-tid f.tid s.entry.tid (sym l.page ∙ page) slot);
       }
 
-  -- what P says only of versions that were made is found by the index exactly where it is found on the heap
-  pub found : (P : Version → Type 0) → ((p : Tid) (t : Version) → version_in pages p ≡ Some t → P t → ¬ IsUndone w t.header)
+  -- what P says only of versions that were made, and are not excused, is found by the index exactly where it is found on the heap
+  pub found : (P : Version → Type 0) → ((p : Tid) (t : Version) → version_in pages p ≡ Some t → P t → (¬ IsUndone w t.header) × (¬ IsExcused w since t))
       → (value : ℤ) (key : ℕ) (p : Tid) (t : Version) → IsOnHeap value_of pages value key P p t ↔ IsByIndex w pages entries value key P p t
   found P made value key p t = (
     (λ h.
-        let l = led_by_one p t h.there (made p t h.there h.has) in
+        let is = made p t h.there h.has in
+        let l = led_by_one p t h.there is.0 is.1 in
         record { entry = l.entry; of = (l.of.0 ∙ h.of_value, l.of.1 ∙ h.of_key); leads = l.leads; there = h.there; has = h.has }),
     (λ i.
         let at = ap (λ n. version_at (slots_on pages n) p.slot) (sym i.leads.page) ∙ i.there in
-        let of = sound.index.alike i.entry p.slot t i.leads.there i.leads.chain at in
+        let of = of-or i.entry t (made p t i.there i.has).1 (sound.index.alike i.entry p.slot t i.leads.there i.leads.chain at) in
         record { there = i.there; of_value = sym of.0 ∙ i.of.0; of_key = sym of.1 ∙ i.of.1; has = i.has }),
   )
 
-  pub visible-found : (s : Snap) (own : List ℕ) → ((x : ℕ) → Contains own x → IsActive w x) → (value : ℤ) (key : ℕ) (p : Tid) (t : Version)
+  pub visible-found : (s : Snap) (own : List ℕ) → ((x : ℕ) → Contains own x → IsActive w x) → SeesNoExcused w since s own → (value : ℤ) (key : ℕ) (p : Tid) (t : Version)
       → IsOnHeap value_of pages value key (λ t. IsVisible w s own t.header) p t ↔ IsByIndex w pages entries value key (λ t. IsVisible w s own t.header) p t
-  visible-found s own active value key p t =
-      found (λ t. IsVisible w s own t.header) (λ q u at seen. seen-made w (ReadsIn w s own) u (λ x gone. unread x gone) seen) value key p t
+  visible-found s own active sees_none value key p t =
+      found (λ t. IsVisible w s own t.header) (λ q u at seen. (seen-made w (ReadsIn w s own) u (λ x gone. unread x gone) seen, λ excused. sees_none u excused seen)) value key p t
     where
       unread : (x : ℕ) → IsAborted w x → ¬ ReadsIn w s own x
       unread x gone (Reads.by_itself c) = let e : Aborted ≡ InProgress = sym gone ∙ (active x c).unfinished in absurd (cc)
       unread x gone (Reads.by_others sees done) = let e : Aborted ≡ Committed = sym gone ∙ committed-to w x done in absurd (cc)
 
-  pub touched-found : (x : ℕ) → ¬ IsAborted w x → (value : ℤ) (key : ℕ) (p : Tid) (t : Version)
-      → IsOnHeap value_of pages value key (λ t. Touches x t.header) p t ↔ IsByIndex w pages entries value key (λ t. Touches x t.header) p t
-  touched-found x alive value key p t =
-      found (λ t. Touches x t.header) (λ q u at touch. touched-made w horizon (slots_on pages q.page) q.slot x u (sound.heap q.page) at alive touch) value key p t
+pub touched-found : (value_of : Row → ℤ) (w : Window) (horizon : ℕ) (pages : List (List Slot)) (entries : List Entry) → EntriesAreSound value_of None w horizon pages entries
+    → (x : ℕ) → ¬ IsAborted w x → (value : ℤ) (key : ℕ) (p : Tid) (t : Version)
+    → IsOnHeap value_of pages value key (λ t. Touches x t.header) p t ↔ IsByIndex w pages entries value key (λ t. Touches x t.header) p t
+touched-found value_of w horizon pages entries sound x alive value key p t =
+    found value_of None w horizon pages entries sound (λ t. Touches x t.header)
+    (λ q u at touch. (touched-made w horizon (slots_on pages q.page) q.slot x u (sound.heap q.page) at alive touch, λ none. none)) value key p t
