@@ -1,5 +1,5 @@
 -- One entry leads to each version that isn't undone, so that what is found by the index is what is found on the heap.
-use Rattle.std.proofs.Common.{◌≡◌, ◌↔◌, ◌⊎◌, ℕ, ℤ, List, Option, Some, None, refl, sym, ap, ◌∙◌, subst, ⊎_elim}
+use Rattle.std.proofs.Common.{◌≡◌, ◌↔◌, ◌⊎◌, ℕ, ℤ, Bool, true, false, not, if◌then◌else◌, List, Option, Some, None, refl, sym, ap, ◌∙◌, subst, ⊎_elim}
 use Rattle.std.specs.List.{Contains}
 use Rattle.std.proofs.lemmas.Bool.{cases_Bool}
 use Rattle.xid_circle.specs.declared.Tid.{Tid}
@@ -8,21 +8,24 @@ use Rattle.tuple_header.specs.Version.{Version}
 use Rattle.tuple_header.specs.declared.version.Row.{Row}
 use Rattle.tuple_header.specs.Marks.{is_heap_only}
 use Rattle.page_slots.specs.declared.slot.Slot.{Slot}
-use Rattle.page_slots.specs.Slots.{version_at}
+use Rattle.page_slots.specs.declared.slot.Slot.TheVariants.{Unused, Normal, Redirect, Dead}
+use Rattle.page_slots.specs.Slots.{slot_at, version_at}
+use Rattle.page_slots.proofs.SlotLemmas.{version_at-from_slot_at}
 use Rattle.commit_status.specs.declared.status.Status.TheVariants.{InProgress, Committed, Aborted}
 use Rattle.commit_status.specs.Window.{Window, IsActive, IsAborted}
 use Rattle.snapshot.specs.Snap.{Snap}
 use Rattle.visibility.proofs.Makers.{made-of, touch-cases, committed-to}
 use Rattle.visibility.specs.Seeing.{Reads, VisibleBy, Touches}
 use Rattle.visibility.specs.Visible.{ReadsIn, IsVisible}
-use Rattle.sound_page.specs.Sound.{IsIn, SoundPage, SomeRoot}
+use Rattle.hot_chain.specs.Chain.{is_root, is_root_in}
+use Rattle.sound_page.specs.Sound.{chain_start_in, chain_start_of, IsIn, SoundPage, SomeRoot}
 use Rattle.sound_page.proofs.Links.{SomeVersion, member-version}
 use Rattle.sound_page.proofs.ChainPlaces.{place-of}
 use Rattle.sound_page.proofs.SoundChains.{in-leads}
 use Rattle.tuple_writes.proofs.Growth.{entry-normal}
 use Rattle.index_nodes.specs.declared.entry.Entry.{Entry}
 use Rattle.index_nodes.specs.Sets.{IsOf}
-use Rattle.index_lookup.specs.Pages.{slots_on, version_in}
+use Rattle.index_lookup.specs.Pages.{slots_on, slot_in, version_in}
 use Rattle.sound_entries.specs.Entries.{IsExcused, SomeEntry, EntriesAreSound}
 use Rattle.sound_entries.specs.Leading.{IsUndone, SeesNoExcused, HasOneEntry, IsOnHeap, IsByIndex}
 
@@ -53,6 +56,36 @@ touched-made w horizon slots n x t sound at alive touch undone = ⊎_elim
 -- a version that a reader sees was made, if the reader counts nothing that is aborted
 pub seen-made : (w : Window) (R : ℕ → Type 0) (t : Version) → ((x : ℕ) → IsAborted w x → ¬ R x) → VisibleBy R t.header → ¬ IsUndone w t.header
 seen-made w R t none seen undone = ⊎_elim (λ frozen. undone.thawed frozen) (λ counts. none t.header.xmin.0 undone.aborted counts) (made-of R t.header seen)
+
+-- a chain begins with a version
+record FirstIn (w : Window) (slots : List Slot) (root : ℕ) : Type 0 where
+  pub place : ℕ
+  pub version : Version
+  pub within : IsIn w slots root place
+  pub there : version_at slots place ≡ Some version
+
+first-in : (w : Window) (horizon : ℕ) (slots : List Slot) (n : ℕ) → SoundPage w horizon slots → is_root slots n ≡ true → FirstIn w slots n
+first-in w horizon slots n sound root = by (slot_at slots n) refl root
+  where
+    plain : (b : Bool) → not b ≡ true → (if b then None else Some n) ≡ Some n
+    plain true e = absurd (cc)
+    plain false e = refl
+
+    starts : (k : ℕ) → chain_start_of slots n ≡ Some k → IsIn w slots n k
+    starts k leads = record { entry = k; leads = leads; later = record { turns = 0; along = refl } }
+
+    by : (o : Option Slot) → slot_at slots n ≡ o → is_root_in o ≡ true → FirstIn w slots n
+    by None at is = absurd (cc)
+    by (Some Unused) at is = absurd (cc)
+    by (Some (Normal t)) at is = record {
+      place = n;
+      version = t;
+      within = starts n (ap (chain_start_in n) at ∙ plain (is_heap_only t.header) is);
+      there = version_at-from_slot_at slots n t at;
+    }
+    by (Some (Redirect k)) at is = let target = sound.redirects n k at in
+        record { place = k; version = target.version; within = starts k (ap (chain_start_in n) at); there = target.there }
+    by (Some Dead) at is = absurd (cc)
 
 -- On all pages.
 
@@ -103,6 +136,12 @@ module _ (value_of : Row → ℤ) (since : Option ℕ) (w : Window) (horizon : �
       unread : (x : ℕ) → IsAborted w x → ¬ ReadsIn w s own x
       unread x gone (Reads.by_itself c) = let e : Aborted ≡ InProgress = sym gone ∙ (active x c).unfinished in absurd (cc)
       unread x gone (Reads.by_others sees done) = let e : Aborted ≡ Committed = sym gone ∙ committed-to w x done in absurd (cc)
+
+pub root-led : (value_of : Row → ℤ) (w : Window) (horizon : ℕ) (pages : List (List Slot)) (entries : List Entry) (p : Tid) → EntriesAreSound value_of None w horizon pages entries
+    → is_root_in (slot_in pages p) ≡ true → SomeEntry entries p
+root-led value_of w horizon pages entries p sound root =
+    let first = first-in w horizon (slots_on pages p.page) p.slot (sound.heap p.page) root in
+    ⊎_elim (λ none. absurd none) (λ some. some) (sound.index.led p first.place first.version first.within first.there)
 
 pub touched-found : (value_of : Row → ℤ) (w : Window) (horizon : ℕ) (pages : List (List Slot)) (entries : List Entry) → EntriesAreSound value_of None w horizon pages entries
     → (x : ℕ) → ¬ IsAborted w x → (value : ℤ) (key : ℕ) (p : Tid) (t : Version)

@@ -1,5 +1,5 @@
 -- The laws of sound entries.
-use Rattle.std.specs.Prelude.{◌≡◌, ◌↔◌, ◌≤◌, ℕ, ℤ, List, [], Bool, false, Option, Some, None, Contains, MatchOption}
+use Rattle.std.specs.Prelude.{◌≡◌, ◌↔◌, ◌≤◌, ℕ, ℤ, List, [], Bool, true, false, Option, Some, None, Contains, MatchOption}
 use Rattle.xid_circle.specs.declared.Tid.{Tid}
 use Rattle.tuple_header.specs.Version.{Version}
 use Rattle.tuple_header.specs.declared.version.Row.{Row}
@@ -12,6 +12,7 @@ use Rattle.commit_status.specs.Changes.{Gives, Finishes}
 use Rattle.snapshot.specs.Snap.{Snap}
 use Rattle.visibility.specs.Visible.{IsVisible, IsOtherWriterIn, IsNewerCommitIn}
 use Rattle.visibility.specs.Seeing.{Touches}
+use Rattle.hot_chain.specs.Chain.{is_root_in}
 use Rattle.prune.specs.Pruning.{IsPruned}
 use Rattle.tuple_writes.specs.Writes.{with_replaced, with_root, with_updated}
 use Rattle.tuple_writes.specs.Keeps.{IsDeletable}
@@ -20,7 +21,7 @@ use Rattle.index_nodes.specs.declared.entry.Entry.{Entry}
 use Rattle.index_nodes.specs.Sets.{AddsEntry, Loses}
 use Rattle.index_lookup.specs.Pages.{slots_on, slot_in, version_in, Puts, entry_for}
 use Rattle.index_lookup.specs.Looking.{FirstFound, FirstPlace, SomeOf}
-use Rattle.sound_entries.specs.Entries.{IsExcused, SoundEntries, EntriesAreSound, StaysSound, KeepsTargets}
+use Rattle.sound_entries.specs.Entries.{SomeEntry, IsExcused, SoundEntries, EntriesAreSound, StaysSound, KeepsTargets}
 use Rattle.sound_entries.specs.Leading.{IsUndone, SeesNoExcused, HasOneEntry, IsOnHeap, IsByIndex, SomeOnHeap}
 use Rattle.tuple_header.specs.declared.version.TheConstants.{MOST_SLOTS}
 
@@ -30,6 +31,11 @@ use Rattle.tuple_header.specs.declared.version.TheConstants.{MOST_SLOTS}
 abbrev pub LedByEntry : Type 0
 LedByEntry = (value_of : Row → ℤ) (since : Option ℕ) (w : Window) (horizon : ℕ) (pages : List (List Slot)) (entries : List Entry) (p : Tid) (t : Version) → EntriesAreSound value_of since w horizon pages entries
     → version_in pages p ≡ Some t → ¬ IsUndone w t.header → ¬ IsExcused w since t → HasOneEntry w pages entries p (value_of t.row) t.row.key
+
+-- in an index that always was exact each root and redirect has an entry
+abbrev pub EachRootHasEntry : Type 0
+EachRootHasEntry = (value_of : Row → ℤ) (w : Window) (horizon : ℕ) (pages : List (List Slot)) (entries : List Entry) (p : Tid) → EntriesAreSound value_of None w horizon pages entries
+    → is_root_in (slot_in pages p) ≡ true → SomeEntry entries p
 
 -- a reader whose own ids are in progress, and who sees no excused version, finds the same by the index as on the heap
 abbrev pub FoundByIndex : Type 0
