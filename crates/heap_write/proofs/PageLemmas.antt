@@ -11,6 +11,8 @@ use Rattle.heap_pages.specs.View.{PagesView, with_page}
 use Rattle.page_slots.specs.declared.slot.Slot.{Slot}
 use Rattle.page_slots.specs.Slots.{IsNormalAt, row_at, room_of}
 use Rattle.table_indexes.specs.Indexes.{SameEntries}
+use Rattle.table_indexes.proofs.Columns.{entries-then}
+use Rattle.table_indexes.proofs.IndexLemmas.{same-entries}
 use Rattle.heap_write.specs.Heap.{HeapView, unused_page, SameIds, Keeps, PutsPage}
 use Rattle.heap_write.specs.Heap.PutsPage.{in_use, after_all}
 use Rattle.tuple_header.specs.declared.version.Row.{Row}
@@ -99,7 +101,7 @@ keeps h h' same ids entries max_pages = record {
 }
 
 pub keeps-all : (h : HeapView) → Keeps h h
-keeps-all h = keeps h h (same-pages h.pages) (record { first = refl; stop_age = refl; entries = refl }) (λ n. refl) refl
+keeps-all h = keeps h h (same-pages h.pages) (record { first = refl; stop_age = refl; entries = refl }) (same-entries h.indexes h.indexes refl) refl
 
 pub keeps-then : (h h1 h2 : HeapView) → Keeps h h1 → Keeps h1 h2 → Keeps h h2
 keeps-then h h1 h2 first second = record {
@@ -108,7 +110,7 @@ keeps-then h h1 h2 first second = record {
   flags = second.flags ∙ first.flags;
   marks = second.marks ∙ first.marks;
   statuses = record { first = second.statuses.first ∙ first.statuses.first; stop_age = second.statuses.stop_age ∙ first.statuses.stop_age; entries = second.statuses.entries ∙ first.statuses.entries };
-  entries = λ n. second.entries n ∙ first.entries n;
+  entries = entries-then h.indexes h1.indexes h2.indexes first.entries second.entries;
   max_pages = second.max_pages ∙ first.max_pages;
 }
 

@@ -13,7 +13,8 @@ use Rattle.tuple_writes.specs.Writes.{with_root, with_updated, replaced_change, 
 use Rattle.space_maps.specs.declared.mark.Mark.TheVariants.{Nothing}
 use Rattle.heap_pages.specs.View.{PagesView, with_page}
 use Rattle.heap_pages.specs.declared.pages.Placement.TheVariants as to
-use Rattle.table_indexes.specs.Indexes.{entries_at, SameEntries, Enters}
+use Rattle.table_indexes.specs.Indexes.{SameEntries, Enters}
+use Rattle.table_indexes.proofs.IndexLemmas.{same-entries, entries-back}
 use Rattle.table_indexes.proofs.Columns.{entries-then, enters-grown, values-grown}
 use Rattle.heap_write.specs.declared.target.Target.{Target}
 use Rattle.heap_write.specs.declared.target.Target.TheVariants.{Page, New}
@@ -104,7 +105,7 @@ values-kept h h1 place row slots entries keeps old at =
 pub values-back : (h h1 : HeapView) (place : Tid) (row : Row) → (page_on h1 place.page).slots ≡ (page_on h place.page).slots → SameEntries h.indexes h1.indexes
     → KeepsValues h1 place row → KeepsValues h place row
 values-back h h1 place row slots entries keeps old at =
-    values-grown h1.indexes h.indexes old row (λ n. sym (entries n)) (keeps old (ap (λ s. row_at s place.slot) slots ∙ at))
+    values-grown h1.indexes h.indexes old row (entries-back h.indexes h1.indexes entries) (keeps old (ap (λ s. row_at s place.slot) slots ∙ at))
 
 -- An insert.
 
@@ -178,7 +179,7 @@ moves h h1 middle h' place successor x row target before after same_pages same_i
     let same = ap (λ (p : PagesView). p.pages) same_pages in
     let number : successor.page ≡ target_number h.pages.pages target = page ∙ ap (λ ps. target_number ps target) same in
     let free : successor.slot ≡ free_number (page_on h successor.page).slots = slot ∙ ap (λ (p : PagesView). free_number (page_in p.pages successor.page).slots) same_pages in
-    let grown = grown-none h h1 successor.page same (ap (λ (p : PagesView). p.marks) same_pages) (λ n. ap (λ is. entries_at is n) same_indexes) in
+    let grown = grown-none h h1 successor.page same (ap (λ (p : PagesView). p.marks) same_pages) (same-entries h.indexes h1.indexes same_indexes) in
     let is = page-at middle.pages.pages place.page before at in
     let T : PageView → Tid → Type 0 = λ page to. WritesXmax page after place to x in
     let moved : T (page_on middle place.page) (record { page = successor.page; slot = free_number (page_on h successor.page).slots }) =
@@ -192,7 +193,7 @@ moves h h1 middle h' place successor x row target before after same_pages same_i
         slots = moved.slots;
         change = moved.change;
         flag = moved.flag;
-        entries = λ n. ap (λ is. entries_at is n) indexes;
+        entries = same-entries middle.indexes h'.indexes indexes;
       };
     })
 

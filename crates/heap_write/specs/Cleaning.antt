@@ -18,7 +18,7 @@ use Rattle.freeze.specs.DeadSlots.{ListsDead}
 use Rattle.index_nodes.specs.declared.entry.Entry.{Entry}
 use Rattle.root_index.specs.declared.progress.Progress.{Progress}
 use Rattle.root_index.specs.Pieces.{RemovesPiece}
-use Rattle.table_indexes.specs.Indexes.{entries_at, entries_in, IsInUse}
+use Rattle.table_indexes.specs.Indexes.{entries_at, since_at, entries_in, IsInUse}
 use Rattle.heap_write.specs.Heap.{HeapView}
 use Rattle.heap_write.specs.Writes.{Prunes}
 
@@ -66,6 +66,7 @@ pub record SweepsAt (h h' : HeapView) (i : ℕ) (dead : List Tid) (from : Option
   pub removes : RemovesPiece (entries_in h.indexes i) (entries_in h'.indexes i) dead from progress
   pub others : (n : ℕ) → n ≢ i → entries_at h'.indexes n ≡ entries_at h.indexes n
   pub in_use : (n : ℕ) → IsInUse h.indexes n ↔ IsInUse h'.indexes n
+  pub since : (n : ℕ) → since_at h'.indexes n ≡ since_at h.indexes n
   pub is : h' ≡ record h { indexes = h'.indexes }
 
 -- Slots become unused.

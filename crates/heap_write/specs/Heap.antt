@@ -5,16 +5,15 @@ use Rattle.page_slots.specs.View.{PageView}
 use Rattle.page_slots.specs.declared.slot.Slot.{Slot}
 use Rattle.space_maps.specs.declared.mark.Mark.TheVariants.{Nothing}
 use Rattle.commit_status.specs.Window.{Window}
-use Rattle.root_index.specs.View.{IndexView}
 use Rattle.heap_pages.specs.View.{PagesView}
 use Rattle.index_lookup.specs.Pages as lists
-use Rattle.table_indexes.specs.Indexes.{SameEntries}
+use Rattle.table_indexes.specs.Indexes.{IndexesView, SameEntries}
 
 pub record HeapView : Type 0 where
   pub pages : PagesView
   pub statuses : Window
   -- by their numbers: each one in use has an entry for the root of each chain
-  pub indexes : List (Option IndexView)
+  pub indexes : IndexesView
   -- how many pages may be in use
   pub max_pages : ℕ
 

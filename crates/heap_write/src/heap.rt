@@ -1,10 +1,10 @@
 //! The pages, the ids and the indexes of a table.
 
-ghost use Rattle.std.specs.Prelude.{◌≡◌, ◌≤◌, ◌<◌, ℕ, [], slice_get, option_copied, Contains};
+ghost use Rattle.std.specs.Prelude.{◌≡◌, ◌≤◌, ◌<◌, ℕ, [], None, slice_get, option_copied, Contains};
 ghost use Rattle.xid_circle.specs.Circle.{IsNormal};
 ghost use Rattle.commit_status.specs.Window.{IsActive, IsWindow};
 ghost use Rattle.commit_status.specs.Changes.{numbers, Finishes};
-ghost use Rattle.table_indexes.specs.Indexes.{index_at, entries_at, new_entries};
+ghost use Rattle.table_indexes.specs.Indexes.{index_at, entries_at, since_at, new_entries};
 ghost use Rattle.heap_pages.specs.declared.pages.TheConstants.{MOST_PAGES};
 
 use commit_status::{Status, StatusTable};
@@ -78,6 +78,7 @@ impl HeapState {
         ensures pages { result.pages.pages ≡ [] }
         ensures marks { result.pages.marks ≡ [] }
         ensures indexes { (n : ℕ) → entries_at result.indexes n ≡ new_entries indexed n }
+        ensures since { (n : ℕ) → since_at result.indexes n ≡ None }
         ensures max_pages { result.max_pages ≡ max_pages }
         ensures first { result.statuses.first ≡ first.0 }
         ensures stop_age { result.statuses.stop_age ≡ stop_age }

@@ -12,7 +12,7 @@ use Rattle.visibility.specs.Visible as visibility
 use Rattle.visibility.proofs.Makers.{active-to}
 use Rattle.sound_entries.specs.Leading.{IsOnHeap}
 use Rattle.sound_entries.proofs.Leads.{visible-found}
-use Rattle.table_indexes.specs.Indexes.{entries_in, IsInUse}
+use Rattle.table_indexes.specs.Indexes.{entries_in, since_at, IsInUse}
 use Rattle.heap_write.specs.Heap.{slots_of}
 use Rattle.table_integrity.proofs.InUse.{index-sound}
 use Rattle.tuple_header.specs.IndexValue.{value_in}
@@ -23,6 +23,7 @@ use Rattle.refinement.specs.Visible.{ReaderSees}
 use Rattle.refinement.specs.Agrees as relation
 use Rattle.refinement.proofs.Readers.{Levels-top}
 use Rattle.visibility.specs.Visible.{state_of}
+use Rattle.session_steps.proofs.InUse.{sees-all}
 use Rattle.session_steps.specs.State.{State, seen, statement_snapshot, reader_of, horizon_of}
 use Rattle.session_steps.specs.Agrees.{Agrees}
 use Rattle.session_steps.specs.declared.session.Session.{Session}
@@ -51,8 +52,8 @@ by-index st w n s own row agrees used active shows = record {
   where
     on-heap : (value : ℤ) (k : ℕ) (p : Tid) (t : Version)
         → IsOnHeap (value_in n) (slots_of st.heap) value k (λ t. visibility.IsVisible st.heap.statuses s own t.header) p t ↔ IsFound st.heap s own n value k p t
-    on-heap value k p t = visible-found (value_in n) st.heap.statuses (horizon_of st) (slots_of st.heap) (entries_in st.heap.indexes n)
-        (index-sound st.heap (horizon_of st) agrees.sound.table n used) s own active value k p t
+    on-heap value k p t = visible-found (value_in n) (since_at st.heap.indexes n) st.heap.statuses (horizon_of st) (slots_of st.heap) (entries_in st.heap.indexes n)
+        (index-sound st.heap (horizon_of st) agrees.sound.table n used) s own active (sees-all st agrees.sound n s own) value k p t
 
 -- one that would begin now sees what is committed
 fresh : (st : State) (w : World) → Agrees st w → relation.Shows (seen st).version (ReaderSees (state_of st.heap.statuses) (λ x. Sees (now_taken st) st.heap.statuses x) []) (committed w.history (length w.history))

@@ -187,6 +187,7 @@ pruned st h p w prunes agrees =
       sessions = rw statuses agrees.sound.sessions;
       tops = rw statuses agrees.sound.tops;
       indexes = still-in_use st.heap.indexes h.indexes st.settings.indexed stays.in_use agrees.sound.indexes;
+      exact = λ n. stays.since n ∙ agrees.sound.exact n;
       cursors = λ s e span at is. (stays.in_use span.index).0 (agrees.sound.cursors s e span at is);
       table = subst (λ t. SoundTable h (earliest (next_id t) (held_back st.sessions))) (sym statuses) stays.sound;
     })

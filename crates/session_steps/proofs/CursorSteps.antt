@@ -13,7 +13,7 @@ use Rattle.commit_status.specs.Window.{IsUpToNext, turns}
 use Rattle.snapshot.specs.Snap.{Snap}
 use Rattle.history.specs.World.{World}
 use Rattle.root_index.specs.View.{IndexView}
-use Rattle.table_indexes.specs.Indexes.{IsInUse, index_at}
+use Rattle.table_indexes.specs.Indexes.{IndexesView, IsInUse, index_at}
 use Rattle.calls.specs.declared.step.Step.TheVariants as step
 use Rattle.calls.specs.declared.reply.Reply.TheVariants as reply
 use Rattle.calls.specs.declared.reply.Refusal.{Refusal}
@@ -54,7 +54,7 @@ Follows-bare_close st s r is = Follows-same st (step.Close s) (reply.Refused r) 
 
 -- An index that is not there is not in use.
 
-not-used : (n : ℕ) (indexes : List (Option IndexView)) → index_at indexes n ≡ None → ¬ IsInUse indexes n
+not-used : (n : ℕ) (indexes : IndexesView) → index_at indexes n ≡ None → ¬ IsInUse indexes n
 not-used n indexes none used = absurd (let e = ap (λ (o : Option IndexView). option_map (λ (i : IndexView). i.entries) o) none in let f = subst (λ (o : Option _). IsSome o) e used in cc)
 
 absent : (b : Bool) → ¬ (b ≡ true) → b ≡ false
@@ -149,6 +149,7 @@ module _ (st : State) (w : World) (s : ℕ) (e : Session) (cursor : Option Scan)
     ];
     tops = agrees.sound.tops;
     indexes = agrees.sound.indexes;
+    exact = agrees.sound.exact;
     cursors = cursors-put st.sessions st.heap.indexes st.heap.indexes s (with_both cursor kept e) (open-within st.sessions s e at) (used-still st.heap.indexes) along agrees.sound.cursors;
     table = later-sound st w st.heap s e (with_both cursor kept e) at agrees agrees.sound.window refl (omega arith) (λ y upto. upto) back-both agrees.sound.table;
   }
@@ -170,7 +171,7 @@ without-kept : (i : SessionIsolation) → isolation_seen (keeping None i) ≡ cu
 without-kept (BySnapshot snap) = refl
 without-kept (ByStatement old) = refl
 
-along-span : (indexes : List (Option IndexView)) (span : IndexRange) → IsInUse indexes span.index → GoesAlong indexes (Some (Index span))
+along-span : (indexes : IndexesView) (span : IndexRange) → IsInUse indexes span.index → GoesAlong indexes (Some (Index span))
 along-span indexes span used other is = let same : span ≡ other = cc in subst (λ (span : IndexRange). IsInUse indexes span.index) same used
 
 -- what is taken now is kept

@@ -254,6 +254,7 @@ module _ (st st' : State) (s : ℕ) (e : Session) (now : Option Session) (ids : 
       | inr other ↦ keeps-finish st.heap.statuses st'.heap.statuses ids end f change.finishes (agrees.sound.sessions o f other.1)
     ];
     indexes = still-in_use st.heap.indexes st'.heap.indexes st'.settings.indexed stays.in_use (subst (λ (g : Settings). AreInUse st.heap.indexes g.indexed) (sym change.settings) agrees.sound.indexes);
+    exact = λ n. stays.since n ∙ agrees.sound.exact n;
     cursors = λ o f span bt is. (stays.in_use span.index).0 (elim (still o f bt) [
       | inl same ↦ along f same.1 span is
       | inr other ↦ agrees.sound.cursors o f span other.1 is

@@ -153,6 +153,7 @@ Sound-opens st w s e within snapshot none_kept ids saved bare agrees = record {
   ];
   tops = agrees.sound.tops;
   indexes = agrees.sound.indexes;
+  exact = agrees.sound.exact;
   cursors = cursors-put st.sessions st.heap.indexes st.heap.indexes s e within' (used-still st.heap.indexes) (no-cursor st.heap.indexes e.cursor bare) agrees.sound.cursors;
   table = later-stays-sound st.heap (horizon_of st) (horizon_of (put_session st s (Some e))) agrees.sound.table agrees.sound.window (upto-horizon st w agrees)
       (horizon-upto st.heap.statuses (set st.sessions s (Some e)) agrees.sound.window (held-then held-upto)) later-then;
@@ -306,6 +307,7 @@ Sound-put st s e now at same keeps along sound = record {
   ];
   tops = sound.tops;
   indexes = sound.indexes;
+  exact = sound.exact;
   cursors = cursors-put st.sessions st.heap.indexes st.heap.indexes s now (open-within st.sessions s e at) (used-still st.heap.indexes) along sound.cursors;
   table = subst (λ back. SoundTable st.heap (earliest (next_id st.heap.statuses) back)) (sym (same-back st.sessions s e now at same)) sound.table;
 }

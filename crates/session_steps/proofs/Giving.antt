@@ -253,6 +253,7 @@ module _ (st : State) (w : World) (h : HeapView) (s : ℕ) (e e' : Session) (at 
           | inr other ↦ keeps-spared statuses k f f (itself f) (agrees.sound.sessions o f other.1)
         ]);
         indexes = still-in_use st.heap.indexes h.indexes st.settings.indexed stays.in_use agrees.sound.indexes;
+        exact = λ n. stays.since n ∙ agrees.sound.exact n;
         cursors = cursors-put st.sessions st.heap.indexes h.indexes s e' (open-within st.sessions s e at) stays.in_use (same-cursor st.sessions st.heap.indexes s e e' at same.cursor agrees.sound.cursors) agrees.sound.cursors;
         tops = rw is (λ x done. well-spared statuses k x (agrees.sound.tops x done));
         table = later-sound (rw is (window-spared statuses k agrees.sound.window)) ids.first (subst (λ n. turns statuses.first (next_id statuses) ≤ turns statuses.first n) (sym (ap next_id is)) (omega arith))
@@ -279,6 +280,7 @@ module _ (st : State) (w : World) (h : HeapView) (s : ℕ) (e e' : Session) (at 
           | inr other ↦ keeps-give takes.given statuses h.statuses parent f window takes.gives (there o f other.1) (agrees.sound.sessions o f other.1)
         ];
         indexes = still-in_use st.heap.indexes h.indexes st.settings.indexed stays.in_use agrees.sound.indexes;
+        exact = λ n. stays.since n ∙ agrees.sound.exact n;
         cursors = cursors-put st.sessions st.heap.indexes h.indexes s e' (open-within st.sessions s e at) stays.in_use (same-cursor st.sessions st.heap.indexes s e e' at (ap (λ (f : Session). f.cursor) is) agrees.sound.cursors) agrees.sound.cursors;
         tops = tops-given takes.given statuses h.statuses parent window takes.gives agrees.sound.tops;
         table = later-sound window (given-first takes.given statuses h.statuses parent takes.gives) (given-next takes.given statuses h.statuses parent takes.gives window)

@@ -11,7 +11,7 @@ use Rattle.page_slots.specs.Slots.{version_at}
 use Rattle.page_slots.specs.View.{PageView}
 use Rattle.page_slots.specs.declared.slot.Slot.{Slot}
 use Rattle.index_lookup.specs.Pages.{version_in, slots_on}
-use Rattle.table_indexes.specs.Indexes.{entries_at, new_entries}
+use Rattle.table_indexes.specs.Indexes.{since_at, entries_at, new_entries}
 use Rattle.heap_write.specs.Heap.{slots_of}
 use Rattle.session_steps.proofs.InUse.{new-empty, new-in_use, indexed-is}
 use Rattle.table_integrity.proofs.Keeping.{nothing-stays}
@@ -39,9 +39,9 @@ no-slots n = refl
 no-version : (pages : List (List Slot)) (p : Tid) → pages ≡ [] → version_in pages p ≡ None
 no-version pages p bare = ap (λ (pages : List (List Slot)). version_in pages p) bare ∙ (ap (λ (slots : List Slot). version_at slots p.slot) (no-slots p.page) ∙ none-at p.slot)
 
-pub Agrees-new : (st : State) → st.heap.pages.pages ≡ [] → ((n : ℕ) → entries_at st.heap.indexes n ≡ new_entries st.settings.indexed n) → st.heap.statuses.entries ≡ [] → IsWindow st.heap.statuses
+pub Agrees-new : (st : State) → st.heap.pages.pages ≡ [] → ((n : ℕ) → entries_at st.heap.indexes n ≡ new_entries st.settings.indexed n) → ((n : ℕ) → since_at st.heap.indexes n ≡ None) → st.heap.statuses.entries ≡ [] → IsWindow st.heap.statuses
     → st.heap.max_pages ≡ st.settings.max_pages → st.heap.statuses.stop_age ≡ st.settings.stop_age → st.sessions ≡ replicate 64 None → Agrees st (beginning st.settings.indexed)
-Agrees-new st pages index entries window max_pages stop_age idle = record {
+Agrees-new st pages index exact entries window max_pages stop_age idle = record {
   found = Agrees-beginning (seen st) st.settings.indexed
       (λ p. no-version (slots_of st.heap) p (ap (λ (pages : List PageView). map (λ (p : PageView). p.slots) pages) pages))
       (λ x. ap (λ o. option_map (λ _. status_of st.heap.statuses x) o) (no-place st.heap.statuses x entries))
@@ -56,6 +56,7 @@ Agrees-new st pages index entries window max_pages stop_age idle = record {
     sessions = λ s e at. absurd (none-some e (sym (closed s) ∙ at));
     tops = λ x done. absurd (let at = finished-place st.heap.statuses x (λ active. cc) in none-some at.0 (sym (no-place st.heap.statuses x entries) ∙ at.1));
     indexes = new-in_use st.heap.indexes st.settings.indexed index;
+    exact = exact;
     cursors = λ s e span at is. absurd (none-some e (sym (closed s) ∙ at));
     table = nothing-stays st.heap (horizon_of st) pages (new-empty st.heap.indexes st.settings.indexed index);
   };

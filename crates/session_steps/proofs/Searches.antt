@@ -58,10 +58,10 @@ FoundIn st e key (Some p) = (t : Version) × IsTarget st e key p t
 
 pub place-to : (st : State) (w : World) (s : ℕ) (e : Session) (key : ℕ) (found : Option Tid) → Agrees st w → session_at st s ≡ Some e → FindsPlace st.heap e key found → FoundIn st e key found
 place-to st w s e key None agrees at finds = λ p v there seen is.
-    place-on_heap key_value st.heap.statuses (horizon_of st) (slots_of st.heap) (entries_in st.heap.indexes 0) (statement_snapshot st.heap.statuses e.isolation) e.own.ids (by-key st agrees.sound) (own-active st w s e agrees at) (pos key) key None finds p v
+    place-on_heap key_value None st.heap.statuses (horizon_of st) (slots_of st.heap) (entries_in st.heap.indexes 0) (statement_snapshot st.heap.statuses e.isolation) e.own.ids (by-key st agrees.sound) (own-active st w s e agrees at) (λ t none. absurd none) (pos key) key None finds p v
     (record { there = there; of_value = ap (λ n. pos n) is; of_key = is; has = (statement-sees st agrees.sound.window e.isolation e.own.ids v).1 seen })
 place-to st w s e key (Some p) agrees at finds =
-    let h = place-on_heap key_value st.heap.statuses (horizon_of st) (slots_of st.heap) (entries_in st.heap.indexes 0) (statement_snapshot st.heap.statuses e.isolation) e.own.ids (by-key st agrees.sound) (own-active st w s e agrees at) (pos key) key (Some p) finds in
+    let h = place-on_heap key_value None st.heap.statuses (horizon_of st) (slots_of st.heap) (entries_in st.heap.indexes 0) (statement_snapshot st.heap.statuses e.isolation) e.own.ids (by-key st agrees.sound) (own-active st w s e agrees at) (λ t none. absurd none) (pos key) key (Some p) finds in
     (h.0, record { there = h.1.there; of_key = h.1.of_key; seen = (statement-sees st agrees.sound.window e.isolation e.own.ids h.0).0 h.1.has })
 
 -- the row of the key that the index leads the session to
@@ -72,10 +72,10 @@ pub row-to : (st : State) (w : World) (s : ℕ) (e : Session) (key : ℕ) (found
     → RowOf st e key found
     → FindsOfKey (seen st).version (statement_seen st e) key found
 row-to st w s e key None agrees at finds = λ p v there seen is.
-    found-on_heap key_value st.heap.statuses (horizon_of st) (slots_of st.heap) (entries_in st.heap.indexes 0) (statement_snapshot st.heap.statuses e.isolation) e.own.ids (by-key st agrees.sound) (own-active st w s e agrees at) (pos key) key None finds p v
+    found-on_heap key_value None st.heap.statuses (horizon_of st) (slots_of st.heap) (entries_in st.heap.indexes 0) (statement_snapshot st.heap.statuses e.isolation) e.own.ids (by-key st agrees.sound) (own-active st w s e agrees at) (λ t none. absurd none) (pos key) key None finds p v
     (record { there = there; of_value = ap (λ n. pos n) is; of_key = is; has = (statement-sees st agrees.sound.window e.isolation e.own.ids v).1 seen })
 row-to st w s e key (Some row) agrees at finds =
-    let h = found-on_heap key_value st.heap.statuses (horizon_of st) (slots_of st.heap) (entries_in st.heap.indexes 0) (statement_snapshot st.heap.statuses e.isolation) e.own.ids (by-key st agrees.sound) (own-active st w s e agrees at) (pos key) key (Some row) finds in
+    let h = found-on_heap key_value None st.heap.statuses (horizon_of st) (slots_of st.heap) (entries_in st.heap.indexes 0) (statement_snapshot st.heap.statuses e.isolation) e.own.ids (by-key st agrees.sound) (own-active st w s e agrees at) (λ t none. absurd none) (pos key) key (Some row) finds in
     (h.0, h.1, h.2.there, h.2.of_key, ((statement-sees st agrees.sound.window e.isolation e.own.ids h.1).0 h.2.has, h.3))
 
 pub late-to : (st : State) (w : World) (e : Session) (key x : ℕ) → Agrees st w → IsLateBy st.heap e key x → IsLateFor (seen st) (reader_of e) key

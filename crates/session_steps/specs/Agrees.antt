@@ -1,5 +1,5 @@
 -- When an engine agrees with a world of the history.
-use Rattle.std.specs.Prelude.{◌≡◌, ◌↔◌, ℕ, true, length, Some, IsSome, slice_get, Contains}
+use Rattle.std.specs.Prelude.{◌≡◌, ◌↔◌, ℕ, true, length, Some, None, IsSome, slice_get, Contains}
 use Rattle.history.specs.World.{World}
 use Rattle.snapshot.specs.Snap.{Snap}
 use Rattle.snapshot.specs.Laws.{IsInWindow}
@@ -11,7 +11,7 @@ use Rattle.calls.specs.declared.reply.Reply.{Reply}
 use Rattle.refinement.specs.Allowed.{Allows, next}
 use Rattle.refinement.specs.Agrees as relation
 use Rattle.sound_entries.specs.Entries.{KeepsTargets}
-use Rattle.table_indexes.specs.Indexes.{entries_in, IsInUse, new_entries}
+use Rattle.table_indexes.specs.Indexes.{entries_in, since_at, IsInUse, new_entries}
 use Rattle.heap_write.specs.Heap.{slots_of}
 use Rattle.index_lookup.specs.declared.index_scan.IndexRange.{IndexRange}
 use Rattle.table_integrity.specs.Table.{SoundTable}
@@ -45,6 +45,8 @@ pub record Sound (st : State) : Type 0 where
   pub tops : (x : ℕ) → IsCommitted st.heap.statuses x → IsWellTopped st.heap.statuses x
   -- the indexes in use are the primary index and those of the columns that the settings name
   pub indexes : (n : ℕ) → IsInUse st.heap.indexes n ↔ IsSome (new_entries st.settings.indexed n)
+  -- each was made with the table, so that it is exact for whoever reads
+  pub exact : (n : ℕ) → since_at st.heap.indexes n ≡ None
   -- an open session's cursor goes along one of these
   pub cursors : (s : ℕ) (e : Session) (span : IndexRange) → session_at st s ≡ Some e → e.cursor ≡ Some (Index span) → IsInUse st.heap.indexes span.index
   -- sound entries, on sound pages, at the present horizon

@@ -1,25 +1,26 @@
 -- Writes and pruning leave the entries right.
-use Rattle.std.proofs.Common.{◌≡◌, ◌⊎◌, ◌≤◌, ℕ, ℤ, Bool, true, false, not, if◌then◌else◌, List, Option, Some, None, refl, sym, ap, ◌∙◌, subst, ⊎_elim, inl, inr}
+use Rattle.std.proofs.Common.{◌≡◌, ◌≤◌, ℕ, ℤ, Bool, true, false, List, Option, Some, None, refl, sym, ap, ◌∙◌, subst, ⊎_elim, inl, inr}
 use Rattle.std.specs.Option.{option_map, option_and_then}
 use Rattle.std.proofs.lemmas.Bool.{cases_eq}
 use Rattle.std.proofs.lemmas.Option.{same_Some}
 use Rattle.tuple_header.specs.Version.{Version}
 use Rattle.tuple_header.specs.declared.version.Row.{Row}
-use Rattle.tuple_header.specs.Marks.{is_heap_only}
 use Rattle.page_slots.specs.declared.slot.Slot.{Slot}
-use Rattle.page_slots.specs.declared.slot.Slot.TheVariants.{Unused, Normal, Redirect, Dead}
+use Rattle.page_slots.specs.declared.slot.Slot.TheVariants.{Unused, Normal, Dead}
 use Rattle.page_slots.specs.Slots.{slot_at, version_at, version_of, free_number}
 use Rattle.page_slots.proofs.SlotLemmas.{there-from_slot_at, slot_at-from_version_at, version_at-from_slot_at, free_number-was, slot_at-with_added}
+use Rattle.commit_status.specs.declared.status.Status.TheVariants.{InProgress, Committed, Aborted}
 use Rattle.commit_status.specs.Window.{Window, IsActive}
+use Rattle.visibility.specs.Visible.{IsDead}
+use Rattle.sound_page.proofs.Undone.{committed-some}
 use Rattle.hot_chain.specs.Chain.{has_aborted, is_root, is_root_in}
 use Rattle.prune.specs.declared.action.Action.{Action}
 use Rattle.prune.specs.Actions.{acted}
 use Rattle.prune.specs.Pruning.{PrunesSlot, by_root, by_none, IsPruned, loose_in, orphan_action}
-use Rattle.sound_page.specs.Sound.{lead, chain_start_in, IsIn, SoundPage}
+use Rattle.sound_page.specs.Sound.{lead, IsIn, SoundPage}
 use Rattle.sound_page.proofs.Links.{member-version}
 use Rattle.sound_page.proofs.ChainPlaces.{place-of}
 use Rattle.prune.proofs.Removing.{pruned-removes}
-use Rattle.sound_page.proofs.SoundChains.{entry-root}
 use Rattle.prune.proofs.SoundAfter.{pruned-sound, pruned-keeps_chains}
 use Rattle.tuple_writes.specs.Headers.{root_header, heap_only_header, replaced_header}
 use Rattle.tuple_writes.specs.Writes.{with_root, with_replaced, with_updated}
@@ -30,32 +31,11 @@ use Rattle.tuple_writes.proofs.Slotted.{root-added, taken-away, updated-here, re
 use Rattle.index_nodes.specs.declared.entry.Entry.{Entry}
 use Rattle.index_nodes.specs.Sets.{AddsEntry, IsOf}
 use Rattle.index_lookup.specs.Pages.{slots_on, version_in, Puts, entry_for}
-use Rattle.sound_entries.specs.Entries.{SoundHeap, MayBeTarget, EntriesAreSound, KeepsTarget, same_version, led_on, died, StaysSound}
+use Rattle.sound_entries.specs.Entries.{SoundHeap, MayBeTarget, IsExcused, EntriesAreSound, KeepsTarget, same_version, led_on, died, StaysSound}
 use Rattle.sound_entries.proofs.Leads.{chained-version}
-use Rattle.sound_entries.proofs.Going.{Resembles, PageGoesOn, stays-as, page-same, puts-pages, stay-sound, stay-led, add-sound}
+use Rattle.sound_entries.proofs.Going.{Resembles, PageGoesOn, stays-as, page-same, in-root, puts-pages, stay-sound, stay-led, add-sound}
 
--- Roots.
-
-some-entry : (n : ℕ) (o : Option Slot) → is_root_in o ≡ true → (e : ℕ) × (chain_start_in n o ≡ Some e)
-some-entry n None root = absurd (cc)
-some-entry n (Some Unused) root = absurd (cc)
-some-entry n (Some (Normal t)) root = (n, by (is_heap_only t.header) root)
-  where
-    by : (b : Bool) → not b ≡ true → (if b then None else Some n) ≡ Some n
-    by true e = absurd (cc)
-    by false e = refl
-some-entry n (Some (Redirect k)) root = (k, refl)
-some-entry n (Some Dead) root = absurd (cc)
-
--- a root is in its own chain, or leads to one that is
-roots-back : (w v : Window) (slots after : List Slot) (IsNew : ℕ → Type 0) → ((root n : ℕ) → IsIn v after root n → (is_root slots root ≡ true) ⊎ IsNew root)
-    → (n : ℕ) → is_root after n ≡ true → (is_root slots n ≡ true) ⊎ IsNew n
-roots-back w v slots after IsNew back n root =
-    let e = some-entry n (slot_at after n) root in
-    back n e.0 (record { entry = e.0; leads = e.1; later = record { turns = 0; along = refl } })
-
-in-root : (w : Window) (slots : List Slot) (root n : ℕ) → IsIn w slots root n → is_root slots root ≡ true
-in-root w slots root n i = entry-root slots root i.entry i.leads
+-- A slot for a new version.
 
 -- no entry leads to a slot for a new version
 free-unled : (slots : List Slot) → ¬ MayBeTarget (slot_at slots (free_number slots))
@@ -70,14 +50,61 @@ free-unled slots may = ⊎_elim
     not-unused : ¬ MayBeTarget (Some Unused)
     not-unused m = ⊎_elim (λ e. cc) (λ e. cc) m
 
--- a version that stays in its chain
-still-in : (value_of : Row → ℤ) (w : Window) (horizon : ℕ) (slots after : List Slot) (root n : ℕ) (t : Version) → SoundPage w horizon slots → KeepsEntries w slots after
-    → IsIn w slots root n → version_at after n ≡ Some t → Resembles value_of w slots root t.row
-still-in value_of w horizon slots after root n t sound keeps i at =
+-- nor is it in a chain
+free-unchained : (w : Window) (horizon : ℕ) (slots : List Slot) (root : ℕ) → SoundPage w horizon slots → ¬ IsIn w slots root (free_number slots)
+free-unchained w horizon slots root sound i =
+    let v = chained-version w horizon slots root (free_number slots) sound i in
+    ⊎_elim
+    (λ none. none-some (version_at slots (free_number slots)) v.version (ap (option_and_then version_of) none) v.there)
+    (λ unused. none-some (version_at slots (free_number slots)) v.version (ap (option_and_then version_of) unused) v.there)
+    (free_number-was slots)
+
+-- What is left of a chain.
+
+-- what a transaction may take away is not excused
+deletable-needed : (w : Window) (since : Option ℕ) (slots : List Slot) (k : ℕ) (t : Version) → IsDeletable w slots k → version_at slots k ≡ Some t → ¬ IsExcused w since t
+deletable-needed w None slots k t f at none = none
+deletable-needed w (Some since) slots k t f at dead =
+    let one : f.version ≡ t = same_Some f.version t (sym f.there ∙ at) in
+    by (subst (λ (z : Version). IsDead w since z.header) (sym one) dead)
+  where
+    by : IsDead w since f.version.header → ⊥
+    by (IsDead.never_was thawed gone) = ⊎_elim (λ frozen. thawed frozen)
+        (λ alive. ⊎_elim (λ done. let e : Aborted ≡ Committed = sym gone ∙ done in cc) (λ active. let e : Aborted ≡ InProgress = sym gone ∙ active in cc) alive) f.made
+    by (IsDead.is_past done before) = ⊎_elim
+        (λ none. committed-some w f.version.header.xmax.0 done none)
+        (λ gone. let e : Committed ≡ Aborted = sym done ∙ gone in cc)
+        f.untaken
+
+-- a version in a slot that is as it was
+same-resembles : (value_of : Row → ℤ) (since : Option ℕ) (w : Window) (slots after : List Slot) (root n : ℕ) (t : Version) → IsIn w slots root n → slot_at after n ≡ slot_at slots n
+    → version_at after n ≡ Some t → Resembles value_of since w w slots root t
+same-resembles value_of since w slots after root n t i same at = record {
+  place = n;
+  version = t;
+  within = i;
+  there = ap (option_and_then version_of) (sym same) ∙ at;
+  value = refl;
+  key = refl;
+  excused = λ excused. excused;
+}
+
+-- a version that was not excused, and stays in its chain
+needed-resembles : (value_of : Row → ℤ) (since : Option ℕ) (w : Window) (horizon : ℕ) (slots after : List Slot) (root n : ℕ) (t : Version) → SoundPage w horizon slots → KeepsEntries w slots after
+    → ((u : Version) → version_at slots n ≡ Some u → ¬ IsExcused w since u) → IsIn w slots root n → version_at after n ≡ Some t → Resembles value_of since w w slots root t
+needed-resembles value_of since w horizon slots after root n t sound keeps needed i at =
     let v = chained-version w horizon slots root n sound i in
     let h = keeps.versions n v.version v.there in
     let row : t.row ≡ v.version.row = ap (λ (z : Version). z.row) (same_Some t h.version (sym at ∙ h.there)) ∙ h.row in
-    record { place = n; version = v.version; within = i; there = v.there; value = ap value_of row; key = ap (λ (r : Row). r.key) row }
+    record {
+      place = n;
+      version = v.version;
+      within = i;
+      there = v.there;
+      value = ap value_of row;
+      key = ap (λ (r : Row). r.key) row;
+      excused = λ excused. absurd (needed v.version v.there excused);
+    }
 
 -- a version whose header alone changes
 stays-replaced : (w : Window) (slots after : List Slot) (m : ℕ) (t u : Version) → KeepsEntries w slots after → slot_at slots m ≡ Some (Normal t) → slot_at after m ≡ Some (Normal u)
@@ -89,16 +116,18 @@ stays-replaced w slots after m t u keeps here put row inserter may = (
 
 -- Each step on its page.
 
-adds-page : (value_of : Row → ℤ) (w : Window) (horizon : ℕ) (slots after : List Slot) → SoundPage w horizon slots → AddsRoot w horizon slots after (free_number slots)
-    → PageGoesOn value_of w w slots after (λ n. n ≡ free_number slots)
-adds-page value_of w horizon slots after sound a = record {
+adds-page : (value_of : Row → ℤ) (since : Option ℕ) (w : Window) (horizon : ℕ) (slots after : List Slot) → SoundPage w horizon slots → AddsRoot w horizon slots after (free_number slots)
+    → PageGoesOn value_of since w w slots after (λ n. n ≡ free_number slots)
+adds-page value_of since w horizon slots after sound a = record {
   stays = λ n may. ⊎_elim
       (λ here. absurd (free-unled slots (subst (λ k. MayBeTarget (slot_at slots k)) here may)))
       (λ other. stays-as (slot_at slots n) (slot_at after n) (a.others n other) may)
       (cases_eq n (free_number slots));
-  roots = λ n root. roots-back w w slots after (λ k. k ≡ free_number slots)
-      (λ r m i. ⊎_elim (λ old. inl (in-root w slots r m old)) (λ new. inr new.0) (a.chains.1 r m i)) n root;
-  chains = λ root n t i at. ⊎_elim (λ old. inl (still-in value_of w horizon slots after root n t sound a.entries old at)) (λ new. inr new.0) (a.chains.1 root n i);
+  chains = λ root n t i at. ⊎_elim
+      (λ old. inl (same-resembles value_of since w slots after root n t old
+      (a.others n (λ here. free-unchained w horizon slots root sound (subst (λ k. IsIn w slots root k) here old))) at))
+      (λ new. inr new.0)
+      (a.chains.1 root n i);
 }
 
 -- the chain of a new root is the new version
@@ -112,9 +141,9 @@ own-chain value_of w horizon n slots after new a added i t within at = ⊎_elim
     (ap (λ (z : Version). value_of z.row) (sym one), ap (λ (z : Version). z.row.key) (sym one)))
     (a.chains.1 (free_number slots) i within)
 
-takes-page : (value_of : Row → ℤ) (w : Window) (horizon k x page place : ℕ) (slots : List Slot) → SoundPage w horizon slots → IsDeletable w slots k
-    → SetsXmaxOnPage w horizon slots (with_replaced slots k x page place false) k → PageGoesOn value_of w w slots (with_replaced slots k x page place false) (λ n. ⊥)
-takes-page value_of w horizon k x page place slots sound f a =
+takes-page : (value_of : Row → ℤ) (since : Option ℕ) (w : Window) (horizon k x page place : ℕ) (slots : List Slot) → SoundPage w horizon slots → IsDeletable w slots k
+    → SetsXmaxOnPage w horizon slots (with_replaced slots k x page place false) k → PageGoesOn value_of since w w slots (with_replaced slots k x page place false) (λ n. ⊥)
+takes-page value_of since w horizon k x page place slots sound f a =
     let after = with_replaced slots k x page place false in
     let t = f.version in
     let here = slot_at-from_version_at slots k t f.there in
@@ -124,14 +153,17 @@ takes-page value_of w horizon k x page place slots sound f a =
           (stays-replaced w slots after k t (record t { header = replaced_header t.header x page place false }) a.entries here (replaced-at slots k x page place false t here) refl refl) may)
           (λ other. stays-as (slot_at slots n) (slot_at after n) (a.others n other) may)
           (cases_eq n k);
-      roots = λ n root. roots-back w w slots after (λ i. ⊥) (λ r m i. inl (in-root w slots r m (a.chains r m i))) n root;
-      chains = λ root n t i at. inl (still-in value_of w horizon slots after root n t sound a.entries (a.chains root n i) at);
+      chains = λ root n u i at. inl (⊎_elim
+          (λ same. needed-resembles value_of since w horizon slots after root n u sound a.entries
+          (λ v there. deletable-needed w since slots k v f (subst (λ i. version_at slots i ≡ Some v) same there)) (a.chains root n i) at)
+          (λ other. same-resembles value_of since w slots after root n u (a.chains root n i) (a.others n other) at)
+          (cases_eq n k));
     }
 
-updates-page : (value_of : Row → ℤ) (w : Window) (horizon k x page : ℕ) (slots : List Slot) (row : Row) (old : Version) → SoundPage w horizon slots → free_number slots ≤ 291
+updates-page : (value_of : Row → ℤ) (since : Option ℕ) (w : Window) (horizon k x page : ℕ) (slots : List Slot) (row : Row) (old : Version) → SoundPage w horizon slots → IsDeletable w slots k → free_number slots ≤ 291
     → version_at slots k ≡ Some old → value_of row ≡ value_of old.row → row.key ≡ old.row.key
-    → HotUpdatesPage w horizon slots (with_updated slots k x page row) k (free_number slots) → PageGoesOn value_of w w slots (with_updated slots k x page row) (λ n. ⊥)
-updates-page value_of w horizon k x page slots row old sound few there value key a =
+    → HotUpdatesPage w horizon slots (with_updated slots k x page row) k (free_number slots) → PageGoesOn value_of since w w slots (with_updated slots k x page row) (λ n. ⊥)
+updates-page value_of since w horizon k x page slots row old sound f few there value key a =
     let after = with_updated slots k x page row in
     let free = free_number slots in
     let here = slot_at-from_version_at slots k old there in
@@ -146,10 +178,13 @@ updates-page value_of w horizon k x page slots row old sound few there value key
           (λ other. stays-as (slot_at slots n) (slot_at after n) (a.others n off other) may)
           (cases_eq n free))
           (cases_eq n k);
-      roots = λ n root. roots-back w w slots after (λ i. ⊥)
-          (λ r m i. ⊎_elim (λ was. inl (in-root w slots r m was)) (λ y. inl (in-root w slots r k y.0)) (a.chains.1 r m i)) n root;
       chains = λ root n t i at. ⊎_elim
-          (λ was. inl (still-in value_of w horizon slots after root n t sound a.entries was at))
+          (λ was. inl (⊎_elim
+          (λ same. needed-resembles value_of since w horizon slots after root n t sound a.entries
+          (λ v at_k. deletable-needed w since slots k v f (subst (λ i. version_at slots i ≡ Some v) same at_k)) was at)
+          (λ other. same-resembles value_of since w slots after root n t was
+          (a.others n other (λ here. free-unchained w horizon slots root sound (subst (λ i. IsIn w slots root i) here was))) at)
+          (cases_eq n k)))
           (λ y.
           let one : t ≡ new = same_Some t new (sym at ∙ ap (version_at after) y.1 ∙ version_at-from_slot_at after free new r.added) in
           inl (record {
@@ -159,6 +194,7 @@ updates-page value_of w horizon k x page slots row old sound few there value key
             there = there;
             value = ap (λ (z : Version). value_of z.row) one ∙ value;
             key = ap (λ (z : Version). z.row.key) one ∙ key;
+            excused = λ excused. absurd (deletable-needed w since slots k old f there excused);
           }))
           (a.chains.1 root n i);
     }
@@ -180,9 +216,9 @@ dead-stays w horizon slots after n p at =
         let none : orphan_action w slots n ≡ None = ap (λ (s : Option Slot). loose_in w (option_map (λ t. t.header) (option_and_then version_of s))) at in
         is ∙ ap (acted (slot_at slots n)) (e ∙ none) ∙ at
 
-prunes-page : (value_of : Row → ℤ) (w : Window) (horizon : ℕ) (slots after : List Slot) → SoundPage w horizon slots → IsPruned w horizon slots after
-    → PageGoesOn value_of w w slots after (λ n. ⊥)
-prunes-page value_of w horizon slots after sound p =
+prunes-page : (value_of : Row → ℤ) (since : Option ℕ) (w : Window) (horizon : ℕ) (slots after : List Slot) → SoundPage w horizon slots → IsPruned w horizon slots after
+    → PageGoesOn value_of since w w slots after (λ n. ⊥)
+prunes-page value_of since w horizon slots after sound p =
     let chains = pruned-keeps_chains w horizon slots after sound p in
     record {
       stays = λ n may. ⊎_elim
@@ -192,7 +228,6 @@ prunes-page value_of w horizon slots after sound p =
           (chains.roots n root))
           (λ dead. let is = dead-stays w horizon slots after n p dead in (inr is, died is))
           may;
-      roots = λ n root. roots-back w w slots after (λ i. ⊥) (λ r m i. inl (in-root w slots r m (chains.no_new r m i))) n root;
       chains = λ root n t i at. inl (record {
         place = n;
         version = t;
@@ -200,6 +235,7 @@ prunes-page value_of w horizon slots after sound p =
         there = (pruned-removes w horizon slots after p).kept n t at;
         value = refl;
         key = refl;
+        excused = λ excused. excused;
       });
     }
   where
@@ -216,74 +252,73 @@ heap-puts w horizon n pages pages' after heap puts sound m = ⊎_elim
     (λ other. subst (SoundPage w horizon) (sym (puts.others m other)) (heap m))
     (cases_eq m n)
 
-stays-on : (value_of : Row → ℤ) (w : Window) (horizon n : ℕ) (pages pages' : List (List Slot)) (entries : List Entry) (after : List Slot) → EntriesAreSound value_of w horizon pages entries
-    → Puts pages pages' n after → SoundPage w horizon after → PageGoesOn value_of w w (slots_on pages n) after (λ k. ⊥) → StaysSound value_of w horizon pages pages' entries entries
-stays-on value_of w horizon n pages pages' entries after sound puts page step =
-    let goes = puts-pages value_of w pages pages' n after (λ m k. ⊥) puts step in
+stays-on : (value_of : Row → ℤ) (since : Option ℕ) (w : Window) (horizon n : ℕ) (pages pages' : List (List Slot)) (entries : List Entry) (after : List Slot) → EntriesAreSound value_of since w horizon pages entries
+    → Puts pages pages' n after → SoundPage w horizon after → PageGoesOn value_of since w w (slots_on pages n) after (λ k. ⊥) → StaysSound value_of since w horizon pages pages' entries entries
+stays-on value_of since w horizon n pages pages' entries after sound puts page step =
+    let goes = puts-pages value_of since w pages pages' n after (λ m k. ⊥) puts step in
     record {
       sound = record {
         heap = heap-puts w horizon n pages pages' after sound.heap puts page;
-        index = stay-sound value_of w w pages pages' entries sound.index goes;
+        index = stay-sound value_of since w w pages pages' entries sound.index goes;
       };
-      led = stay-led value_of w w pages pages' entries sound.index (λ m k. ⊥) goes entries;
+      led = stay-led value_of since w w pages pages' entries sound.index (λ m k. ⊥) goes entries;
     }
 
-pub taking-stays : (value_of : Row → ℤ) (w : Window) (horizon n k x page place : ℕ) (pages pages' : List (List Slot)) (entries : List Entry)
-    → EntriesAreSound value_of w horizon pages entries → IsActive w x → IsDeletable w (slots_on pages n) k
+pub taking-stays : (value_of : Row → ℤ) (since : Option ℕ) (w : Window) (horizon n k x page place : ℕ) (pages pages' : List (List Slot)) (entries : List Entry)
+    → EntriesAreSound value_of since w horizon pages entries → IsActive w x → IsDeletable w (slots_on pages n) k
     → Puts pages pages' n (with_replaced (slots_on pages n) k x page place false)
-    → StaysSound value_of w horizon pages pages' entries entries
-taking-stays value_of w horizon n k x page place pages pages' entries sound active free puts =
+    → StaysSound value_of since w horizon pages pages' entries entries
+taking-stays value_of since w horizon n k x page place pages pages' entries sound active free puts =
     let slots = slots_on pages n in
     let a = taken-away w horizon k x page place slots (sound.heap n) active free in
-    stays-on value_of w horizon n pages pages' entries (with_replaced slots k x page place false) sound puts a.sound (takes-page value_of w horizon k x page place slots (sound.heap n) free a)
+    stays-on value_of since w horizon n pages pages' entries (with_replaced slots k x page place false) sound puts a.sound (takes-page value_of since w horizon k x page place slots (sound.heap n) free a)
 
-pub updating-stays : (value_of : Row → ℤ) (w : Window) (horizon n k x page : ℕ) (pages pages' : List (List Slot)) (entries : List Entry) (row : Row) (old : Version)
-    → EntriesAreSound value_of w horizon pages entries → IsActive w x → IsDeletable w (slots_on pages n) k → free_number (slots_on pages n) ≤ 291
+pub updating-stays : (value_of : Row → ℤ) (since : Option ℕ) (w : Window) (horizon n k x page : ℕ) (pages pages' : List (List Slot)) (entries : List Entry) (row : Row) (old : Version)
+    → EntriesAreSound value_of since w horizon pages entries → IsActive w x → IsDeletable w (slots_on pages n) k → free_number (slots_on pages n) ≤ 291
     → version_in pages (record { page = n; slot = k }) ≡ Some old → value_of row ≡ value_of old.row → row.key ≡ old.row.key
     → Puts pages pages' n (with_updated (slots_on pages n) k x page row)
-    → StaysSound value_of w horizon pages pages' entries entries
-updating-stays value_of w horizon n k x page pages pages' entries row old sound active free few there value key puts =
+    → StaysSound value_of since w horizon pages pages' entries entries
+updating-stays value_of since w horizon n k x page pages pages' entries row old sound active free few there value key puts =
     let slots = slots_on pages n in
     let a = updated-here w horizon k x page slots row (sound.heap n) active free few in
-    stays-on value_of w horizon n pages pages' entries (with_updated slots k x page row) sound puts a.sound
-    (updates-page value_of w horizon k x page slots row old (sound.heap n) few there value key a)
+    stays-on value_of since w horizon n pages pages' entries (with_updated slots k x page row) sound puts a.sound
+    (updates-page value_of since w horizon k x page slots row old (sound.heap n) free few there value key a)
 
-pub pruning-stays : (value_of : Row → ℤ) (w : Window) (horizon n : ℕ) (pages pages' : List (List Slot)) (entries : List Entry) (after : List Slot)
-    → EntriesAreSound value_of w horizon pages entries → IsPruned w horizon (slots_on pages n) after → Puts pages pages' n after
-    → StaysSound value_of w horizon pages pages' entries entries
-pruning-stays value_of w horizon n pages pages' entries after sound p puts =
-    stays-on value_of w horizon n pages pages' entries after sound puts (pruned-sound w horizon (slots_on pages n) after (sound.heap n) p)
-    (prunes-page value_of w horizon (slots_on pages n) after (sound.heap n) p)
+pub pruning-stays : (value_of : Row → ℤ) (since : Option ℕ) (w : Window) (horizon n : ℕ) (pages pages' : List (List Slot)) (entries : List Entry) (after : List Slot)
+    → EntriesAreSound value_of since w horizon pages entries → IsPruned w horizon (slots_on pages n) after → Puts pages pages' n after
+    → StaysSound value_of since w horizon pages pages' entries entries
+pruning-stays value_of since w horizon n pages pages' entries after sound p puts =
+    stays-on value_of since w horizon n pages pages' entries after sound puts (pruned-sound w horizon (slots_on pages n) after (sound.heap n) p)
+    (prunes-page value_of since w horizon (slots_on pages n) after (sound.heap n) p)
 
-pub growing-stays : (value_of : Row → ℤ) (w : Window) (horizon n : ℕ) (pages pages' : List (List Slot)) (entries : List Entry)
-    → EntriesAreSound value_of w horizon pages entries → Puts pages pages' n (slots_on pages n) → StaysSound value_of w horizon pages pages' entries entries
-growing-stays value_of w horizon n pages pages' entries sound puts =
-    stays-on value_of w horizon n pages pages' entries (slots_on pages n) sound puts (sound.heap n) (page-same value_of w w (slots_on pages n) (λ k. ⊥) (λ root k i. i))
+pub growing-stays : (value_of : Row → ℤ) (since : Option ℕ) (w : Window) (horizon n : ℕ) (pages pages' : List (List Slot)) (entries : List Entry)
+    → EntriesAreSound value_of since w horizon pages entries → Puts pages pages' n (slots_on pages n) → StaysSound value_of since w horizon pages pages' entries entries
+growing-stays value_of since w horizon n pages pages' entries sound puts =
+    stays-on value_of since w horizon n pages pages' entries (slots_on pages n) sound puts (sound.heap n) (page-same value_of since w w (slots_on pages n) (λ k. ⊥) (λ root k i. i) (λ k t at excused. excused))
 
-pub adding-stays : (value_of : Row → ℤ) (w : Window) (horizon x n : ℕ) (pages pages' : List (List Slot)) (entries entries' : List Entry) (updated : Bool) (row : Row)
-    → EntriesAreSound value_of w horizon pages entries → IsActive w x → free_number (slots_on pages n) ≤ 291
+pub adding-stays : (value_of : Row → ℤ) (since : Option ℕ) (w : Window) (horizon x n : ℕ) (pages pages' : List (List Slot)) (entries entries' : List Entry) (updated : Bool) (row : Row)
+    → EntriesAreSound value_of since w horizon pages entries → IsActive w x → free_number (slots_on pages n) ≤ 291
     → Puts pages pages' n (with_root (slots_on pages n) updated x n row) → AddsEntry entries entries' (entry_for value_of row n (free_number (slots_on pages n)))
-    → StaysSound value_of w horizon pages pages' entries entries'
-adding-stays value_of w horizon x n pages pages' entries entries' updated row sound active few puts adds =
+    → StaysSound value_of since w horizon pages pages' entries entries'
+adding-stays value_of since w horizon x n pages pages' entries entries' updated row sound active few puts adds =
     let slots = slots_on pages n in
     let k = free_number slots in
     let new : Version = record { header = root_header updated x n k; row = row } in
     let after = with_root slots updated x n row in
     let a = root-added w horizon x n slots updated row (sound.heap n) active few in
     let added : slot_at after k ≡ Some (Normal new) = slot_at-with_added slots (Normal new) in
-    let step = adds-page value_of w horizon slots after (sound.heap n) a in
-    let goes = puts-pages value_of w pages pages' n after (λ m i. (m ≡ n) × (i ≡ k)) puts (record {
+    let step = adds-page value_of since w horizon slots after (sound.heap n) a in
+    let goes = puts-pages value_of since w pages pages' n after (λ m i. (m ≡ n) × (i ≡ k)) puts (record {
       stays = step.stays;
-      roots = λ i root. ⊎_elim (λ was. inl was) (λ here. inr (refl, here)) (step.roots i root);
       chains = λ root i t within at. ⊎_elim (λ was. inl was) (λ here. inr (refl, here)) (step.chains root i t within at);
     }) in
     record {
       sound = record {
         heap = heap-puts w horizon n pages pages' after sound.heap puts a.sound;
-        index = add-sound value_of w w pages pages' entries sound.index (entry_for value_of row n k) entries' goes adds (free-unled slots)
+        index = add-sound value_of since w w pages pages' entries sound.index (entry_for value_of row n k) entries' goes adds (free-unled slots)
             (inl (subst (λ s. is_root s k ≡ true) (sym puts.put) (in-root w after k k a.chains.0)))
             (subst (λ s. (i : ℕ) (t : Version) → IsIn w s k i → version_at s i ≡ Some t → IsOf (value_of t.row) t.row.key (entry_for value_of row n k)) (sym puts.put)
             (λ i t within at. own-chain value_of w horizon n slots after new a added i t within at));
       };
-      led = stay-led value_of w w pages pages' entries sound.index (λ m i. (m ≡ n) × (i ≡ k)) goes entries';
+      led = stay-led value_of since w w pages pages' entries sound.index (λ m i. (m ≡ n) × (i ≡ k)) goes entries';
     }

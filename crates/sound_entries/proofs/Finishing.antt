@@ -1,14 +1,17 @@
 -- What becomes of transactions and of the horizon leaves the entries right: chains only break.
-use Rattle.std.proofs.Common.{◌≡◌, ◌≤◌, ℕ, ℤ, zero, suc, false, List, Option, Some, ◌∙◌, ⊎_elim}
+use Rattle.std.proofs.Common.{◌≡◌, ◌≤◌, ℕ, ℤ, zero, suc, false, List, Option, Some, None, sym, ◌∙◌, ⊎_elim}
 use Rattle.std.specs.List.{Contains}
 use Rattle.std.proofs.lemmas.Bool.{cases_Bool}
 use Rattle.xid_circle.specs.Following.{ReachesIn}
 use Rattle.tuple_header.specs.declared.version.Row.{Row}
 use Rattle.page_slots.specs.declared.slot.Slot.{Slot}
-use Rattle.commit_status.specs.declared.status.Status.TheVariants.{Committed, Aborted}
-use Rattle.commit_status.specs.Window.{Window, IsWindow, IsActive, IsAborted, IsUpToNext, turns}
+use Rattle.commit_status.specs.declared.status.Status.{Status}
+use Rattle.commit_status.specs.declared.status.Status.TheVariants.{InProgress, Committed, Aborted}
+use Rattle.commit_status.specs.Window.{Window, IsWindow, IsActive, IsCommitted, IsAborted, IsUpToNext, turns}
 use Rattle.commit_status.specs.Changes.{Gives, Finishes}
 use Rattle.commit_status.proofs.Giving.{gives-status}
+use Rattle.commit_status.proofs.Finishing.{finishes-other}
+use Rattle.visibility.specs.Visible.{IsDead}
 use Rattle.hot_chain.specs.Chain.{has_aborted}
 use Rattle.sound_page.specs.Links.{link}
 use Rattle.sound_page.specs.Sound.{IsIn}
@@ -19,11 +22,11 @@ use Rattle.tuple_writes.proofs.Statuses.{successor-from, replaced-live, giving-s
 use Rattle.index_nodes.specs.declared.entry.Entry.{Entry}
 use Rattle.index_lookup.specs.Pages.{slots_on}
 use Rattle.sound_entries.specs.Entries.{SoundHeap, EntriesAreSound, StaysSound}
-use Rattle.sound_entries.proofs.Going.{PageGoesOn, page-same, stay-sound, stay-led}
+use Rattle.sound_entries.proofs.Going.{StaysExcused, PageGoesOn, page-same, stay-sound, stay-led}
 
--- Where what was aborted stays so, no link comes.
+-- Where what has ended stays so, no link comes, and what is excused stays so.
 
-module _ (w v : Window) (aborted : (x : ℕ) → IsAborted w x → IsAborted v x) where
+module _ (w v : Window) (aborted : (x : ℕ) → IsAborted w x → IsAborted v x) (committed : (x : ℕ) → IsCommitted w x → IsCommitted v x) where
   link-back : (slots : List Slot) (n k : ℕ) → link v slots n ≡ Some k → link w slots n ≡ Some k
   link-back slots n k next =
       let l = link-of (has_aborted v) slots n k next in
@@ -43,39 +46,47 @@ module _ (w v : Window) (aborted : (x : ℕ) → IsAborted w x → IsAborted v x
   in-back slots root n i =
       record { entry = i.entry; leads = i.leads; later = record { turns = i.later.turns; along = along-back slots i.later.turns i.entry n i.later.along } }
 
-  pub statuses-stay : (value_of : Row → ℤ) (horizon later : ℕ) (pages : List (List Slot)) (entries : List Entry) → EntriesAreSound value_of w horizon pages entries → SoundHeap v later pages
-      → StaysSound value_of v later pages pages entries entries
-  statuses-stay value_of horizon later pages entries sound heap = record {
-    sound = record { heap = heap; index = stay-sound value_of w v pages pages entries sound.index goes };
-    led = stay-led value_of w v pages pages entries sound.index (λ m k. ⊥) goes entries;
+  excused-stays : (since : Option ℕ) (slots : List Slot) → StaysExcused since w v slots
+  excused-stays None slots n t at none = none
+  excused-stays (Some since) slots n t at (IsDead.never_was thawed gone) = IsDead.never_was thawed (aborted t.header.xmin.0 gone)
+  excused-stays (Some since) slots n t at (IsDead.is_past done before) = IsDead.is_past (committed t.header.xmax.0 done) before
+
+  pub statuses-stay : (value_of : Row → ℤ) (since : Option ℕ) (horizon later : ℕ) (pages : List (List Slot)) (entries : List Entry) → EntriesAreSound value_of since w horizon pages entries → SoundHeap v later pages
+      → StaysSound value_of since v later pages pages entries entries
+  statuses-stay value_of since horizon later pages entries sound heap = record {
+    sound = record { heap = heap; index = stay-sound value_of since w v pages pages entries sound.index goes };
+    led = stay-led value_of since w v pages pages entries sound.index (λ m k. ⊥) goes entries;
   }
     where
-      goes : (m : ℕ) → PageGoesOn value_of w v (slots_on pages m) (slots_on pages m) (λ k. ⊥)
-      goes m = page-same value_of w v (slots_on pages m) (λ k. ⊥) (in-back (slots_on pages m))
+      goes : (m : ℕ) → PageGoesOn value_of since w v (slots_on pages m) (slots_on pages m) (λ k. ⊥)
+      goes m = page-same value_of since w v (slots_on pages m) (λ k. ⊥) (in-back (slots_on pages m)) (excused-stays since (slots_on pages m))
 
-pub giving-stays : (value_of : Row → ℤ) (w v : Window) (horizon : ℕ) (parent : Option ℕ) (pages : List (List Slot)) (entries : List Entry)
-    → EntriesAreSound value_of w horizon pages entries → IsWindow w → IsWindow v → Gives w v parent → StaysSound value_of v horizon pages pages entries entries
-giving-stays value_of w v horizon parent pages entries sound before after gives =
-    statuses-stay w v (λ x gone. gives-status w v parent x before after gives ∙ gone) value_of horizon horizon pages entries sound
+pub giving-stays : (value_of : Row → ℤ) (since : Option ℕ) (w v : Window) (horizon : ℕ) (parent : Option ℕ) (pages : List (List Slot)) (entries : List Entry)
+    → EntriesAreSound value_of since w horizon pages entries → IsWindow w → IsWindow v → Gives w v parent → StaysSound value_of since v horizon pages pages entries entries
+giving-stays value_of since w v horizon parent pages entries sound before after gives =
+    statuses-stay w v (λ x gone. gives-status w v parent x before after gives ∙ gone) (λ x done. gives-status w v parent x before after gives ∙ done) value_of since horizon horizon pages entries sound
     (λ n. giving-sound w v horizon parent (slots_on pages n) before after gives (sound.heap n))
 
-pub committing-stays : (value_of : Row → ℤ) (w v : Window) (horizon : ℕ) (ids : List ℕ) (pages : List (List Slot)) (entries : List Entry)
-    → EntriesAreSound value_of w horizon pages entries → ((x : ℕ) → Contains ids x → IsActive w x) → Finishes w v ids Committed
-    → ((n : ℕ) → DeletedWhatWasMade w (slots_on pages n) ids) → StaysSound value_of v horizon pages pages entries entries
-committing-stays value_of w v horizon ids pages entries sound active f theirs =
-    statuses-stay w v (λ x gone. aborted-other w v ids Committed x active f gone) value_of horizon horizon pages entries sound
+done-other : (w v : Window) (ids : List ℕ) (status : Status) (x : ℕ) → ((y : ℕ) → Contains ids y → IsActive w y) → Finishes w v ids status → IsCommitted w x → IsCommitted v x
+done-other w v ids status x active f done = finishes-other w v ids status x f (λ c. let e : Committed ≡ InProgress = sym done ∙ (active x c).unfinished in cc) ∙ done
+
+pub committing-stays : (value_of : Row → ℤ) (since : Option ℕ) (w v : Window) (horizon : ℕ) (ids : List ℕ) (pages : List (List Slot)) (entries : List Entry)
+    → EntriesAreSound value_of since w horizon pages entries → ((x : ℕ) → Contains ids x → IsActive w x) → Finishes w v ids Committed
+    → ((n : ℕ) → DeletedWhatWasMade w (slots_on pages n) ids) → StaysSound value_of since v horizon pages pages entries entries
+committing-stays value_of since w v horizon ids pages entries sound active f theirs =
+    statuses-stay w v (λ x gone. aborted-other w v ids Committed x active f gone) (λ x done. done-other w v ids Committed x active f done) value_of since horizon horizon pages entries sound
     (λ n. committing-sound w v horizon ids (slots_on pages n) active f (theirs n) (sound.heap n))
 
-pub aborting-stays : (value_of : Row → ℤ) (w v : Window) (horizon : ℕ) (ids : List ℕ) (pages : List (List Slot)) (entries : List Entry)
-    → EntriesAreSound value_of w horizon pages entries → ((x : ℕ) → Contains ids x → IsActive w x) → Finishes w v ids Aborted
-    → ((n : ℕ) → AloneDeletedTheirs w (slots_on pages n) ids) → StaysSound value_of v horizon pages pages entries entries
-aborting-stays value_of w v horizon ids pages entries sound active f theirs =
-    statuses-stay w v (λ x gone. aborted-other w v ids Aborted x active f gone) value_of horizon horizon pages entries sound
+pub aborting-stays : (value_of : Row → ℤ) (since : Option ℕ) (w v : Window) (horizon : ℕ) (ids : List ℕ) (pages : List (List Slot)) (entries : List Entry)
+    → EntriesAreSound value_of since w horizon pages entries → ((x : ℕ) → Contains ids x → IsActive w x) → Finishes w v ids Aborted
+    → ((n : ℕ) → AloneDeletedTheirs w (slots_on pages n) ids) → StaysSound value_of since v horizon pages pages entries entries
+aborting-stays value_of since w v horizon ids pages entries sound active f theirs =
+    statuses-stay w v (λ x gone. aborted-other w v ids Aborted x active f gone) (λ x done. done-other w v ids Aborted x active f done) value_of since horizon horizon pages entries sound
     (λ n. aborting-sound w v horizon ids (slots_on pages n) active f (theirs n) (sound.heap n))
 
-pub later-stays : (value_of : Row → ℤ) (w : Window) (horizon later : ℕ) (pages : List (List Slot)) (entries : List Entry)
-    → EntriesAreSound value_of w horizon pages entries → IsWindow w → IsUpToNext w horizon → IsUpToNext w later → turns w.first horizon ≤ turns w.first later
-    → StaysSound value_of w later pages pages entries entries
-later-stays value_of w horizon later pages entries sound is uh ul low =
-    statuses-stay w w (λ x gone. gone) value_of horizon later pages entries sound
+pub later-stays : (value_of : Row → ℤ) (since : Option ℕ) (w : Window) (horizon later : ℕ) (pages : List (List Slot)) (entries : List Entry)
+    → EntriesAreSound value_of since w horizon pages entries → IsWindow w → IsUpToNext w horizon → IsUpToNext w later → turns w.first horizon ≤ turns w.first later
+    → StaysSound value_of since w later pages pages entries entries
+later-stays value_of since w horizon later pages entries sound is uh ul low =
+    statuses-stay w w (λ x gone. gone) (λ x done. done) value_of since horizon later pages entries sound
     (λ n. later-sound w horizon later (slots_on pages n) is uh ul low (sound.heap n))

@@ -1,5 +1,5 @@
 -- What is found along sound entries is what stands on the heap.
-use Rattle.std.proofs.Common.{◌≡◌, ℕ, ℤ, ◌<◌, List, length, get_or, Option, Some, None, refl, sym, ap, ◌∙◌, subst, ⊎_elim, arith, slice_get, ◌⊎◌, ◌↔◌}
+use Rattle.std.proofs.Common.{◌≡◌, ℕ, ℤ, ◌<◌, List, length, get_or, Option, Some, None, refl, sym, ap, ◌∙◌, subst, ⊎_elim, arith, slice_get, ◌↔◌}
 use Rattle.std.specs.List.{Contains}
 use Rattle.std.specs.Prelude.{MatchOption}
 use Rattle.std.specs.Option.{option_and_then}
@@ -26,7 +26,7 @@ use Rattle.index_lookup.specs.Pages.{slots_on, version_in}
 use Rattle.index_lookup.specs.Looking.{FirstFound, FirstPlace, SomeOf}
 use Rattle.index_lookup.proofs.Fetching.{seen-there}
 use Rattle.sound_entries.specs.Entries.{MayBeTarget, EntriesAreSound}
-use Rattle.sound_entries.specs.Leading.{IsOnHeap, IsByIndex, IsUndone, SomeOnHeap}
+use Rattle.sound_entries.specs.Leading.{IsOnHeap, IsByIndex, IsUndone, SeesNoExcused, SomeOnHeap}
 use Rattle.sound_entries.proofs.Leads.{visible-found, found, touched-made}
 
 -- what is in the list of a chain to which an entry may lead, is in the chain
@@ -47,17 +47,17 @@ fetched-none w horizon seen slots root n t sound (chain, is, none) within at has
     let p = place-of n chain (subst (λ c. Contains c n) one l.holds) in
     none p.0 t p.1 (ap (version_at slots) p.2 ∙ at) has
 
-pub found-on_heap : (value_of : Row → ℤ) (w : Window) (horizon : ℕ) (pages : List (List Slot)) (entries : List Entry) (s : Snap) (own : List ℕ) → EntriesAreSound value_of w horizon pages entries
-    → ((x : ℕ) → Contains own x → IsActive w x) → (value : ℤ) (key : ℕ) (answer : Option Row) → FirstFound w (IsVisible w s own) pages entries value key answer
+pub found-on_heap : (value_of : Row → ℤ) (since : Option ℕ) (w : Window) (horizon : ℕ) (pages : List (List Slot)) (entries : List Entry) (s : Snap) (own : List ℕ) → EntriesAreSound value_of since w horizon pages entries
+    → ((x : ℕ) → Contains own x → IsActive w x) → SeesNoExcused w since s own → (value : ℤ) (key : ℕ) (answer : Option Row) → FirstFound w (IsVisible w s own) pages entries value key answer
     → MatchOption answer
     ((p : Tid) (t : Version) → ¬ IsOnHeap value_of pages value key (λ t. IsVisible w s own t.header) p t)
     (λ row. (p : Tid) × (t : Version) × IsOnHeap value_of pages value key (λ t. IsVisible w s own t.header) p t × (row ≡ t.row))
-found-on_heap value_of w horizon pages entries s own sound active value key None none = λ p t here.
-    let i = (visible-found value_of w horizon pages entries sound s own active value key p t).0 here in
+found-on_heap value_of since w horizon pages entries s own sound active sees_none value key None none = λ p t here.
+    let i = (visible-found value_of since w horizon pages entries sound s own active sees_none value key p t).0 here in
     let slots = slots_on pages i.entry.tid.page in
     fetched-none w horizon (IsVisible w s own) slots i.entry.tid.slot p.slot t (sound.heap i.entry.tid.page) (none i.entry i.leads.there i.of) i.leads.chain
     (ap (λ n. version_at (slots_on pages n) p.slot) (sym i.leads.page) ∙ i.there) i.has
-found-on_heap value_of w horizon pages entries s own sound active value key (Some row) f =
+found-on_heap value_of since w horizon pages entries s own sound active sees_none value key (Some row) f =
     let slots = slots_on pages f.entry.tid.page in
     let chain = f.fetched.0 in
     let first = f.fetched.2.1 in
@@ -70,29 +70,29 @@ found-on_heap value_of w horizon pages entries s own sound active value key (Som
       there = first.there;
       has = first.is_seen;
     } in
-    (p, f.version, (visible-found value_of w horizon pages entries sound s own active value key p f.version).1 i, f.is_row)
+    (p, f.version, (visible-found value_of since w horizon pages entries sound s own active sees_none value key p f.version).1 i, f.is_row)
 
-pub the_row-found : (value_of : Row → ℤ) (w : Window) (horizon : ℕ) (pages : List (List Slot)) (entries : List Entry) (s : Snap) (own : List ℕ) → EntriesAreSound value_of w horizon pages entries
-    → ((x : ℕ) → Contains own x → IsActive w x) → (value : ℤ) (key : ℕ)
+pub the_row-found : (value_of : Row → ℤ) (since : Option ℕ) (w : Window) (horizon : ℕ) (pages : List (List Slot)) (entries : List Entry) (s : Snap) (own : List ℕ) → EntriesAreSound value_of since w horizon pages entries
+    → ((x : ℕ) → Contains own x → IsActive w x) → SeesNoExcused w since s own → (value : ℤ) (key : ℕ)
     → ((p q : Tid) (t u : Version) → IsOnHeap value_of pages value key (λ t. IsVisible w s own t.header) p t → IsOnHeap value_of pages value key (λ t. IsVisible w s own t.header) q u → p ≡ q)
     → (answer : Option Row) → FirstFound w (IsVisible w s own) pages entries value key answer
     → (p : Tid) (t : Version) → IsOnHeap value_of pages value key (λ t. IsVisible w s own t.header) p t → answer ≡ Some t.row
-the_row-found value_of w horizon pages entries s own sound active value key one None f p t here =
-    absurd (found-on_heap value_of w horizon pages entries s own sound active value key None f p t here)
-the_row-found value_of w horizon pages entries s own sound active value key one (Some row) f p t here =
-    let got = found-on_heap value_of w horizon pages entries s own sound active value key (Some row) f in
+the_row-found value_of since w horizon pages entries s own sound active sees_none value key one None f p t here =
+    absurd (found-on_heap value_of since w horizon pages entries s own sound active sees_none value key None f p t here)
+the_row-found value_of since w horizon pages entries s own sound active sees_none value key one (Some row) f p t here =
+    let got = found-on_heap value_of since w horizon pages entries s own sound active sees_none value key (Some row) f in
     let same = one got.0 p got.1 t got.2 here in
     let version : got.1 ≡ t = same_Some got.1 t (sym got.2.there ∙ ap (version_in pages) same ∙ here.there) in
     ap (λ (r : Row). Some r) (got.3 ∙ ap (λ (v : Version). v.row) version)
 
-pub place-on_heap : (value_of : Row → ℤ) (w : Window) (horizon : ℕ) (pages : List (List Slot)) (entries : List Entry) (s : Snap) (own : List ℕ) → EntriesAreSound value_of w horizon pages entries
-    → ((x : ℕ) → Contains own x → IsActive w x) → (value : ℤ) (key : ℕ) (answer : Option Tid) → FirstPlace w (IsVisible w s own) pages entries value key answer
+pub place-on_heap : (value_of : Row → ℤ) (since : Option ℕ) (w : Window) (horizon : ℕ) (pages : List (List Slot)) (entries : List Entry) (s : Snap) (own : List ℕ) → EntriesAreSound value_of since w horizon pages entries
+    → ((x : ℕ) → Contains own x → IsActive w x) → SeesNoExcused w since s own → (value : ℤ) (key : ℕ) (answer : Option Tid) → FirstPlace w (IsVisible w s own) pages entries value key answer
     → MatchOption answer
     ((p : Tid) (t : Version) → ¬ IsOnHeap value_of pages value key (λ t. IsVisible w s own t.header) p t)
     (λ p. (t : Version) × IsOnHeap value_of pages value key (λ t. IsVisible w s own t.header) p t)
-place-on_heap value_of w horizon pages entries s own sound active value key None none =
-    found-on_heap value_of w horizon pages entries s own sound active value key None none
-place-on_heap value_of w horizon pages entries s own sound active value key (Some q) f =
+place-on_heap value_of since w horizon pages entries s own sound active sees_none value key None none =
+    found-on_heap value_of since w horizon pages entries s own sound active sees_none value key None none
+place-on_heap value_of since w horizon pages entries s own sound active sees_none value key (Some q) f =
     let slots = slots_on pages f.entry.tid.page in
     let at = f.seen_at in
     let chain = at.chain in
@@ -106,11 +106,11 @@ place-on_heap value_of w horizon pages entries s own sound active value key (Som
       there = seen-there w (IsVisible w s own) pages f.entry.tid q at;
       has = seen.first.is_seen;
     } in
-    (t, (visible-found value_of w horizon pages entries sound s own active value key q t).1 i)
+    (t, (visible-found value_of since w horizon pages entries sound s own active sees_none value key q t).1 i)
 
 -- Ids that made or deleted a version.
 
-some-on_heap : (value_of : Row → ℤ) (w : Window) (horizon : ℕ) (pages : List (List Slot)) (entries : List Entry) (P : Header → Type 0) → EntriesAreSound value_of w horizon pages entries
+some-on_heap : (value_of : Row → ℤ) (w : Window) (horizon : ℕ) (pages : List (List Slot)) (entries : List Entry) (P : Header → Type 0) → EntriesAreSound value_of None w horizon pages entries
     → ((p : Tid) (t : Version) → version_in pages p ≡ Some t → P t.header → ¬ IsUndone w t.header)
     → (value : ℤ) (key : ℕ) → SomeOf w P pages entries value key ↔ SomeOnHeap value_of pages value key P
 some-on_heap value_of w horizon pages entries P sound made value key = (
@@ -129,10 +129,10 @@ some-on_heap value_of w horizon pages entries P sound made value key = (
         there = a.there;
         has = a.has;
       } in
-      (p, a.version, (found value_of w horizon pages entries sound (λ t. P t.header) made value key p a.version).1 i)),
+      (p, a.version, (found value_of None w horizon pages entries sound (λ t. P t.header) (λ p t at has. (made p t at has, λ none. none)) value key p a.version).1 i)),
   (λ h.
       let p = h.0 in
-      let i = (found value_of w horizon pages entries sound (λ t. P t.header) made value key p h.1).0 h.2 in
+      let i = (found value_of None w horizon pages entries sound (λ t. P t.header) (λ p t at has. (made p t at has, λ none. none)) value key p h.1).0 h.2 in
       let slots = slots_on pages i.entry.tid.page in
       let l = in-leads w horizon slots i.entry.tid.slot p.slot (sound.heap i.entry.tid.page) i.leads.chain in
       let q = place-of p.slot l.chain l.holds in
@@ -154,7 +154,7 @@ some-on_heap value_of w horizon pages entries P sound made value key = (
       }),
 )
 
-pub newer_commit-on_heap : (value_of : Row → ℤ) (w : Window) (horizon : ℕ) (pages : List (List Slot)) (entries : List Entry) (s : Snap) (x : ℕ) → EntriesAreSound value_of w horizon pages entries
+pub newer_commit-on_heap : (value_of : Row → ℤ) (w : Window) (horizon : ℕ) (pages : List (List Slot)) (entries : List Entry) (s : Snap) (x : ℕ) → EntriesAreSound value_of None w horizon pages entries
     → (value : ℤ) (key : ℕ) → SomeOf w (IsNewerCommitIn w s x) pages entries value key ↔ SomeOnHeap value_of pages value key (IsNewerCommitIn w s x)
 newer_commit-on_heap value_of w horizon pages entries s x sound value key = some-on_heap value_of w horizon pages entries (IsNewerCommitIn w s x) sound
     (λ p t at newer_commit. touched-made w horizon (slots_on pages p.page) p.slot x t (sound.heap p.page) at (alive (committed-to w x newer_commit.1)) newer_commit.0) value key
@@ -162,7 +162,7 @@ newer_commit-on_heap value_of w horizon pages entries s x sound value key = some
     alive : IsCommitted w x → ¬ IsAborted w x
     alive done gone = let e : Committed ≡ Aborted = sym done ∙ gone in cc
 
-pub other_writer-on_heap : (value_of : Row → ℤ) (w : Window) (horizon : ℕ) (pages : List (List Slot)) (entries : List Entry) (own : List ℕ) (x : ℕ) → EntriesAreSound value_of w horizon pages entries
+pub other_writer-on_heap : (value_of : Row → ℤ) (w : Window) (horizon : ℕ) (pages : List (List Slot)) (entries : List Entry) (own : List ℕ) (x : ℕ) → EntriesAreSound value_of None w horizon pages entries
     → (value : ℤ) (key : ℕ) → SomeOf w (IsOtherWriterIn w own x) pages entries value key ↔ SomeOnHeap value_of pages value key (IsOtherWriterIn w own x)
 other_writer-on_heap value_of w horizon pages entries own x sound value key = some-on_heap value_of w horizon pages entries (IsOtherWriterIn w own x) sound
     (λ p t at held. touched-made w horizon (slots_on pages p.page) p.slot x t (sound.heap p.page) at (alive (active-to w x held.active).unfinished) held.touch) value key

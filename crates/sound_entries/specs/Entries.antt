@@ -2,7 +2,7 @@
 -- chain, at its root, and all versions of the chain have the same indexed values; the entry stays right while the root
 -- becomes a redirect, and is taken away only after the root is dead.) The indexed value is any function of a row; in the
 -- primary index it is the key.
-use Rattle.std.specs.Prelude.{◌≡◌, ◌⊎◌, ℕ, ℤ, true, List, Option, Some, Contains}
+use Rattle.std.specs.Prelude.{◌≡◌, ◌⊎◌, ℕ, ℤ, true, List, Option, Some, None, Contains}
 use Rattle.xid_circle.specs.declared.Tid.{Tid}
 use Rattle.tuple_header.specs.Version.{Version}
 use Rattle.tuple_header.specs.declared.version.Row.{Row}
@@ -11,6 +11,7 @@ use Rattle.page_slots.specs.declared.slot.Slot.TheVariants.{Normal, Redirect, De
 use Rattle.page_slots.specs.Slots.{version_at}
 use Rattle.commit_status.specs.Window.{Window}
 use Rattle.hot_chain.specs.Chain.{is_root_in}
+use Rattle.visibility.specs.Visible.{IsDead}
 use Rattle.sound_page.specs.Sound.{IsIn, SoundPage}
 use Rattle.index_nodes.specs.declared.entry.Entry.{Entry}
 use Rattle.index_nodes.specs.Sets.{IsOf}
@@ -29,19 +30,26 @@ pub record SomeEntry (entries : List Entry) (p : Tid) : Type 0 where
   pub there : Contains entries entry
   pub at : entry.tid ≡ p
 
-pub record SoundEntries (value_of : Row → ℤ) (w : Window) (pages : List (List Slot)) (entries : List Entry) : Type 0 where
+-- What an index may leave out that is exact from this id on: what was dead to all who read as of that id or a later one. An index
+-- that always was exact leaves nothing out.
+abbrev pub IsExcused : Window → Option ℕ → Version → Type 0
+IsExcused w None t = ⊥
+IsExcused w (Some since) t = IsDead w since t.header
+
+pub record SoundEntries (value_of : Row → ℤ) (since : Option ℕ) (w : Window) (pages : List (List Slot)) (entries : List Entry) : Type 0 where
   pub leads : (e : Entry) → Contains entries e → MayBeTarget (slot_in pages e.tid)
-  -- each root and redirect has an entry
-  pub led : (p : Tid) → is_root_in (slot_in pages p) ≡ true → SomeEntry entries p
+  -- a root or redirect has an entry, if a version of its chain is not excused
+  pub led : (p : Tid) (n : ℕ) (t : Version) → IsIn w (slots_on pages p.page) p.slot n → version_at (slots_on pages p.page) n ≡ Some t
+      → IsExcused w since t ⊎ SomeEntry entries p
   -- and no two lead to one place
   pub one : (e f : Entry) → Contains entries e → Contains entries f → e.tid ≡ f.tid → e ≡ f
-  -- each version of its chain has the entry's value and key
+  -- each version of its chain has the entry's value and key, or is excused
   pub alike : (e : Entry) (n : ℕ) (t : Version) → Contains entries e → IsIn w (slots_on pages e.tid.page) e.tid.slot n
-      → version_at (slots_on pages e.tid.page) n ≡ Some t → IsOf (value_of t.row) t.row.key e
+      → version_at (slots_on pages e.tid.page) n ≡ Some t → IsExcused w since t ⊎ IsOf (value_of t.row) t.row.key e
 
-pub record EntriesAreSound (value_of : Row → ℤ) (w : Window) (horizon : ℕ) (pages : List (List Slot)) (entries : List Entry) : Type 0 where
+pub record EntriesAreSound (value_of : Row → ℤ) (since : Option ℕ) (w : Window) (horizon : ℕ) (pages : List (List Slot)) (entries : List Entry) : Type 0 where
   pub heap : SoundHeap w horizon pages
-  pub index : SoundEntries value_of w pages entries
+  pub index : SoundEntries value_of since w pages entries
 
 -- The law of each step, for a slot that an entry leads to before and after: it holds the same version, by its row and its
 -- inserter, or a redirect where a version or a redirect was, or is dead.
@@ -54,6 +62,6 @@ abbrev pub KeepsTargets : List (List Slot) → List (List Slot) → List Entry �
 KeepsTargets pages pages' entries entries' = (e : Entry) → Contains entries e → Contains entries' e → KeepsTarget (slot_in pages e.tid) (slot_in pages' e.tid)
 
 -- a step leaves the table sound, and keeps that law
-pub record StaysSound (value_of : Row → ℤ) (v : Window) (horizon : ℕ) (pages pages' : List (List Slot)) (entries entries' : List Entry) : Type 0 where
-  pub sound : EntriesAreSound value_of v horizon pages' entries'
+pub record StaysSound (value_of : Row → ℤ) (since : Option ℕ) (v : Window) (horizon : ℕ) (pages pages' : List (List Slot)) (entries entries' : List Entry) : Type 0 where
+  pub sound : EntriesAreSound value_of since v horizon pages' entries'
   pub led : KeepsTargets pages pages' entries entries'

@@ -1,21 +1,27 @@
 -- What is found through the entries of an index, and what on the pages themselves.
-use Rattle.std.specs.Prelude.{◌≡◌, ℕ, ℤ, List, Some, Contains}
+use Rattle.std.specs.Prelude.{◌≡◌, ℕ, ℤ, List, Option, Some, Contains}
 use Rattle.xid_circle.specs.declared.Tid.{Tid}
 use Rattle.tuple_header.specs.Version.{Version}
 use Rattle.tuple_header.specs.declared.version.Header.{Header}
 use Rattle.tuple_header.specs.declared.version.Row.{Row}
 use Rattle.page_slots.specs.declared.slot.Slot.{Slot}
 use Rattle.commit_status.specs.Window.{Window, IsAborted}
-use Rattle.visibility.specs.Visible.{IsFrozen}
+use Rattle.snapshot.specs.Snap.{Snap}
+use Rattle.visibility.specs.Visible.{IsFrozen, IsVisible}
 use Rattle.sound_page.specs.Sound.{IsIn}
 use Rattle.index_nodes.specs.declared.entry.Entry.{Entry}
 use Rattle.index_nodes.specs.Sets.{IsOf}
 use Rattle.index_lookup.specs.Pages.{slots_on, version_in}
+use Rattle.sound_entries.specs.Entries.{IsExcused}
 
 -- its inserter is aborted, and it is not frozen
 pub record IsUndone (w : Window) (h : Header) : Type 0 where
   pub thawed : ¬ IsFrozen h
   pub aborted : IsAborted w h.xmin.0
+
+-- the reader sees no version that an index may leave out which is exact from this id on
+abbrev pub SeesNoExcused : Window → Option ℕ → Snap → List ℕ → Type 0
+SeesNoExcused w since s own = (t : Version) → IsExcused w since t → ¬ IsVisible w s own t.header
 
 -- the place is in the chain that the entry leads to
 pub record PointsTo (w : Window) (pages : List (List Slot)) (entries : List Entry) (e : Entry) (p : Tid) : Type 0 where

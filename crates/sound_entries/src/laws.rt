@@ -1,43 +1,48 @@
 //! The laws of sound entries. Each function does nothing: its contract is the law.
 
-ghost use Rattle.sound_entries.specs.Laws.{LedByEntry, FoundByIndex, TouchedByIndex, FoundIsOnHeap, TheRowIsFound, PlaceIsOnHeap, NewerCommitIsOnHeap, OtherWriterIsOnHeap, NoEntriesAreSound, AddingKeepsEntries, TakingKeepsEntries, UpdatingKeepsEntries, PruningKeepsEntries, PagesGrowSound, EntriesGoSound, GivingKeepsEntries, CommittingKeepsEntries, AbortingKeepsEntries, LaterHorizonKeepsEntries, LedByTwoSteps};
+ghost use Rattle.sound_entries.specs.Laws.{LedByEntry, EachRootHasEntry, FoundByIndex, TouchedByIndex, FoundIsOnHeap, TheRowIsFound, PlaceIsOnHeap, NewerCommitIsOnHeap, OtherWriterIsOnHeap, NoEntriesAreSound, AddingKeepsEntries, TakingKeepsEntries, UpdatingKeepsEntries, PruningKeepsEntries, PagesGrowSound, EntriesGoSound, GivingKeepsEntries, CommittingKeepsEntries, AbortingKeepsEntries, LaterHorizonKeepsEntries, LedByTwoSteps};
 
-/// A version that isn't undone is in the chain of exactly one entry, which has its value and its key.
+/// A version that is neither undone nor excused is in the chain of exactly one entry, which has its value and its key.
 pub fn led_by_entry()
     ensures { LedByEntry }
 {}
 
-/// A reader finds the same by the index as on the heap.
+/// In an index that always was exact each root and redirect has an entry.
+pub fn each_root_has_entry()
+    ensures { EachRootHasEntry }
+{}
+
+/// A reader who sees no excused version finds the same by the index as on the heap.
 pub fn found_by_index()
     ensures { FoundByIndex }
 {}
 
-/// What an id made or deleted, that isn't aborted, is found by the index.
+/// What an id made or deleted, that isn't aborted, is found by an index that always was exact.
 pub fn touched_by_index()
     ensures { TouchedByIndex }
 {}
 
-/// Where the entries are sound, the row that is found is that of a version on the heap, and none where there is none.
+/// Where the entries are sound and no excused version is seen, the row that is found is that of a version on the heap, and none where there is none.
 pub fn found_is_on_heap()
     ensures { FoundIsOnHeap }
 {}
 
-/// Where the entries are sound and at most one version of the value and the key is seen, its row is found.
+/// Where besides at most one version of the value and the key is seen, its row is found.
 pub fn the_row_is_found()
     ensures { TheRowIsFound }
 {}
 
-/// Where the entries are sound, the place that is found is that of a version on the heap, and none where there is none.
+/// Where the entries are sound and no excused version is seen, the place that is found is that of a version on the heap, and none where there is none.
 pub fn place_is_on_heap()
     ensures { PlaceIsOnHeap }
 {}
 
-/// Where the entries are sound, the ids that a write check names are those of versions on the heap.
+/// Where the index always was exact, the ids that a write check names are those of versions on the heap.
 pub fn newer_commit_is_on_heap()
     ensures { NewerCommitIsOnHeap }
 {}
 
-/// Where the entries are sound, the other writers that a check for a write names are those of versions on the heap.
+/// Where the index always was exact, the other writers that a check for a write names are those of versions on the heap.
 pub fn other_writer_is_on_heap()
     ensures { OtherWriterIsOnHeap }
 {}

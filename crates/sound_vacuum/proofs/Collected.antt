@@ -20,14 +20,14 @@ use Rattle.tuple_writes.specs.Headers.{heap_only_header}
 use Rattle.tuple_writes.specs.Writes.{with_root, with_replaced, with_heap_only, with_updated}
 use Rattle.tuple_writes.proofs.Slotted.{replaced-other}
 use Rattle.index_nodes.specs.declared.entry.Entry.{Entry}
-use Rattle.root_index.specs.View.{IndexView}
 use Rattle.tuple_header.specs.IndexValue.{value_in}
 use Rattle.heap_pages.specs.View.{PagesView}
 use Rattle.index_lookup.specs.Pages.{slots_on, slot_in, version_in, Puts}
 use Rattle.sound_entries.specs.Entries.{SoundHeap, EntriesAreSound, StaysSound}
 use Rattle.sound_entries.proofs.Changes.{dead-stays}
 use Rattle.index_lookup.specs.Pages as lists
-use Rattle.table_indexes.specs.Indexes.{entries_at, entries_in, IsInUse, SameEntries}
+use Rattle.table_indexes.specs.Indexes.{entries_at, entries_in, since_at, IsInUse, SameEntries}
+use Rattle.table_indexes.proofs.IndexLemmas.{same-entries}
 use Rattle.heap_write.specs.Heap.{HeapView, slots_of, page_on, Keeps}
 use Rattle.heap_write.specs.Writes.{PutsRoot, SetsXmax, HotUpdates, ColdUpdates, UpdatesOnPage, Replaces, PrunesIfFull, Prunes}
 use Rattle.heap_write.specs.Refusals.{FailsUpdate}
@@ -112,21 +112,18 @@ keeps-then a b c first second n = record {
 kept-keep : (h h' : HeapView) → Keeps h h' → KeepsDeadSlots h h'
 kept-keep h h' k = pages-keep h h' k.slots k.entries
 
-pub same-indexes : (a b : List (Option IndexView)) → b ≡ a → SameEntries a b
-same-indexes a b same n = ap (λ (indexes : List (Option IndexView)). entries_at indexes n) same
-
 finished-keep : (h h' : HeapView) (ids : List ℕ) (status : _) → FinishesInTable h h' ids status → KeepsDeadSlots h h'
-finished-keep h h' ids status f = pages-keep h h' (ap (λ (p : PagesView). lists.page_slots_of p) f.pages) (same-indexes h.indexes h'.indexes f.indexes)
+finished-keep h h' ids status f = pages-keep h h' (ap (λ (p : PagesView). lists.page_slots_of p) f.pages) (same-entries h.indexes h'.indexes f.indexes)
 
 pruned-keep : (h h' : HeapView) (number horizon : ℕ) → Prunes h h' number horizon → KeepsDeadSlots h h'
-pruned-keep h h' number horizon p = same-keep h h' (same-indexes h.indexes h'.indexes (ap (λ (g : HeapView). g.indexes) p.is))
+pruned-keep h h' number horizon p = same-keep h h' (same-entries h.indexes h'.indexes (ap (λ (g : HeapView). g.indexes) p.is))
     (put-dead (slots_of h) (slots_of h') number p.after.slots (prunes-puts h h' number horizon p)
     (subst (λ slots. DeadStay slots p.after.slots) (sym (prunes-on h h' number horizon p))
     (λ k dead. dead-stays h.statuses horizon p.before.slots p.after.slots k p.pruned dead)))
 
 readied-keep : (h h' : HeapView) (place : Tid) (horizon size : ℕ) → PrunesIfFull h h' place horizon size → KeepsDeadSlots h h'
 readied-keep h h' place horizon size (PrunesIfFull.has_room room is) =
-    pages-keep h h' (ap (λ (g : HeapView). slots_of g) is) (same-indexes h.indexes h'.indexes (ap (λ (g : HeapView). g.indexes) is))
+    pages-keep h h' (ap (λ (g : HeapView). slots_of g) is) (same-entries h.indexes h'.indexes (ap (λ (g : HeapView). g.indexes) is))
 readied-keep h h' place horizon size (PrunesIfFull.is_pruned full grown keeps prunes) = keeps-then h grown h' (kept-keep h grown keeps) (pruned-keep grown h' place.page horizon prunes)
 readied-keep h h' place horizon size (PrunesIfFull.is_left full goes keeps) = kept-keep h h' keeps
 
@@ -180,7 +177,7 @@ failed-keep h h' own place row horizon fault.NoMemory f = kept-keep h h' f.2
 
 visited-keep : (h h' : HeapView) (horizon cutoff p : ℕ) → VisitsAt h h' horizon cutoff p → KeepsDeadSlots h h'
 visited-keep h h' horizon cutoff p v = keeps-then h v.pruned h' (pruned-keep h v.pruned p horizon v.prunes)
-    (same-keep v.pruned h' (same-indexes v.pruned.indexes h'.indexes (ap (λ (g : HeapView). g.indexes) v.freezes.is))
+    (same-keep v.pruned h' (same-entries v.pruned.indexes h'.indexes (ap (λ (g : HeapView). g.indexes) v.freezes.is))
     (put-dead (slots_of v.pruned) (slots_of h') p v.freezes.after.slots (freezes-put v.pruned h' cutoff p v.freezes)
     (frozen-dead v.pruned.statuses cutoff p (slots_on (slots_of v.pruned) p) v.freezes.after.slots (freezes-on v.pruned h' cutoff p v.freezes))))
 
@@ -222,21 +219,21 @@ module _ (h h' : HeapView) (i : ℕ) (dead : List Tid) (from : Option Entry) (pr
     fresh = λ e there absent. absurd (absent (only-go n e there));
   }
 
-  piece-of : (horizon : ℕ) → SoundTable h horizon → AreDead (slots_of h) dead → (n : ℕ) → EntriesAreSound (value_in n) h.statuses horizon (slots_of h) (entries_in h.indexes n)
-      → StaysSound (value_in n) h.statuses horizon (slots_of h) (slots_of h) (entries_in h.indexes n) (entries_in h'.indexes n)
+  piece-of : (horizon : ℕ) → SoundTable h horizon → AreDead (slots_of h) dead → (n : ℕ) → EntriesAreSound (value_in n) (since_at h.indexes n) h.statuses horizon (slots_of h) (entries_in h.indexes n)
+      → StaysSound (value_in n) (since_at h.indexes n) h.statuses horizon (slots_of h) (slots_of h) (entries_in h.indexes n) (entries_in h'.indexes n)
   piece-of horizon s are n = on-index
-      (λ k old new. EntriesAreSound (value_in k) h.statuses horizon (slots_of h) old → StaysSound (value_in k) h.statuses horizon (slots_of h) (slots_of h) old new)
-      (λ sound. piece-stays (value_in i) h.statuses horizon (slots_of h) (entries_in h.indexes i) (entries_in h'.indexes i) dead from progress sound v.removes are)
-      (λ k es sound. going-stays (value_in k) h.statuses horizon (slots_of h) es es sound (λ e there. there) (λ e there root. there))
+      (λ k old new. EntriesAreSound (value_in k) (since_at h.indexes k) h.statuses horizon (slots_of h) old → StaysSound (value_in k) (since_at h.indexes k) h.statuses horizon (slots_of h) (slots_of h) old new)
+      (λ sound. piece-stays (value_in i) (since_at h.indexes i) h.statuses horizon (slots_of h) (entries_in h.indexes i) (entries_in h'.indexes i) dead from progress sound v.removes are)
+      (λ k es sound. going-stays (value_in k) (since_at h.indexes k) h.statuses horizon (slots_of h) es es sound (λ e there. there) (λ e there root. there))
       n
 
   pub swept-stays-table : (horizon : ℕ) → SoundTable h horizon → AreDead (slots_of h) dead → StaysSoundTable h h' horizon
   swept-stays-table horizon s are = table-stays h h' horizon
       (subst (λ pages. SoundHeap h'.statuses horizon pages) (sym same-slots) (subst (λ (w : Window). SoundHeap w horizon (slots_of h)) (sym same-table) s.heap))
-      v.in_use
+      v.in_use v.since
       (λ n used.
-      subst (λ pages. StaysSound (value_in n) h'.statuses horizon (slots_of h) pages (entries_in h.indexes n) (entries_in h'.indexes n)) (sym same-slots)
-      (subst (λ (w : Window). StaysSound (value_in n) w horizon (slots_of h) (slots_of h) (entries_in h.indexes n) (entries_in h'.indexes n)) (sym same-table)
+      subst (λ pages. StaysSound (value_in n) (since_at h.indexes n) h'.statuses horizon (slots_of h) pages (entries_in h.indexes n) (entries_in h'.indexes n)) (sym same-slots)
+      (subst (λ (w : Window). StaysSound (value_in n) (since_at h.indexes n) w horizon (slots_of h) (slots_of h) (entries_in h.indexes n) (entries_in h'.indexes n)) (sym same-table)
       (piece-of horizon s are n (index-sound h horizon s n used))))
 
   pub swept-unseen : (s : Snap) (own : List ℕ) → FindsTheSame h h' s own
@@ -259,7 +256,7 @@ freed-others h h' p numbers f = (
       ∙ ap (λ slots. slot_at slots q.slot) (sym changes.before ∙ ap (slots_on (slots_of h)) (sym here)))
       (λ elsewhere. ap (λ slots. slot_at slots q.slot) (changes.puts.others q.page elsewhere))
       (cases_eq q.page p),
-  same-indexes h.indexes h'.indexes (ap (λ (g : HeapView). g.indexes) f.is),
+  (same-entries h.indexes h'.indexes (ap (λ (g : HeapView). g.indexes) f.is)).entries,
 )
   where
     changes : ChangesPage h h' p f.before.slots f.after.slots

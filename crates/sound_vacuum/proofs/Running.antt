@@ -17,9 +17,8 @@ use Rattle.space_maps.specs.declared.mark.Mark.TheVariants.{Nothing}
 use Rattle.space_maps.specs.View.{mark_on, says_visible}
 use Rattle.freeze.specs.AllVisible.{IsAllVisible}
 use Rattle.index_nodes.specs.declared.entry.Entry.{Entry}
-use Rattle.root_index.specs.View.{IndexView}
 use Rattle.index_lookup.specs.Pages.{slots_on, slot_in, version_in}
-use Rattle.table_indexes.specs.Indexes.{entries_in, IsInUse}
+use Rattle.table_indexes.specs.Indexes.{IndexesView, entries_in, IsInUse}
 use Rattle.heap_write.specs.Heap.{HeapView, slots_of}
 use Rattle.heap_write.specs.Writes.{Prunes}
 use Rattle.table_integrity.proofs.Places.{prunes-on, prunes-puts}
@@ -325,8 +324,8 @@ module _ (h h' : HeapView) (v v' : VacuumView) (horizon p : ℕ) (can : CanVacuu
       ∙ keeps.dead tid (in-filtered (λ (t : Tid). not (t.page == p)) v.store tid there)
 
   free-swept : AllAreSwept h' others
-  free-swept n used e there upto among = swept n (subst (λ (x : List (Option IndexView)). IsInUse x n) free-indexes used) e
-      (subst (λ (x : List (Option IndexView)). Contains (entries_in x n) e) free-indexes there) tt (in-filtered (λ (t : Tid). not (t.page == p)) v.store e.tid among)
+  free-swept n used e there upto among = swept n (subst (λ (x : IndexesView). IsInUse x n) free-indexes used) e
+      (subst (λ (x : IndexesView). Contains (entries_in x n) e) free-indexes there) tt (in-filtered (λ (t : Tid). not (t.page == p)) v.store e.tid among)
 
   -- the page
 

@@ -33,9 +33,10 @@ use Rattle.vacuum_passes.proofs.ListLemmas.{in-filtered, in-mapping}
 use Rattle.sound_vacuum.specs.Maps.{MapsAreTrue}
 use Rattle.sound_vacuum.specs.Noting.{FlagsAt, IsSameTable}
 use Rattle.sound_vacuum.specs.Sweeping.{AreDead}
+use Rattle.table_indexes.proofs.IndexLemmas.{same-entries}
 use Rattle.sound_vacuum.specs.Indexes.{AllAreSwept}
 use Rattle.sound_vacuum.specs.Vacuuming.{CanVacuum, KeepsVacuum, IsSafe}
-use Rattle.sound_vacuum.proofs.Collected.{same-indexes, swept-unled, swept-stays-table, swept-unseen}
+use Rattle.sound_vacuum.proofs.Collected.{swept-unled, swept-stays-table, swept-unseen}
 use Rattle.sound_vacuum.proofs.FreedTables.{frees-table, freed-stays-table, freed-reader-table, freed-unseen}
 use Rattle.sound_vacuum.proofs.Visited.{visited-stays-table, visited-unseen}
 use Rattle.sound_vacuum.proofs.Flagged.{slots-same, flagged-same, flagged-stays, flagged-reader, flagged-unseen, visited-maps, freed-maps}
@@ -115,7 +116,7 @@ module _ (h h' : HeapView) (p horizon : ℕ) (n : Notes h h' p horizon) where
       → MapsAreTrue h.statuses horizon h'.pages.pages h'.pages.marks → IsSafe g h' horizon
   then-noted g sound ids same stays unseen maps = record {
     ids = notes-flag.statuses ∙ sym ids;
-    table = stays-then g h h' horizon sound (same-come g.indexes h.indexes (same-indexes g.indexes h.indexes same)) stays
+    table = stays-then g h h' horizon sound (same-come g.indexes h.indexes (same-entries g.indexes h.indexes same)) stays
         (flagged-stays h h' p n.mark notes-flag horizon stays.sound);
     maps = subst (λ (w : Window). MapsAreTrue w horizon h'.pages.pages h'.pages.marks) (sym notes-flag.statuses) maps;
     unseen = λ s own reader.
@@ -197,7 +198,7 @@ module _ (h h' : HeapView) (v v' : VacuumView) (horizon p : ℕ) (can : CanVacuu
 pub same-safe : (h h' : HeapView) (horizon : ℕ) → CanVacuum h horizon → h' ≡ h → IsSafe h h' horizon
 same-safe h h' horizon can is = subst (λ (g : HeapView). IsSafe h g horizon) (sym is) (record {
   ids = refl;
-  table = record { sound = can.sound; in_use = λ n. (λ u. u, λ u. u); led = λ n e there among. stays-same (slot_in (slots_of h) e.tid) ((can.sound.indexes n (used-by h.indexes n e there)).leads e there) };
+  table = record { sound = can.sound; in_use = λ n. (λ u. u, λ u. u); since = λ n. refl; led = λ n e there among. stays-same (slot_in (slots_of h) e.tid) ((can.sound.indexes n (used-by h.indexes n e there)).leads e there) };
   maps = can.maps;
   unseen = λ s own reader. (reader, λ q r. (λ x. x, λ x. x));
 })

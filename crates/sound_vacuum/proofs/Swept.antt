@@ -13,27 +13,32 @@ use Rattle.index_nodes.specs.declared.entry.Entry.{Entry}
 use Rattle.index_nodes.specs.Order.{comparison, EntryPrecedes, IsAscending}
 use Rattle.index_nodes.specs.Sets.{IsAfter}
 use Rattle.index_nodes.proofs.OrderLemmas.{Precedes-trans}
-use Rattle.index_lookup.specs.Pages.{slot_in}
+use Rattle.index_lookup.specs.Pages.{slots_on, slot_in}
 use Rattle.sound_entries.specs.Entries.{EntriesAreSound, StaysSound}
-use Rattle.sound_entries.proofs.Going.{stays-same}
+use Rattle.sound_entries.proofs.Going.{stays-same, in-root}
 use Rattle.root_index.specs.declared.progress.Progress.{Progress}
 use Rattle.root_index.specs.declared.progress.Progress.TheVariants.{More, Done}
 use Rattle.root_index.specs.Pieces.{RemovesPiece}
 use Rattle.sound_vacuum.specs.Sweeping.{AreDead, IsSweptBefore, IsSweptTo, RemovesPieces, KeepsDead, RemovesEntries}
 
 -- Some of the entries to dead slots go.
-pub going-stays : (value_of : Row → ℤ) (w : Window) (horizon : ℕ) (pages : List (List Slot)) (entries entries' : List Entry) → EntriesAreSound value_of w horizon pages entries
+pub going-stays : (value_of : Row → ℤ) (since : Option ℕ) (w : Window) (horizon : ℕ) (pages : List (List Slot)) (entries entries' : List Entry) → EntriesAreSound value_of since w horizon pages entries
     → ((e : Entry) → Contains entries' e → Contains entries e)
     → ((e : Entry) → Contains entries e → is_root_in (slot_in pages e.tid) ≡ true → Contains entries' e)
-    → StaysSound value_of w horizon pages pages entries entries'
-going-stays value_of w horizon pages entries entries' sound old stays = record {
+    → StaysSound value_of since w horizon pages pages entries entries'
+going-stays value_of since w horizon pages entries entries' sound old stays = record {
   sound = record {
     heap = sound.heap;
     index = record {
       leads = λ e there. sound.index.leads e (old e there);
-      led = λ p root.
-          let s = sound.index.led p root in
-          record { entry = s.entry; there = stays s.entry s.there (ap (λ q. is_root_in (slot_in pages q)) s.at ∙ root); at = s.at };
+      led = λ p n t i at. ⊎_elim
+          (λ excused. inl excused)
+          (λ s. inr (record {
+            entry = s.entry;
+            there = stays s.entry s.there (ap (λ q. is_root_in (slot_in pages q)) s.at ∙ in-root w (slots_on pages p.page) p.slot n i);
+            at = s.at;
+          }))
+          (sound.index.led p n t i at);
       one = λ e f there among same. sound.index.one e f (old e there) (old f among) same;
       alike = λ e n t there i at. sound.index.alike e n t (old e there) i at;
     };
@@ -44,11 +49,11 @@ going-stays value_of w horizon pages entries entries' sound old stays = record {
 dead-no_root : (o : Option Slot) → o ≡ Some Dead → is_root_in o ≡ true → ⊥
 dead-no_root o at root = let e : false ≡ true = sym (ap is_root_in at) ∙ root in cc
 
-pub piece-stays : (value_of : Row → ℤ) (w : Window) (horizon : ℕ) (pages : List (List Slot)) (entries entries' : List Entry) (dead : List Tid) (from : Option Entry) (progress : Progress)
-    → EntriesAreSound value_of w horizon pages entries → RemovesPiece entries entries' dead from progress → AreDead pages dead
-    → StaysSound value_of w horizon pages pages entries entries'
-piece-stays value_of w horizon pages entries entries' dead from progress sound removes are_dead =
-    going-stays value_of w horizon pages entries entries' sound
+pub piece-stays : (value_of : Row → ℤ) (since : Option ℕ) (w : Window) (horizon : ℕ) (pages : List (List Slot)) (entries entries' : List Entry) (dead : List Tid) (from : Option Entry) (progress : Progress)
+    → EntriesAreSound value_of since w horizon pages entries → RemovesPiece entries entries' dead from progress → AreDead pages dead
+    → StaysSound value_of since w horizon pages pages entries entries'
+piece-stays value_of since w horizon pages entries entries' dead from progress sound removes are_dead =
+    going-stays value_of since w horizon pages entries entries' sound
     (λ e there. ((removes.members e).0 there).0)
     (λ e there root. (removes.members e).1 (there, λ all. dead-no_root (slot_in pages e.tid) (are_dead e.tid all.2) root))
 

@@ -13,13 +13,13 @@ use Rattle.commit_status.specs.Window.{Window, IsWindow, IsUpToNext, turns}
 use Rattle.snapshot.specs.Own.{Own}
 use Rattle.space_maps.specs.declared.mark.Mark.{Mark}
 use Rattle.space_maps.specs.declared.mark.Mark.TheVariants.{Nothing}
-use Rattle.space_maps.specs.View.{mark_on, says_visible}
+use Rattle.space_maps.specs.View.{mark_on}
 use Rattle.heap_pages.specs.View.{PagesView}
 use Rattle.freeze.specs.AllVisible.{IsTrueMark}
 use Rattle.freeze.specs.Visiting.{SettlesOn}
 use Rattle.freeze.proofs.Visiting.{true-on}
 use Rattle.heap_write.specs.Heap.{HeapView, Keeps, SameIds, PutsPage}
-use Rattle.heap_write.specs.Writes.{PutsRoot, SetsXmax, HotUpdates, ColdUpdates, UpdatesOnPage, Replaces, PrunesIfFull}
+use Rattle.heap_write.specs.Writes.{PutsRoot, SetsXmax, ColdUpdates, UpdatesOnPage, Replaces, PrunesIfFull}
 use Rattle.heap_write.specs.Refusals.{FailsUpdate}
 use Rattle.heap_write.specs.declared.heap.WriteFault.{WriteFault}
 use Rattle.heap_write.specs.declared.heap.WriteFault.TheVariants as fault

@@ -1,8 +1,9 @@
 -- The indexes of a table by their numbers: index 0 by key, which is always in use, and index c + 1 by column c. (README.HOT:
 -- there is one entry for a chain, in each index; a version that has another value in one of them is a root of its own.)
-use Rattle.std.specs.Prelude.{◌≡◌, ℕ, zero, suc, ◌+◌, ◌<◌, length, Bool, false, if◌then◌else◌, List, [], Option, Some, None, IsSome, ℤ, option_map, unwrap_or, slice_index_or}
+use Rattle.std.specs.Prelude.{◌≡◌, ℕ, zero, suc, ◌+◌, ◌<◌, ◌∷◌, length, Bool, false, if◌then◌else◌, List, [], Option, Some, None, IsSome, ℤ, option_map, unwrap_or, slice_index_or}
 use Rattle.xid_circle.specs.Numbers.{IndexNo, Count}
 use Rattle.xid_circle.specs.declared.Tid.{Tid}
+use Rattle.xid_circle.specs.declared.Xid.{Xid}
 use Rattle.tuple_header.specs.declared.version.Row.{Row}
 use Rattle.index_nodes.specs.declared.entry.Entry.{Entry}
 use Rattle.index_nodes.specs.Sets.{AddsEntry}
@@ -10,22 +11,33 @@ use Rattle.root_index.specs.View.{IndexView, room_in}
 use Rattle.tuple_header.specs.IndexValue.{value_in}
 use Rattle.index_lookup.specs.Pages.{entry_for}
 
+pub record IndexesView : Type 0 where
+  -- by their numbers: none where one is not in use
+  pub indexes : List (Option IndexView)
+  -- by the column, from which id on its index is exact: no id where it always was
+  pub since : List (Option Xid)
+
 -- the index of a number, if it is in use
-abbrev pub index_at : List (Option IndexView) → ℕ → Option IndexView
-index_at indexes n = slice_index_or indexes n None
+abbrev pub index_at : IndexesView → ℕ → Option IndexView
+index_at indexes n = slice_index_or indexes.indexes n None
+
+-- the id from which on an index is exact, if it was not always: who reads as of an id before may miss rows there. (PostgreSQL marks
+-- such an index indcheckxmin.) The index by key has none.
+abbrev pub since_at : IndexesView → ℕ → Option ℕ
+since_at indexes n = option_map (λ (x : Xid). x.0) (slice_index_or (None ∷ indexes.since) n None)
 
 abbrev pub entries_of : Option IndexView → Option (List Entry)
 entries_of o = option_map (λ (index : IndexView). index.entries) o
 
 -- its entries, if it is in use
-abbrev pub entries_at : List (Option IndexView) → ℕ → Option (List Entry)
+abbrev pub entries_at : IndexesView → ℕ → Option (List Entry)
 entries_at indexes n = entries_of (index_at indexes n)
 
 -- its entries: none where it is not in use
-abbrev pub entries_in : List (Option IndexView) → ℕ → List Entry
+abbrev pub entries_in : IndexesView → ℕ → List Entry
 entries_in indexes n = unwrap_or (entries_at indexes n) []
 
-abbrev pub IsInUse : List (Option IndexView) → ℕ → Type 0
+abbrev pub IsInUse : IndexesView → ℕ → Type 0
 IsInUse indexes n = IsSome (entries_at indexes n)
 
 -- in a new table no index has an entry, and one by a column is in use where this says so of the column
@@ -34,28 +46,28 @@ new_entries indexed zero = Some []
 new_entries indexed (suc c) = if slice_index_or indexed c false then Some [] else None
 
 -- index 0 is in use, and there are no more than five
-pub record HasIndexes (indexes : List (Option IndexView)) : Type 0 where
+pub record HasIndexes (indexes : IndexesView) : Type 0 where
   pub by_key : IsInUse indexes 0
   pub few : (n : ℕ) → IsInUse indexes n → n < 5
 
 -- the next index in use
-pub record IsNextIndex (indexes : List (Option IndexView)) (i j : ℕ) : Type 0 where
+pub record IsNextIndex (indexes : IndexesView) (i j : ℕ) : Type 0 where
   pub onward : i < j
   pub in_use : IsInUse indexes j
   pub none_between : (n : ℕ) → i < n → n < j → ¬ IsInUse indexes n
 
 -- how many entries so many indexes have, counted from n, and all five that there may be
-abbrev pub entries_from : List (Option IndexView) → IndexNo → (many : Count) → Count
+abbrev pub entries_from : IndexesView → IndexNo → (many : Count) → Count
 entries_from indexes n zero = 0
 entries_from indexes n (suc count) = length (entries_in indexes n) + entries_from indexes (suc n) count
 
-abbrev pub all_entries : List (Option IndexView) → ℕ
+abbrev pub all_entries : IndexesView → ℕ
 all_entries indexes = entries_from indexes 0 5
 
 -- What is said of rows.
 
 -- two rows have the same value in each index in use
-abbrev pub SameValues : List (Option IndexView) → Row → Row → Type 0
+abbrev pub SameValues : IndexesView → Row → Row → Type 0
 SameValues indexes old new = (n : ℕ) → IsInUse indexes n → value_in n new ≡ value_in n old
 
 -- a row without a body: what an index takes of a row is its key and its columns
@@ -68,9 +80,10 @@ index_entry_of n row place = entry_for (value_in n) row place.page place.slot
 
 -- Changes.
 
--- the same indexes are in use, and have the same entries
-abbrev pub SameEntries : List (Option IndexView) → List (Option IndexView) → Type 0
-SameEntries indexes indexes' = (n : ℕ) → entries_at indexes' n ≡ entries_at indexes n
+-- the same indexes are in use, have the same entries, and are exact from the same ids on
+pub record SameEntries (indexes indexes' : IndexesView) : Type 0 where
+  pub entries : (n : ℕ) → entries_at indexes' n ≡ entries_at indexes n
+  pub since : (n : ℕ) → since_at indexes' n ≡ since_at indexes n
 
 -- an index that is in use has this entry besides, and one that isn't is not in use afterwards
 abbrev pub AddsAny : Option (List Entry) → Option (List Entry) → Entry → Type 0
@@ -78,9 +91,10 @@ AddsAny None after entry = after ≡ None
 AddsAny (Some entries) None entry = ⊥
 AddsAny (Some entries) (Some entries') entry = AddsEntry entries entries' entry
 
--- each index in use has an entry besides, for a row's version at a place
-abbrev pub Enters : List (Option IndexView) → List (Option IndexView) → Row → Tid → Type 0
-Enters indexes indexes' row place = (n : ℕ) → AddsAny (entries_at indexes n) (entries_at indexes' n) (index_entry_of n row place)
+-- each index in use has an entry besides, for a row's version at a place, and is exact from the same id on
+pub record Enters (indexes indexes' : IndexesView) (row : Row) (place : Tid) : Type 0 where
+  pub adds : (n : ℕ) → AddsAny (entries_at indexes n) (entries_at indexes' n) (index_entry_of n row place)
+  pub since : (n : ℕ) → since_at indexes' n ≡ since_at indexes n
 
 -- Memory.
 
@@ -89,7 +103,7 @@ abbrev pub HasEntry : Option IndexView → Type 0
 HasEntry None = Unit {0}
 HasEntry (Some index) = 0 < room_in index
 
-abbrev pub HasEntries : List (Option IndexView) → Type 0
+abbrev pub HasEntries : IndexesView → Type 0
 HasEntries indexes = (n : ℕ) → HasEntry (index_at indexes n)
 
 -- it may: none is set aside, and there is no entry, or there are 128 or more
@@ -98,5 +112,5 @@ LacksEntry None = ⊥
 LacksEntry (Some index) = room_in index ≡ 0
 
 -- an entry in one of the indexes in use takes memory
-abbrev pub NeedsEntry : List (Option IndexView) → Type 0
+abbrev pub NeedsEntry : IndexesView → Type 0
 NeedsEntry indexes = (n : ℕ) × LacksEntry (index_at indexes n)

@@ -7,14 +7,14 @@ ghost use Rattle.root_index.specs.Pieces.{RemovesPiece};
 ghost use Rattle.index_nodes.specs.Sets.{AddsEntry};
 ghost use Rattle.root_index.specs.View.{room_in};
 ghost use Rattle.tuple_header.specs.IndexValue.{value_in};
-ghost use Rattle.table_indexes.specs.Indexes.{IsInUse, HasIndexes, IsNextIndex, all_entries, index_at, entries_of, entries_at, entries_in, new_entries, without_body, SameValues, SameEntries, AddsAny, Enters, HasEntry, HasEntries, LacksEntry, NeedsEntry};
+ghost use Rattle.table_indexes.specs.Indexes.{IsInUse, HasIndexes, IsNextIndex, all_entries, index_at, since_at, entries_of, entries_at, entries_in, new_entries, without_body, SameValues, SameEntries, AddsAny, Enters, HasEntry, HasEntries, LacksEntry, NeedsEntry};
 
 use dead_places::DeadSet;
 use root_index::{Entry, PositionHint, Progress, RootIndex};
 use std::alloc::{AllocError, Global};
 use std::marker::Model;
 use tuple_header::{Row, RowRef};
-use xid_circle::Tid;
+use xid_circle::{Tid, Xid};
 
 /// How many columns may have an index.
 const COLUMNS: usize = 4;
@@ -24,15 +24,17 @@ const COLUMNS: usize = 4;
 pub struct Indexes {
     by_key: RootIndex,
     by_column: [Option<RootIndex>; 4],
+    /// From which id on the index by each column is exact, if it was not always.
+    since: [Option<Xid>; 4],
 }
 
 impl Model for Indexes {
-    ghost use Rattle.std.specs.Prelude.{◌≡◌, List, Option, Some, ◌∷◌, length};
-    ghost use Rattle.root_index.specs.View.{IndexView};
+    ghost use Rattle.std.specs.Prelude.{◌≡◌, Some, ◌∷◌, length};
+    ghost use Rattle.table_indexes.specs.Indexes.{IndexesView};
 
-    ghost Value = { List (Option IndexView) };
+    ghost Value = { IndexesView };
 
-    ghost view = { λ x. Some x.by_key ∷ x.by_column };
+    ghost view = { λ x. record { indexes = Some x.by_key ∷ x.by_column; since = x.since } };
 
     ghost invariant = { λ x. length x.by_column ≡ 4 };
 }
@@ -40,7 +42,8 @@ impl Model for Indexes {
 impl Indexes {
     /// Indexes without entries: one by key, and one by each column of which this says so.
     pub fn new(alloc: Global, indexed: [bool; 4]) -> Self
-        ensures { (n : ℕ) → entries_at result n ≡ new_entries indexed n }
+        ensures entries { (n : ℕ) → entries_at result n ≡ new_entries indexed n }
+        ensures since { (n : ℕ) → since_at result n ≡ None }
     {
         Indexes {
             by_key: RootIndex::new(alloc),
@@ -50,6 +53,7 @@ impl Indexes {
                 index_if(alloc, indexed[2]),
                 index_if(alloc, indexed[3]),
             ],
+            since: [None; 4],
         }
     }
 
@@ -122,6 +126,7 @@ impl Indexes {
             dead.now from result.0 }
         ensures others { (n : ℕ) → n ≢ number → entries_at self.new n ≡ entries_at self.old n }
         ensures in_use { (n : ℕ) → IsInUse self.old n ↔ IsInUse self.new n }
+        ensures since { (n : ℕ) → since_at self.new n ≡ since_at self.old n }
     {
         if number == 0 {
             self.by_key.remove_where(dead, from, near)

@@ -12,7 +12,6 @@ use Rattle.prune.proofs.SoundAfter.{pruned-sound}
 use Rattle.tuple_writes.specs.Laws.{DeletedWhatWasMade, AloneDeletedTheirs}
 use Rattle.tuple_writes.proofs.Statuses.{giving-sound, committing-sound, aborting-sound, later-sound}
 use Rattle.snapshot.specs.Own.{Own}
-use Rattle.root_index.specs.View.{IndexView}
 use Rattle.index_nodes.specs.declared.entry.Entry.{Entry}
 use Rattle.tuple_header.specs.IndexValue.{value_in}
 use Rattle.index_lookup.specs.Pages.{slots_on, Puts}
@@ -23,7 +22,8 @@ use Rattle.sound_entries.proofs.Tables.{nothing-sound}
 use Rattle.heap_pages.specs.View.{PagesView}
 use Rattle.page_slots.specs.View.{PageView}
 use Rattle.index_lookup.specs.Pages as lists
-use Rattle.table_indexes.specs.Indexes.{entries_at, entries_in, IsInUse, SameEntries}
+use Rattle.table_indexes.specs.Indexes.{entries_in, since_at, IsInUse, SameEntries}
+use Rattle.table_indexes.proofs.IndexLemmas.{same-entries, entries-kept}
 use Rattle.heap_write.specs.Heap.{HeapView, SameIds, Keeps, slots_of}
 use Rattle.heap_write.specs.Writes.{TakesIds, PrunesIfFull, Prunes}
 use Rattle.heap_write.specs.Refusals.{FailsUpdate}
@@ -43,9 +43,9 @@ with_pruned h number after = record h { pages = record h.pages { pages = slice_s
 
 pub pruned-stays : (h h' : HeapView) (number horizon : ℕ) → SoundTable h horizon → Prunes h h' number horizon → StaysSoundTable h h' horizon
 pruned-stays h h' number horizon s p = subst (λ (g : HeapView). StaysSoundTable h g horizon) (sym p.is)
-    (same-stays h after horizon (λ n. refl) (heap-puts h.statuses horizon number (slots_of h) (slots_of after) p.after.slots s.heap puts
+    (same-stays h after horizon (entries-kept h.indexes) (heap-puts h.statuses horizon number (slots_of h) (slots_of after) p.after.slots s.heap puts
     (pruned-sound h.statuses horizon (slots_on (slots_of h) number) p.after.slots (s.heap number) pruned))
-    (λ n used. pruning-stays (value_in n) h.statuses horizon number (slots_of h) (slots_of after) (entries_in h.indexes n) p.after.slots (index-sound h horizon s n used) pruned puts))
+    (λ n used. pruning-stays (value_in n) (since_at h.indexes n) h.statuses horizon number (slots_of h) (slots_of after) (entries_in h.indexes n) p.after.slots (index-sound h horizon s n used) pruned puts))
   where
     after : HeapView
     after = with_pruned h number p.after
@@ -59,10 +59,10 @@ pruned-stays h h' number horizon s p = subst (λ (g : HeapView). StaysSoundTable
 -- The slots and the entries are as they were.
 
 slots-stay : (h h' : HeapView) (horizon : ℕ) → slots_of h' ≡ slots_of h → SameEntries h.indexes h'.indexes → SoundHeap h'.statuses horizon (slots_of h)
-    → ((n : ℕ) → IsInUse h.indexes n → StaysSound (value_in n) h'.statuses horizon (slots_of h) (slots_of h) (entries_in h.indexes n) (entries_in h.indexes n))
+    → ((n : ℕ) → IsInUse h.indexes n → StaysSound (value_in n) (since_at h.indexes n) h'.statuses horizon (slots_of h) (slots_of h) (entries_in h.indexes n) (entries_in h.indexes n))
     → StaysSoundTable h h' horizon
 slots-stay h h' horizon slots entries heap each = same-stays h h' horizon entries (subst (λ pages. SoundHeap h'.statuses horizon pages) (sym slots) heap)
-    (λ n used. subst (λ pages. StaysSound (value_in n) h'.statuses horizon (slots_of h) pages (entries_in h.indexes n) (entries_in h.indexes n)) (sym slots) (each n used))
+    (λ n used. subst (λ pages. StaysSound (value_in n) (since_at h.indexes n) h'.statuses horizon (slots_of h) pages (entries_in h.indexes n) (entries_in h.indexes n)) (sym slots) (each n used))
 
 pub later-stays-sound : (h : HeapView) (horizon later : ℕ) → SoundTable h horizon → IsWindow h.statuses → IsUpToNext h.statuses horizon → IsUpToNext h.statuses later
     → turns h.statuses.first horizon ≤ turns h.statuses.first later → SoundTable h later
@@ -71,28 +71,26 @@ later-stays-sound h horizon later s is upto upto_later low = record {
   indexes = s.indexes;
 }
 
-same-indexes : (a b : List (Option IndexView)) → b ≡ a → SameEntries a b
-same-indexes a b same n = ap (λ (indexes : List (Option IndexView)). entries_at indexes n) same
-
 pub committed-stays : (h h' : HeapView) (horizon : ℕ) (ids : List ℕ) → SoundTable h horizon → FinishesInTable h h' ids Committed
     → ((n : ℕ) → DeletedWhatWasMade h.statuses (slots_on (slots_of h) n) ids) → StaysSoundTable h h' horizon
 committed-stays h h' horizon ids s f theirs =
-    slots-stay h h' horizon (ap (λ (p : PagesView). lists.page_slots_of p) f.pages) (same-indexes h.indexes h'.indexes f.indexes)
+    slots-stay h h' horizon (ap (λ (p : PagesView). lists.page_slots_of p) f.pages) (same-entries h.indexes h'.indexes f.indexes)
     (λ n. committing-sound h.statuses h'.statuses horizon ids (slots_on (slots_of h) n) f.active f.finishes (theirs n) (s.heap n))
-    (λ n used. committing-stays (value_in n) h.statuses h'.statuses horizon ids (slots_of h) (entries_in h.indexes n) (index-sound h horizon s n used) f.active f.finishes theirs)
+    (λ n used. committing-stays (value_in n) (since_at h.indexes n) h.statuses h'.statuses horizon ids (slots_of h) (entries_in h.indexes n) (index-sound h horizon s n used) f.active f.finishes theirs)
 
 pub aborted-stays : (h h' : HeapView) (horizon : ℕ) (ids : List ℕ) → SoundTable h horizon → FinishesInTable h h' ids Aborted
     → ((n : ℕ) → AloneDeletedTheirs h.statuses (slots_on (slots_of h) n) ids) → StaysSoundTable h h' horizon
 aborted-stays h h' horizon ids s f theirs =
-    slots-stay h h' horizon (ap (λ (p : PagesView). lists.page_slots_of p) f.pages) (same-indexes h.indexes h'.indexes f.indexes)
+    slots-stay h h' horizon (ap (λ (p : PagesView). lists.page_slots_of p) f.pages) (same-entries h.indexes h'.indexes f.indexes)
     (λ n. aborting-sound h.statuses h'.statuses horizon ids (slots_on (slots_of h) n) f.active f.finishes (theirs n) (s.heap n))
-    (λ n used. aborting-stays (value_in n) h.statuses h'.statuses horizon ids (slots_of h) (entries_in h.indexes n) (index-sound h horizon s n used) f.active f.finishes theirs)
+    (λ n used. aborting-stays (value_in n) (since_at h.indexes n) h.statuses h'.statuses horizon ids (slots_of h) (entries_in h.indexes n) (index-sound h horizon s n used) f.active f.finishes theirs)
 
 -- There is more memory.
 
 pub kept-stays : (h h' : HeapView) (horizon : ℕ) → SoundTable h horizon → Keeps h h' → StaysSoundTable h h' horizon
 kept-stays h h' horizon s k = slots-stay h h' horizon k.slots k.entries still
-    (λ n used. statuses-stay h.statuses h'.statuses (λ x gone. same-status h.statuses h'.statuses k.statuses x ∙ gone) (value_in n) horizon horizon (slots_of h) (entries_in h.indexes n)
+    (λ n used. statuses-stay h.statuses h'.statuses (λ x gone. same-status h.statuses h'.statuses k.statuses x ∙ gone) (λ x done. same-status h.statuses h'.statuses k.statuses x ∙ done)
+    (value_in n) (since_at h.indexes n) horizon horizon (slots_of h) (entries_in h.indexes n)
     (index-sound h horizon s n used) still)
   where
     still : SoundHeap h'.statuses horizon (slots_of h)
@@ -107,10 +105,10 @@ abbrev pub with_table : HeapView → Window → HeapView
 with_table h w = record h { statuses = w }
 
 as-was : (h : HeapView) (w : Window) (horizon : ℕ) → SameIds h.statuses w → SoundTable h horizon → StaysSoundTable h (with_table h w) horizon
-as-was h w horizon ids s = kept-stays h (with_table h w) horizon s (record { slots = refl; changes = refl; flags = refl; marks = refl; statuses = ids; entries = λ n. refl; max_pages = refl })
+as-was h w horizon ids s = kept-stays h (with_table h w) horizon s (record { slots = refl; changes = refl; flags = refl; marks = refl; statuses = ids; entries = entries-kept h.indexes; max_pages = refl })
 
 pub ready-come : (h h' : HeapView) (place : Tid) (horizon size : ℕ) → PrunesIfFull h h' place horizon size → OnlyCome h.indexes h'.indexes
-ready-come h h' place horizon size (PrunesIfFull.has_room room is) = same-come h.indexes h'.indexes (same-indexes h.indexes h'.indexes (ap (λ (g : HeapView). g.indexes) is))
+ready-come h h' place horizon size (PrunesIfFull.has_room room is) = same-come h.indexes h'.indexes (same-entries h.indexes h'.indexes (ap (λ (g : HeapView). g.indexes) is))
 ready-come h h' place horizon size (PrunesIfFull.is_pruned full grown keeps prunes) =
     subst (λ (g : HeapView). OnlyCome h.indexes g.indexes) (sym prunes.is) (same-come h.indexes grown.indexes keeps.entries)
 ready-come h h' place horizon size (PrunesIfFull.is_left full goes keeps) = same-come h.indexes h'.indexes keeps.entries
@@ -151,18 +149,18 @@ failed-stays h h' horizon own place row fault.NoMemory s f = kept-stays h h' hor
 pub nothing-stays : (h : HeapView) (horizon : ℕ) → h.pages.pages ≡ [] → ((n : ℕ) → entries_in h.indexes n ≡ []) → SoundTable h horizon
 nothing-stays h horizon pages entries = record {
   heap = (nothing 0).heap;
-  indexes = λ n used. subst (λ (es : List Entry). SoundEntries (value_in n) h.statuses (slots_of h) es) (sym (entries n)) (nothing n).index;
+  indexes = λ n used. subst (λ (es : List Entry). SoundEntries (value_in n) (since_at h.indexes n) h.statuses (slots_of h) es) (sym (entries n)) (nothing n).index;
 }
   where
-    nothing : (n : ℕ) → EntriesAreSound (value_in n) h.statuses horizon (slots_of h) []
-    nothing n = subst (λ (ps : List PageView). EntriesAreSound (value_in n) h.statuses horizon (map (λ (p : PageView). p.slots) ps) []) (sym pages) (nothing-sound (value_in n) h.statuses horizon)
+    nothing : (n : ℕ) → EntriesAreSound (value_in n) (since_at h.indexes n) h.statuses horizon (slots_of h) []
+    nothing n = subst (λ (ps : List PageView). EntriesAreSound (value_in n) (since_at h.indexes n) h.statuses horizon (map (λ (p : PageView). p.slots) ps) []) (sym pages) (nothing-sound (value_in n) (since_at h.indexes n) h.statuses horizon)
 
 -- The ids that a session lacks are given.
 
 given-one : (h : HeapView) (a b : Window) (horizon : ℕ) (parent : Option ℕ) → IsWindow a → IsWindow b → Gives a b parent → SoundTable (with_table h a) horizon → SoundTable (with_table h b) horizon
 given-one h a b horizon parent before after gives s = record {
   heap = λ n. giving-sound a b horizon parent (slots_on (slots_of h) n) before after gives (s.heap n);
-  indexes = λ n used. (giving-stays (value_in n) a b horizon parent (slots_of h) (entries_in h.indexes n) (index-sound (with_table h a) horizon s n used) before after gives).sound.index;
+  indexes = λ n used. (giving-stays (value_in n) (since_at h.indexes n) a b horizon parent (slots_of h) (entries_in h.indexes n) (index-sound (with_table h a) horizon s n used) before after gives).sound.index;
 }
 
 pub given-stays : (h : HeapView) (v : Window) (horizon : ℕ) (own own' : Own) (x : ℕ) → SoundTable h horizon → IsWindow h.statuses → IsWindow v

@@ -1,5 +1,5 @@
 -- Writes leave a table sound.
-use Rattle.std.proofs.Common.{◌≡◌, ◌≤◌, ℕ, Bool, true, false, List, Some, sym, ◌∙◌, subst, ⊎_elim, inl, inr}
+use Rattle.std.proofs.Common.{◌≡◌, ◌≤◌, ℕ, Bool, true, false, List, Some, refl, sym, ◌∙◌, subst, ⊎_elim, inl, inr}
 use Rattle.xid_circle.specs.declared.Tid.{Tid}
 use Rattle.tuple_header.specs.Version.{Version, rounded_size_of}
 use Rattle.tuple_header.specs.declared.version.Header.{Header}
@@ -16,7 +16,7 @@ use Rattle.tuple_header.specs.IndexValue.{value_in}
 use Rattle.index_lookup.specs.Pages.{slots_on, slot_in, version_in, Puts, entry_for}
 use Rattle.sound_entries.proofs.Going.{stays-same}
 use Rattle.sound_entries.proofs.Changes.{adding-stays, taking-stays, updating-stays, heap-puts}
-use Rattle.table_indexes.specs.Indexes.{entries_in, IsInUse}
+use Rattle.table_indexes.specs.Indexes.{entries_in, since_at, IsInUse}
 use Rattle.heap_write.specs.Heap.{HeapView, slots_of, page_on}
 use Rattle.heap_write.specs.Writes.{PutsRoot, SetsXmax, HotUpdates, ColdUpdates, KeepsValues, UpdatesOnPage, Replaces, Inserts, Updates, Deletes}
 use Rattle.table_integrity.specs.Table.{SoundTable, StaysSoundTable, MayDelete}
@@ -40,8 +40,8 @@ module _ (h h' : HeapView) (w : Window) (horizon x : ℕ) (s : SoundTable (with_
   pub root-stays : (updated : Bool) (row : Row) (n : ℕ) → PutsRoot h h' updated x row n → StaysSoundTable (with_table h w) (with_table h' w) horizon
   root-stays updated row n r = table-stays (with_table h w) (with_table h' w) horizon
       (heap-puts w horizon n (slots_of h) (slots_of h') (with_root slots updated x n row) s.heap puts (root-added w horizon x n slots updated row (s.heap n) active few).sound)
-      (enters-used h.indexes h'.indexes row (free_place h n) r.entries)
-      (λ i used. adding-stays (value_in i) w horizon x n (slots_of h) (slots_of h') (entries_in h.indexes i) (entries_in h'.indexes i) updated row
+      (enters-used h.indexes h'.indexes row (free_place h n) r.entries) r.entries.since
+      (λ i used. adding-stays (value_in i) (since_at h.indexes i) w horizon x n (slots_of h) (slots_of h') (entries_in h.indexes i) (entries_in h'.indexes i) updated row
       (index-sound (with_table h w) horizon s i used) active few puts (adds i used))
     where
       slots : List Slot
@@ -74,7 +74,7 @@ module _ (h h' : HeapView) (w : Window) (horizon x : ℕ) (s : SoundTable (with_
         same-stays (with_table h w) (with_table h' w) horizon a.entries
         (heap-puts w horizon place.page (slots_of h) (slots_of h') after s.heap puts
         (taken-away w horizon place.slot x successor.page successor.slot slots (s.heap place.page) active is-free).sound)
-        (λ i used. taking-stays (value_in i) w horizon place.page place.slot x successor.page successor.slot (slots_of h) (slots_of h') (entries_in h.indexes i)
+        (λ i used. taking-stays (value_in i) (since_at h.indexes i) w horizon place.page place.slot x successor.page successor.slot (slots_of h) (slots_of h') (entries_in h.indexes i)
         (index-sound (with_table h w) horizon s i used) active is-free puts)
 
     pub here-stays : (row : Row) → row.key ≡ t.row.key → KeepsValues h place row → HotUpdates h h' place x row → StaysSoundTable (with_table h w) (with_table h' w) horizon
@@ -86,7 +86,7 @@ module _ (h h' : HeapView) (w : Window) (horizon x : ℕ) (s : SoundTable (with_
         same-stays (with_table h w) (with_table h' w) horizon a.entries
         (heap-puts w horizon place.page (slots_of h) (slots_of h') (with_updated slots place.slot x place.page row) s.heap puts
         (updated-here w horizon place.slot x place.page slots row (s.heap place.page) active is-free few).sound)
-        (λ i used. updating-stays (value_in i) w horizon place.page place.slot x place.page (slots_of h) (slots_of h') (entries_in h.indexes i) row t
+        (λ i used. updating-stays (value_in i) (since_at h.indexes i) w horizon place.page place.slot x place.page (slots_of h) (slots_of h') (entries_in h.indexes i) row t
         (index-sound (with_table h w) horizon s i used) active is-free few at (values t.row (row-there h place t at) i used) key puts)
 
 -- A version is replaced: by a root on any page, or on its own page by a heap-only one where no value changes.
@@ -116,6 +116,7 @@ given h v horizon before after =
     record {
       sound = after;
       in_use = λ n. (λ used. used, λ used. used);
+      since = λ n. refl;
       led = λ n e there among. stays-same (slot_in (slots_of h) e.tid) ((before.indexes n (used-by h.indexes n e there)).leads e there);
     }
 

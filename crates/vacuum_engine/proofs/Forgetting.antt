@@ -20,14 +20,14 @@ use Rattle.commit_status.proofs.Ancestors.{top-before}
 use Rattle.commit_status.proofs.Tables.{window_of, table-dropped}
 use Rattle.snapshot.specs.Snap.{Snap, Sees, earliest}
 use Rattle.snapshot.proofs.Sights.{sees-top}
-use Rattle.visibility.specs.Visible.{state_of}
+use Rattle.visibility.specs.Visible.{IsDead, state_of}
 use Rattle.visibility.specs.Seeing.{IsRunning, Touches}
 use Rattle.visibility.proofs.Makers.{touch-cases, state-some, state-is, active-to}
 use Rattle.hot_chain.specs.Chain.{has_aborted}
 use Rattle.sound_page.specs.Links.{link}
 use Rattle.sound_page.specs.Sound.{IsIn, SoundPage}
 use Rattle.sound_page.proofs.Links.{link-of}
-use Rattle.sound_page.proofs.Undone.{has-aborted, aborted-has}
+use Rattle.sound_page.proofs.Undone.{has-aborted, aborted-has, committed-some}
 use Rattle.tuple_writes.proofs.Statuses.{successor-from, replaced-live}
 use Rattle.forgetting.specs.Truncating.{ForgetsFor, IsWellTopped}
 use Rattle.forgetting.specs.Pages.{AreYoung}
@@ -39,8 +39,8 @@ use Rattle.freeze.proofs.Visiting.{true-on}
 use Rattle.tuple_header.specs.IndexValue.{value_in}
 use Rattle.index_lookup.specs.Pages.{slots_on, slot_in, version_in}
 use Rattle.index_lookup.proofs.PageLists.{slots-there}
-use Rattle.sound_entries.proofs.Going.{page-same, stay-sound, stays-same}
-use Rattle.table_indexes.specs.Indexes.{entries_in}
+use Rattle.sound_entries.proofs.Going.{StaysExcused, page-same, stay-sound, stays-same}
+use Rattle.table_indexes.specs.Indexes.{entries_in, since_at}
 use Rattle.table_integrity.specs.Table.{SoundTable}
 use Rattle.table_integrity.proofs.InUse.{used-by}
 use Rattle.heap_write.specs.Heap.{HeapView, slots_of}
@@ -201,11 +201,19 @@ module _ (st : State) (u : Window) (w : World) (v : VacuumView) (agrees : Agrees
   heap-sound : (n : ℕ) → SoundPage u (horizon_of st) (slots_on pages n)
   heap-sound n = forgetting-sound before u c (horizon_of st) (slots_on pages n) is iv t up (young-on n) (agrees.sound.table.heap n)
 
+  -- what is excused stays so, since the ids of what is left are remembered
+  excused-stays : (since : Option ℕ) (n : ℕ) → StaysExcused since before u (slots_on pages n)
+  excused-stays None n k r at none = none
+  excused-stays (Some id) n k r at (IsDead.never_was thawed gone) = IsDead.never_was thawed
+      (ended-stays before u c is iv t up r.header.xmin.0 Aborted gone aborted-ended ((young-on n).makers k r at thawed))
+  excused-stays (Some id) n k r at (IsDead.is_past done early) = IsDead.is_past
+      (ended-stays before u c is iv t up r.header.xmax.0 Committed done committed-ended ((young-on n).deleters k r at (committed-some before r.header.xmax.0 done))) early
+
   table-sound : SoundTable after (horizon_of st)
   table-sound = record {
     heap = heap-sound;
-    indexes = λ n used. stay-sound (value_in n) before u pages pages (entries_in st.heap.indexes n) (agrees.sound.table.indexes n used)
-        (λ m. page-same (value_in n) before u (slots_on pages m) (λ k. ⊥) (in-back before u (slots_on pages m) (aborted-stays m)));
+    indexes = λ n used. stay-sound (value_in n) (since_at st.heap.indexes n) before u pages pages (entries_in st.heap.indexes n) (agrees.sound.table.indexes n used)
+        (λ m. page-same (value_in n) (since_at st.heap.indexes n) before u (slots_on pages m) (λ k. ⊥) (in-back before u (slots_on pages m) (aborted-stays m)) (excused-stays (since_at st.heap.indexes n) m));
   }
 
   -- Readers.
@@ -288,6 +296,7 @@ module _ (st : State) (u : Window) (w : World) (v : VacuumView) (agrees : Agrees
     sessions = session-keeps;
     tops = tops;
     indexes = agrees.sound.indexes;
+    exact = agrees.sound.exact;
     cursors = agrees.sound.cursors;
     table = subst (λ n. SoundTable after n) horizon-same table-sound;
   })

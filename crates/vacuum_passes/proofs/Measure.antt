@@ -14,9 +14,8 @@ use Rattle.page_slots.specs.declared.slot.Slot.TheVariants.{Unused, Dead}
 use Rattle.page_slots.specs.Slots.{slot_at}
 use Rattle.page_slots.proofs.SlotLemmas.{there-from_slot_at}
 use Rattle.index_nodes.specs.declared.entry.Entry.{Entry}
-use Rattle.root_index.specs.View.{IndexView}
 use Rattle.index_lookup.specs.Pages.{slots_on}
-use Rattle.table_indexes.specs.Indexes.{entries_in}
+use Rattle.table_indexes.specs.Indexes.{IndexesView, entries_in}
 use Rattle.heap_write.specs.Heap.{HeapView, slots_of}
 use Rattle.calls.specs.declared.vacuum.Mode.{Mode}
 use Rattle.calls.specs.declared.vacuum.Piece.{Piece}
@@ -25,7 +24,7 @@ use Rattle.vacuum_passes.specs.declared.vacuum.Phase.TheVariants as phase
 use Rattle.vacuum_passes.specs.View.{VacuumView, places, space, phase_with, collected, at_end, with_phase, counted, new_vacuum, bound}
 use Rattle.root_index.specs.Pieces.{RemovesPiece}
 use Rattle.vacuum_passes.specs.Visits.{Visits, IsNextPage}
-use Rattle.vacuum_passes.specs.Steps.{Steps, PhaseAfter, Sweeps, Frees, Drops, off_page, phase_left}
+use Rattle.vacuum_passes.specs.Steps.{Steps, PhaseAfter, Sweeps, Frees, off_page, phase_left}
 use Rattle.vacuum_passes.specs.Keeps.{KeepsStore}
 use Rattle.vacuum_passes.specs.Bound.{count_on, count_from, slots_left, pieces_in, pieces_of, pieces_from, all_pieces, pieces_after, whole_round, round_left, left, KeepsBound, IsWithin, CanCount}
 use Rattle.table_indexes.specs.Indexes.{HasIndexes, all_entries}
@@ -62,29 +61,29 @@ some-lower pages next next' slots slots' entries round round' k onward fewer low
 
 -- Rounds.
 
-whole-most : (indexes : List (Option IndexView)) (store : List Tid) → whole_round indexes store ≤ all_pieces indexes + length store
+whole-most : (indexes : IndexesView) (store : List Tid) → whole_round indexes store ≤ all_pieces indexes + length store
 whole-most indexes [] = omega arith
 whole-most indexes (tid ∷ store) = omega arith
 
-whole-least : (indexes : List (Option IndexView)) (store : List Tid) (n : ℕ) → all_pieces indexes ≤ n → all_pieces indexes + length store ≤ whole_round indexes store + n
+whole-least : (indexes : IndexesView) (store : List Tid) (n : ℕ) → all_pieces indexes ≤ n → all_pieces indexes + length store ≤ whole_round indexes store + n
 whole-least indexes [] n few = omega (arith, few)
 whole-least indexes (tid ∷ store) n few = omega arith
 
-whole-some : (indexes : List (Option IndexView)) (store : List Tid) → store ≢ [] → whole_round indexes store ≡ all_pieces indexes + length store
+whole-some : (indexes : IndexesView) (store : List Tid) → store ≢ [] → whole_round indexes store ≡ all_pieces indexes + length store
 whole-some indexes [] some = absurd (some refl)
 whole-some indexes (tid ∷ store) some = refl
 
-whole-same : (indexes : List (Option IndexView)) (store store' : List Tid) → length store' ≡ length store → whole_round indexes store' ≡ whole_round indexes store
+whole-same : (indexes : IndexesView) (store store' : List Tid) → length store' ≡ length store → whole_round indexes store' ≡ whole_round indexes store
 whole-same indexes [] [] e = refl
 whole-same indexes [] (t ∷ s) e = absurd (omega (arith, e))
 whole-same indexes (t ∷ s) [] e = absurd (omega (arith, e))
 whole-same indexes (t ∷ s) (u ∷ r) e = ap (λ n. all_pieces indexes + n) e
 
 -- index 0 is the first of all
-first-index : (indexes : List (Option IndexView)) → HasIndexes indexes → pieces_in None (entries_in indexes 0) + pieces_after indexes 0 ≡ all_pieces indexes
+first-index : (indexes : IndexesView) → HasIndexes indexes → pieces_in None (entries_in indexes 0) + pieces_after indexes 0 ≡ all_pieces indexes
 first-index indexes has = ap (λ n. n + pieces_after indexes 0) (sym (pieces-in_use indexes 0 has.by_key))
 
-begun-round : (indexes : List (Option IndexView)) (limit : ℕ) (store : List Tid) → HasIndexes indexes → (b : Bool)
+begun-round : (indexes : IndexesView) (limit : ℕ) (store : List Tid) → HasIndexes indexes → (b : Bool)
     → round_left indexes store (if b then phase.Index 0 None else phase.Heap) ≤ all_pieces indexes + length store
 begun-round indexes limit store has true = let e = first-index indexes has in omega (arith, e)
 begun-round indexes limit store has false = whole-most indexes store
@@ -181,7 +180,7 @@ module _ (h h' : HeapView) (v : VacuumView) (horizon p : ℕ) (c : CanCount h v)
   some-space = let lt = heap.0 in omega (arith, lt)
 
   round-most : round_left h'.indexes store' (phase_with v.limit store') ≤ all_pieces h.indexes + length store'
-  round-most = subst (λ (x : List (Option IndexView)). round_left x store' (phase_with v.limit store') ≤ all_pieces h.indexes + length store') (sym set.indexes)
+  round-most = subst (λ (x : IndexesView). round_left x store' (phase_with v.limit store') ≤ all_pieces h.indexes + length store') (sym set.indexes)
       (begun-round h.indexes v.limit store' c.indexes (length store' == v.limit))
 
   long : length store' ≡ length v.store + length took
@@ -292,7 +291,7 @@ module _ (h h' : HeapView) (v v' : VacuumView) (i : ℕ) (from : Option Entry) (
 
 -- Slots are freed.
 
-left-round : (indexes : List (Option IndexView)) (store : List Tid) → round_left indexes store (phase_left store) ≡ length store
+left-round : (indexes : IndexesView) (store : List Tid) → round_left indexes store (phase_left store) ≡ length store
 left-round indexes [] = refl
 left-round indexes (tid ∷ store) = refl
 

@@ -13,9 +13,8 @@ use Rattle.xid_circle.proofs.Members.{Contains-first, Contains-rest, Contains-ca
 use Rattle.index_nodes.specs.declared.entry.Entry.{Entry}
 use Rattle.index_nodes.specs.Order.{comparison, EntryPrecedes, IsAscending}
 use Rattle.index_nodes.specs.Sets.{IsAfter}
-use Rattle.root_index.specs.View.{IndexView}
 use Rattle.index_nodes.proofs.OrderLemmas.{not_before_itself, Precedes-trans}
-use Rattle.table_indexes.specs.Indexes.{entries_at, entries_in, IsInUse}
+use Rattle.table_indexes.specs.Indexes.{IndexesView, entries_at, entries_in, IsInUse}
 use Rattle.root_index.specs.declared.progress.Progress.{Progress}
 use Rattle.root_index.specs.declared.progress.Progress.TheVariants.{More}
 use Rattle.root_index.specs.Pieces.{RemovesPiece}
@@ -110,7 +109,7 @@ in-use-is : (o : Option (List Entry)) → IsSome o → (if is_some o then max 1 
 in-use-is None used = absurd (cc used)
 in-use-is (Some es) used = refl
 
-pub pieces-in_use : (indexes : List (Option IndexView)) (n : ℕ) → IsInUse indexes n → pieces_of indexes n ≡ pieces_in None (entries_in indexes n)
+pub pieces-in_use : (indexes : IndexesView) (n : ℕ) → IsInUse indexes n → pieces_of indexes n ≡ pieces_in None (entries_in indexes n)
 pieces-in_use indexes n used = in-use-is (entries_at indexes n) used
 
 of-fewer : (o o' : Option (List Entry)) → (IsSome o' → IsSome o) → length (unwrap_or o' []) ≤ length (unwrap_or o [])
@@ -119,18 +118,18 @@ of-fewer o None used fewer = omega arith
 of-fewer None (Some es) used fewer = absurd (let e : false ≡ true = used refl in cc)
 of-fewer (Some es) (Some es') used fewer = let le : length es' ≤ length es = fewer in omega (arith, le)
 
-pub pieces-fewer : (indexes indexes' : List (Option IndexView)) (n : ℕ) → (IsInUse indexes' n → IsInUse indexes n) → length (entries_in indexes' n) ≤ length (entries_in indexes n)
+pub pieces-fewer : (indexes indexes' : IndexesView) (n : ℕ) → (IsInUse indexes' n → IsInUse indexes n) → length (entries_in indexes' n) ≤ length (entries_in indexes n)
     → pieces_of indexes' n ≤ pieces_of indexes n
 pieces-fewer indexes indexes' n used fewer = of-fewer (entries_at indexes n) (entries_at indexes' n) used fewer
 
-pub all-fewer : (indexes indexes' : List (Option IndexView)) (n count : ℕ) → ((k : ℕ) → pieces_of indexes' k ≤ pieces_of indexes k) → pieces_from indexes' n count ≤ pieces_from indexes n count
+pub all-fewer : (indexes indexes' : IndexesView) (n count : ℕ) → ((k : ℕ) → pieces_of indexes' k ≤ pieces_of indexes k) → pieces_from indexes' n count ≤ pieces_from indexes n count
 all-fewer indexes indexes' n zero fewer = omega arith
 all-fewer indexes indexes' n (suc count) fewer =
     let first = fewer n in
     let rest = all-fewer indexes indexes' (suc n) count fewer in
     omega (arith, first, rest)
 
-pub pieces-split : (indexes : List (Option IndexView)) (n a b count : ℕ) → count ≡ a + b → pieces_from indexes n count ≡ pieces_from indexes n a + pieces_from indexes (n + a) b
+pub pieces-split : (indexes : IndexesView) (n a b count : ℕ) → count ≡ a + b → pieces_from indexes n count ≡ pieces_from indexes n a + pieces_from indexes (n + a) b
 pieces-split indexes n zero b count e =
     let size : count ≡ b = omega (arith, e) in
     let place : n ≡ n + 0 = omega arith in
@@ -144,7 +143,7 @@ pieces-split indexes n (suc a) b (suc count) e =
     omega (arith, rest, same)
 
 -- the pieces after index i are those of a later one and those after it, and maybe more
-pub pieces-later : (indexes : List (Option IndexView)) (i j : ℕ) → i < j → j < 5 → pieces_of indexes j + pieces_after indexes j ≤ pieces_after indexes i
+pub pieces-later : (indexes : IndexesView) (i j : ℕ) → i < j → j < 5 → pieces_of indexes j + pieces_after indexes j ≤ pieces_after indexes i
 pieces-later indexes i j onward few =
     let split = pieces-split indexes (suc i) (j - suc i) (suc (4 - j)) (4 - i) (omega (arith, onward, few)) in
     let start : suc i + (j - suc i) ≡ j = omega (arith, onward) in
@@ -152,7 +151,7 @@ pieces-later indexes i j onward few =
     omega (arith, split, there)
 
 -- the pieces of an index that holds some entries are at most one more
-pub pieces-few : (indexes : List (Option IndexView)) (n count : ℕ) → pieces_from indexes n count ≤ entries_from indexes n count + count
+pub pieces-few : (indexes : IndexesView) (n count : ℕ) → pieces_from indexes n count ≤ entries_from indexes n count + count
 pieces-few indexes n zero = omega arith
 pieces-few indexes n (suc count) =
     let first = by (entries_at indexes n) in

@@ -1,12 +1,11 @@
 -- What comes after a piece is told by the indexes in use, which no piece changes.
-use Rattle.std.proofs.Common.{◌↔◌, ℕ, List, Option}
-use Rattle.root_index.specs.View.{IndexView}
+use Rattle.std.proofs.Common.{◌↔◌, ℕ}
 use Rattle.root_index.specs.declared.progress.Progress.{Progress}
-use Rattle.table_indexes.specs.Indexes.{IsInUse}
+use Rattle.table_indexes.specs.Indexes.{IndexesView, IsInUse}
 use Rattle.vacuum_passes.specs.declared.vacuum.Phase.{Phase}
 use Rattle.vacuum_passes.specs.Steps.{PhaseAfter}
 
-pub after-same : (indexes indexes' : List (Option IndexView)) (i : ℕ) (progress : Progress) (after : Phase) → ((n : ℕ) → IsInUse indexes n ↔ IsInUse indexes' n)
+pub after-same : (indexes indexes' : IndexesView) (i : ℕ) (progress : Progress) (after : Phase) → ((n : ℕ) → IsInUse indexes n ↔ IsInUse indexes' n)
     → PhaseAfter indexes' i progress after → PhaseAfter indexes i progress after
 after-same indexes indexes' i progress after same (PhaseAfter.more last e is) = PhaseAfter.more last e is
 after-same indexes indexes' i progress after same (PhaseAfter.onward j e next is) = PhaseAfter.onward j e (record {

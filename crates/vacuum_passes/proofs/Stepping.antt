@@ -1,12 +1,11 @@
 -- What a vacuum holds after a step, as it is seen.
-use Rattle.std.proofs.Common.{◌≡◌, ◌≢◌, ℕ, zero, suc, ◌+◌, ◌-◌, ◌<◌, ◌≤◌, ◌==◌, nat_lt, true, false, List, [], ◌∷◌, ◌++◌, length, map, take, drop, Option, Some, None, if◌then◌else◌, inl, inr, ◌⊎◌, arith, refl, sym, ap, ◌∙◌, subst, ⊎_elim, Contains, slice_get}
+use Rattle.std.proofs.Common.{◌≡◌, ◌≢◌, ℕ, zero, suc, ◌+◌, ◌-◌, ◌<◌, ◌≤◌, ◌==◌, nat_lt, true, false, List, [], ◌∷◌, ◌++◌, length, map, take, drop, Some, None, if◌then◌else◌, inl, inr, ◌⊎◌, arith, refl, sym, ap, ◌∙◌, subst, ⊎_elim, Contains, slice_get}
 use Rattle.std.proofs.lemmas.Bool.{cases_lt, eqb-true, eqb-false}
 use Rattle.std.proofs.lemmas.List.{drop_all, length-drop, nil_from_length}
 use Rattle.xid_circle.specs.declared.Tid.{Tid}
 use Rattle.space_maps.specs.declared.mark.Mark.{Mark}
 use Rattle.space_maps.specs.declared.mark.Mark.TheVariants.{Nothing}
 use Rattle.space_maps.specs.View.{mark_on}
-use Rattle.root_index.specs.View.{IndexView}
 use Rattle.root_index.specs.declared.progress.Progress.{Progress}
 use Rattle.calls.specs.declared.vacuum.Mode.{Mode}
 use Rattle.calls.specs.declared.vacuum.Mode.TheVariants.{Normal, Aggressive}
@@ -18,6 +17,7 @@ use Rattle.vacuum_passes.specs.Steps.{PhaseAfter, Frees, Drops, IsLowest, on_pag
 use Rattle.vacuum_passes.proofs.FreedPlaces.{on-places}
 use Rattle.vacuum_passes.proofs.ListLemmas.{pairs-tail}
 use Rattle.vacuum_passes.specs.Keeps.{IsVacuum, KeepsStore}
+use Rattle.table_indexes.specs.Indexes.{IndexesView}
 use Rattle.heap_write.specs.Heap.{HeapView}
 use Rattle.freeze.specs.DeadSlots.{ListsDead}
 use Rattle.vacuum_passes.specs.Visits.{Visits}
@@ -88,7 +88,7 @@ visit-says h h' v w v' horizon p same page dead lists is = subst (λ (u : Vacuum
 
 -- An index.
 
-pub begun-index-kept : (v : VacuumView) (indexes : List (Option IndexView)) (i : ℕ) (progress : Progress) (after : Phase) → IsVacuum v → v.store ≢ []
+pub begun-index-kept : (v : VacuumView) (indexes : IndexesView) (i : ℕ) (progress : Progress) (after : Phase) → IsVacuum v → v.store ≢ []
     → PhaseAfter indexes i progress after → IsVacuum (record v { next = v.pages; phase = after })
 begun-index-kept v indexes i progress after keeps some next = record {
   within = omega arith;

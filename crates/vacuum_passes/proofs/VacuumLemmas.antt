@@ -13,7 +13,7 @@ use Rattle.xid_circle.specs.declared.Tid.{Tid}
 use Rattle.xid_circle.proofs.Members.{Contains-none}
 use Rattle.index_nodes.specs.declared.entry.Entry.{Entry}
 use Rattle.dead_places.specs.Places.{PlacePrecedes}
-use Rattle.root_index.specs.View.{IndexView}
+use Rattle.table_indexes.specs.Indexes.{IndexesView}
 use Rattle.heap_write.specs.Heap.{HeapView}
 use Rattle.calls.specs.declared.vacuum.Piece.{Piece}
 use Rattle.vacuum_passes.specs.declared.vacuum.Phase.{Phase}
@@ -113,7 +113,7 @@ module _ (v : VacuumView) (p : ℕ) (dead : List ℕ) (i : IsVacuum v) (is : v.p
 
 -- A piece of an index.
 
-pub index-kept : (indexes : List (Option IndexView)) (i : ℕ) (progress : Progress) (after : Phase) (v : VacuumView) → v.store ≢ [] → PhaseAfter indexes i progress after → KeepsStore v after
+pub index-kept : (indexes : IndexesView) (i : ℕ) (progress : Progress) (after : Phase) (v : VacuumView) → v.store ≢ [] → PhaseAfter indexes i progress after → KeepsStore v after
 index-kept indexes i progress after v some (PhaseAfter.more last e is) = subst (KeepsStore v) (sym is) some
 index-kept indexes i progress after v some (PhaseAfter.onward j e n is) = subst (KeepsStore v) (sym is) some
 index-kept indexes i progress after v some (PhaseAfter.over e n is) = subst (KeepsStore v) (sym is) some

@@ -3,8 +3,7 @@ use Rattle.std.specs.Prelude.{◌≡◌, ◌≢◌, ◌<◌, ◌≤◌, ℕ, ◌
 use Rattle.std.specs.List.{filter}
 use Rattle.xid_circle.specs.declared.Tid.{Tid}
 use Rattle.index_nodes.specs.declared.entry.Entry.{Entry}
-use Rattle.root_index.specs.View.{IndexView}
-use Rattle.table_indexes.specs.Indexes.{IsInUse, IsNextIndex}
+use Rattle.table_indexes.specs.Indexes.{IndexesView, IsInUse, IsNextIndex}
 use Rattle.heap_write.specs.Heap.{HeapView}
 use Rattle.root_index.specs.declared.progress.Progress.{Progress}
 use Rattle.root_index.specs.declared.progress.Progress.TheVariants.{More, Done}
@@ -19,7 +18,7 @@ use Rattle.heap_write.specs.Cleaning.{SweepsAt, FreesAt, Notes}
 -- Index.
 
 -- what comes after a piece of index i: another of it, or the first of the next index, or the collected slots become free
-pub data PhaseAfter (indexes : List (Option IndexView)) (i : ℕ) (progress : Progress)
+pub data PhaseAfter (indexes : IndexesView) (i : ℕ) (progress : Progress)
     (after : Phase) : Type 0 where
   more : (last : Entry) → progress ≡ More last → after ≡ phase.Index i (Some last)
       → PhaseAfter indexes i progress after

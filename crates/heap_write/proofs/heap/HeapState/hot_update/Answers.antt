@@ -23,7 +23,7 @@ returns-clause-replaces c =
     let within : free_number e.0.slots ≤ 291 = search rules in
     let h' : HeapView = record { pages = c.write-slot.new.self; statuses = c.take_ids-x.new.statuses; indexes = c.self.inside.indexes; max_pages = c.self.inside.max_pages } in
     subst (λ (v : HeapView). HotUpdates v h' place x row) c.self.view_is
-    (replaces-here h h' place x row e.0 e.1 e.2 adds within (ap (λ (p : PagesView). p.pages) e.4) (ap (λ (p : PagesView). p.marks) e.4) (λ n. refl))
+    (replaces-here h h' place x row e.0 e.1 e.2 adds within (ap (λ (p : PagesView). p.pages) e.4) (ap (λ (p : PagesView). p.marks) e.4) (record { entries = λ n. refl; since = λ n. refl }))
 
 pub invariant_of-self : goal.invariant_of-self
 invariant_of-self c =

@@ -23,7 +23,7 @@ returns-in-Ok-Some-clause-ok c =
     let R : ℕ → Option Target → Type 0 = λ size found. Reserves c.self.inside.pages c.reserve_place.new.pages c.self.inside.max_pages size found in
     let reserves = subst (λ found. R (rounded_size_of c.args.row.now) found) c.in-Ok-Some.field-0-is (subst (λ size. R size c.in-Ok-Some.field-0) c.row_size.ensures.value c.in-Ok-Some.ensures.reserves) in
     both-ok c.insert_at.result (λ x takes root. subst (λ v. Inserts v c.insert_at.new.self c.args.own.now c.insert_at.new.own c.args.row.now x.0) c.self.view_is
-    (inserts h _ c.insert_at.new.self c.args.own.now c.insert_at.new.own c.args.row.now x.0 c.in-Ok-Some.target free reserves (λ n. refl) takes root c.insert_at.ensures.max_pages)) c.insert_at.ensures.takes c.insert_at.ensures.root
+    (inserts h _ c.insert_at.new.self c.args.own.now c.insert_at.new.own c.args.row.now x.0 c.in-Ok-Some.target free reserves (record { entries = λ n. refl; since = λ n. refl }) takes root c.insert_at.ensures.max_pages)) c.insert_at.ensures.takes c.insert_at.ensures.root
 
 pub returns-in-Err-clause-fault : goal.returns-in-Err-clause-fault
 returns-in-Err-clause-fault c =
@@ -48,7 +48,7 @@ returns-in-Ok-Some-clause-fault c =
 pub returns-in-Ok-Some-clause-err : goal.returns-in-Ok-Some-clause-err
 returns-in-Ok-Some-clause-err c =
     let h = the_view c.self.inside in
-    let reserved = keeps-viewed h c.args.self.now _ c.self.view_is c.reserve_place.ensures.same (same-ids c.self.inside.statuses) (λ n. refl) refl in
+    let reserved = keeps-viewed h c.args.self.now _ c.self.view_is c.reserve_place.ensures.same (same-ids c.self.inside.statuses) (record { entries = λ n. refl; since = λ n. refl }) refl in
     on_err_weaker c.insert_at.result (λ kept. keeps-then c.args.self.now _ c.insert_at.new.self reserved kept) c.insert_at.ensures.err
 
 pub invariant_of-self : goal.invariant_of-self

@@ -8,6 +8,7 @@ use Rattle.commit_status.specs.Window.{IsWindow}
 use Rattle.prune.specs.Room.{IsPlanOf}
 use Rattle.heap_pages.specs.View.{PagesView}
 use Rattle.table_indexes.specs.Indexes.{HasEntries, SameEntries}
+use Rattle.table_indexes.proofs.IndexLemmas.{entries-back}
 use Rattle.heap_write.specs.Heap.{HeapView}
 use Rattle.heap_write.specs.Growth.{page_in}
 use Rattle.heap_write.specs.Writes.Replaces.{on_page}
@@ -54,7 +55,7 @@ replace_on_page-requires-clause-heap_only c =
     let same = applied-row h c.reserve_ids_for-reserved.new.self after place c.args.plan.now.actions.items pruned.within grown.keeps c.requires.around.planned c.apply_plan.ensures pruned.may.there in
     let entries : SameEntries h.indexes after.indexes = subst (λ (v : HeapView). SameEntries h.indexes v.indexes) (sym c.apply_plan.ensures) grown.keeps.entries in
     let says = c.keeps_values-heap_only.ensures in
-    (λ yes. values-on h after place row same entries (says.0 yes), λ kept. says.1 (values-on after h place row (sym same) (λ n. sym (entries n)) kept))
+    (λ yes. values-on h after place row same entries (says.0 yes), λ kept. says.1 (values-on after h place row (sym same) (entries-back h.indexes after.indexes entries) kept))
 
 pub replace_on_page-requires-clause-has_entries : goal.replace_on_page-requires-clause-has_entries
 replace_on_page-requires-clause-has_entries c =

@@ -1,7 +1,7 @@
-use Rattle.std.proofs.Common.{◌+◌, ◌∷◌, Some}
+use Rattle.std.proofs.Common.{◌+◌, ◌∷◌, ◌≡◌, Some}
 use Rattle.table_indexes.specs.Indexes.{without_body}
 use Rattle.table_indexes.proofs.Columns.{Entered}
 use Rattle.table_indexes.proofs.indexes.Indexes.enter.Given as goal
 
 abbrev pub invariant-loop-c : goal.invariant-loop-c
-invariant-loop-c l = Entered (without_body l.fn.key l.cols) l.fn.place l.fn.self (Some l.self-inside.by_key ∷ l.self-inside.by_column) (l.c + 1)
+invariant-loop-c l = Entered (without_body l.fn.key l.cols) l.fn.place l.fn.self.indexes (Some l.self-inside.by_key ∷ l.self-inside.by_column) (l.c + 1) × (l.self-inside.since ≡ l.fn.self.since)
