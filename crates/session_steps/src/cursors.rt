@@ -8,7 +8,7 @@ ghost use Rattle.session_steps.specs.Replies.{reply_to};
 
 use crate::engine::SessionEngine;
 use crate::outcome::Ack;
-use crate::session::{SessionIsolation, Session};
+use crate::session::{Session, SessionIsolation};
 use calls::Refusal;
 use heap_write::IndexRange;
 use snapshot::Snapshot;

@@ -13,7 +13,7 @@ ghost use Rattle.session_steps.specs.New.{IsNew};
 ghost use Rattle.calls.specs.declared.step.TheConstants.{MOST_SESSIONS};
 
 use crate::checked::CheckedSettings;
-use crate::session::{SessionIsolation, Session};
+use crate::session::{Session, SessionIsolation};
 use crate::sessions::Sessions;
 use calls::{Refusal, Settings, SettingsFault};
 use commit_status::Status;

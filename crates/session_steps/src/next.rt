@@ -98,6 +98,11 @@ impl SessionEngine {
             result.0 result.1 places.new }
     {
         let lent = self.lend(session);
-        put_next(&self.heap, &self.cursor_reader(session, &lent), cursor, places)
+        put_next(
+            &self.heap,
+            &self.cursor_reader(session, &lent),
+            cursor,
+            places,
+        )
     }
 }

@@ -12,7 +12,7 @@ add_entry-requires c = subst (λ (v : IndexesView). HasEntry (index_at v 0)) (sy
 pub loop-c-init : goal.loop-c-init
 loop-c-init c = (
   entered-key (without_body c.args.key c.args.cols.now) c.args.place c.args.self.now.indexes c.self.inside.by_column c.self.inside.by_key c.add_entry.new.index c.value_in.result _
-    (ap (λ (v : IndexesView). v.indexes) c.self.view_is) c.self.invariant c.value_in.ensures.value (to_z-of_z w128 c.value_in.result c.value_in.ensures.fits) c.add_entry.ensures,
+      (ap (λ (v : IndexesView). v.indexes) c.self.view_is) c.self.invariant c.value_in.ensures.value (to_z-of_z w128 c.value_in.result c.value_in.ensures.fits) c.add_entry.ensures,
   ap (λ (v : IndexesView). v.since) c.self.view_is,
 )
 
@@ -24,7 +24,7 @@ enter_in-requires c =
 pub loop-c-preserved : goal.loop-c-preserved
 loop-c-preserved c = (
   entered-column (without_body c.args.key c.args.cols.now) c.args.place c.args.self.now.indexes c.loop-c.self-inside.by_column (Some c.loop-c.self-inside.by_key) c.index-self-c.result c.enter_in.new.index c.value_in-value.result _ c.loop-c.c
-    c.loop-c-test.true c.loop-c.invariant.0 c.value_in-value.ensures.value (to_z-of_z w128 c.value_in-value.result c.value_in-value.ensures.fits) c.enter_in.ensures,
+      c.loop-c-test.true c.loop-c.invariant.0 c.value_in-value.ensures.value (to_z-of_z w128 c.value_in-value.result c.value_in-value.ensures.fits) c.enter_in.ensures,
   c.loop-c.invariant.1,
 )
 
