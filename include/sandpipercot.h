@@ -226,12 +226,8 @@ struct sandpiper_slot {
 /* Slot number 1, 2, .. of a page, counted from 0: FOUND or NO_ROW. */
 uint32_t sandpiper_slot_at(struct sandpiper *table, uint32_t page, uint16_t number, struct sandpiper_slot *slot);
 
-/* The bytes of a page are in PostgreSQL's layout (docs/format.md), so that a tool can look into one as pageinspect does. */
+/* The bytes of a page are in PostgreSQL's layout (docs/format.md). */
 #define SANDPIPER_PAGE_BYTES 8192
-
-/* Writes the bytes of a page, counted from 0, to the first 8192 of `length`: FOUND; NO_ROW where the page is not in use; NO_PLACE where
- * `length` is less. */
-uint32_t sandpiper_page_bytes(struct sandpiper *table, uint32_t page, uint8_t *bytes, size_t length);
 
 /* What is wrong with bytes, as those of a page: the first that holds, in this order. Of slots the lowest is named. */
 enum sandpiper_page_fault {

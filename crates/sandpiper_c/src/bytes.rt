@@ -1,57 +1,10 @@
-//! The bytes of a page, and the check of bytes that come from elsewhere.
+//! The check of bytes, which may come from anywhere, as those of a page.
 
 ghost use Rattle.std.specs.Prelude.{◌≡◌};
 ghost use Rattle.page_slots.specs.Faults.{page_fault};
-ghost use Rattle.sandpiper_c.specs.Calls.{StaysAsIs};
-ghost use Rattle.sandpiper_c.specs.Bytes.{number_of_page_fault, slot_of_page_fault, number_of_finding, slot_of_finding, page_numbered, ShowsBytes, ShowsBytesOf};
+ghost use Rattle.sandpiper_c.specs.Bytes.{number_of_page_fault, slot_of_page_fault, number_of_finding, slot_of_finding};
 
-use crate::database::Sandpiper;
-use crate::status::CallStatus;
-use page_slots::{PAGE_BYTES, Page, PageFault, check_page};
-use session_core::Engine;
-use std::alloc::Global;
-
-/// Writes the bytes of the page to C's places, if they are enough.
-fn put_bytes(page: &Page, bytes: &mut [u8]) -> u32
-    ensures { ShowsBytes (Some page.now) bytes.old result bytes.new }
-{
-    if bytes.len() < PAGE_BYTES {
-        return CallStatus::NoPlace.number();
-    }
-    bytes[..PAGE_BYTES].copy_from_slice(page.bytes());
-    CallStatus::Found.number()
-}
-
-/// Writes the bytes of the page of this number, if it is in use.
-fn put_bytes_of(engine: &Engine, number: u32, bytes: &mut [u8]) -> u32
-    ensures { ShowsBytes (page_numbered engine.now.core number) bytes.old result bytes.new }
-{
-    match engine.page(number) {
-        Some(page) => put_bytes(page, bytes),
-        None => CallStatus::NoRow.number(),
-    }
-}
-
-/// Writes the 8192 bytes of the page of this number, counted from 0, to the first of C's own, if the page is in use.
-#[unsafe(no_mangle)]
-pub extern "C" fn sandpiper_page_bytes(
-    alloc: Global,
-    table: &mut Sandpiper,
-    page: u32,
-    bytes: &mut [u8],
-) -> u32
-    ensures stays { StaysAsIs table.old table.new }
-    ensures bytes { ShowsBytesOf table.old page bytes.old result bytes.new }
-{
-    match table.take(alloc) {
-        Some(held) => {
-            let code = put_bytes_of(&held.engine, page, bytes);
-            table.put(held);
-            code
-        }
-        None => CallStatus::NoRow.number(),
-    }
-}
+use page_slots::{PageFault, check_page};
 
 /// The number of a fault.
 fn number_of(fault: PageFault) -> u32
