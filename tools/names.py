@@ -16,6 +16,7 @@ TYPE = re.compile(r"pub (?:struct|enum|trait|type) (\w+)")
 CLAUSE = re.compile(r"\s*(?:(?:requires|ensures\*?)\b|(?:pub )?ghost (?!use\b)\w+ ?[=:])")
 PROMISE = re.compile(r"\s*(?:requires|ensures\*?|ghost (?:invariant|view))\b")
 LIMIT = re.compile(r"(pub )?(?:pub\(crate\) )?const (MOST_\w+|PAGE_BYTES|HALF|GROUP): \w+ = (\d+);")
+HANDED_ON = re.compile(r"^pub use (\w+)::(.*);", re.M)
 FUNCTION = re.compile(r"\s*(?:pub(?:\(crate\))? )?(?:const )?fn (\w+)")
 PARTICIPLE = re.compile(r"[a-z]+ed|begun|done|found|given|held|kept|known|left|made|seen|shown|sought|taken|told|written")
 # pairs of which one is a Bool or a lemma and the other the proposition; a dead slot and a dead version are PostgreSQL's words
@@ -71,6 +72,10 @@ def limits():
     for path in sorted(glob.glob("crates/*/src/**/*.rt", recursive=True)):
         for public, name, number in LIMIT.findall(open(path, encoding="utf-8").read()):
             own[path.split("/")[1]].append((number, name, bool(public)))
+    for crate in below:
+        for path in glob.glob(f"crates/{crate}/src/lib.rt"):
+            for low, names in HANDED_ON.findall(open(path, encoding="utf-8").read()):
+                own[crate] += [limit for limit in own.get(low, []) if limit[2] and limit[1] in re.findall(r"\w+", names)]
     return {
         crate: {number: name for owner in used | {crate} for number, name, public in own[owner] if public or owner == crate}
         for crate, used in below.items()

@@ -22,11 +22,11 @@ cost() {
 }
 cost get 850 "a get by key"
 cost insert 2150 "an insert"
-cost hot 7000 "a HOT update on a page with room, but in a hole alone"
+cost hot 3500 "a HOT update on a page with room, but in a hole alone"
 cost delete 1100 "a delete"
 cost scan 56000 "100 rows of a cursor by key"
 cost full 3000 "an update on a full page from which nothing can go"
-cost prunes 9300 "an update that prunes one dead version first"
+cost prunes 5800 "an update that prunes one dead version first"
 cost prune 300 "a pruning of a page whose one version stays"
 cost pruned 1500 "a pruning of a page whose one version goes"
 cost young 10500 "a vacuum's visit of 88 rows, none of them old"

@@ -8,15 +8,16 @@ use Rattle.tuple_header.specs.Layout.{number_at, with_bytes, with_number, decode
 use Rattle.tuple_header.specs.Faults.{IsVersion, first_fault}
 use Rattle.tuple_header.specs.Version.{Version, size_of, rounded_size_of}
 use Rattle.tuple_header.proofs.Headers.{encoded-faultless, encoded-value, length-encoding}
-use Rattle.page_slots.specs.declared.pointer.Pointer.{Pointer}
-use Rattle.page_slots.specs.declared.pointer.Extent.{Extent}
-use Rattle.page_slots.specs.Layout.{pointer_of, word_of, IsPointed, pointer_in, part_of, slots_in, upper_in, flags_in, change_in}
-use Rattle.page_slots.specs.Sound.{IsSound, IsExtent, IsPointer, AreApart, HasPlainWord, IsWritten, AreAbove, end_of}
-use Rattle.page_slots.proofs.Shown.{rounded-up, shown, part-long, taken-shown}
+use Rattle.page_layout.specs.declared.pointer.Pointer.{Pointer}
+use Rattle.page_layout.specs.declared.pointer.Extent.{Extent}
+use Rattle.page_layout.specs.Layout.{pointer_of, word_of, IsPointed, pointer_in, part_of, upper_in, flags_in, change_in}
+use Rattle.page_slots.specs.Layout.{slots_in}
+use Rattle.page_layout.specs.Sound.{IsSound, IsExtent, IsPointer, AreApart, HasPlainWord, IsWritten, AreAbove, end_of}
+use Rattle.page_layout.proofs.PointerLemmas.{rounded-up, word-back, word-small, pointer-read, beside}
+use Rattle.page_slots.proofs.Shown.{shown, part-long, taken-shown}
 use Rattle.page_slots.specs.declared.slot.Slot.{Slot}
-use Rattle.page_slots.proofs.SlotLemmas.{same_or_other}
-use Rattle.page_slots.proofs.PointerSet.{word-back, word-small, pointer-read, beside}
-use Rattle.page_slots.proofs.Frames.{Agrees, agrees-with_bytes, agrees-with_number, part-written, number-written, number-outside, pointer-outside, plain-outside, plain-written, part-outside}
+use Rattle.page_layout.proofs.OrderLemmas.{same_or_other}
+use Rattle.page_layout.proofs.Frames.{Agrees, agrees-with_bytes, agrees-with_number, part-written, number-written, number-outside, pointer-outside, plain-outside, plain-written, part-outside}
 use Rattle.page_slots.proofs.Sounds.{slots_in-at, length-slots_in, extent-in, part-kept, slot-kept, slots-kept, slots-set, pointer-kept, headed-kept, sound-behind}
 
 pub record IsBelow (a b : List ℕ) (count from : ℕ) (v : Version) : Type 0 where

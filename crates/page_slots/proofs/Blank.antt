@@ -4,9 +4,9 @@ use Rattle.std.specs.Prelude.{replicate}
 use Rattle.std.proofs.lemmas.List.{length-replicate, drop-replicate}
 use Rattle.byteorder.specs.Endian.{little_from, little_number}
 use Rattle.tuple_header.specs.Layout.{number_at, with_number}
-use Rattle.page_slots.specs.Layout.{change_in, flags_in, upper_in}
-use Rattle.page_slots.specs.Sound.{IsSound}
-use Rattle.page_slots.proofs.Frames.{Agrees, agrees-with_number, number-written, number-outside}
+use Rattle.page_layout.specs.Layout.{change_in, flags_in, upper_in}
+use Rattle.page_layout.specs.Sound.{IsSound}
+use Rattle.page_layout.proofs.Frames.{Agrees, agrees-with_number, number-written, number-outside}
 
 zero-at : (k j : ℕ) → slice_index (replicate k 0) j ≡ 0
 zero-at zero j = refl

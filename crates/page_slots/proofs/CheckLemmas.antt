@@ -1,14 +1,15 @@
 -- The first fault of bytes, by its parts; and what bytes without one keep.
 use Rattle.std.proofs.Common.{◌≡◌, ℕ, ◌+◌, ◌-◌, ◌*◌, ◌/◌, ◌<◌, ◌≤◌, List, Option, Some, None, Ok, Err, sym, ap, ◌∙◌, refl, arith, subst}
 use Rattle.std.specs.Option.{option_or}
-use Rattle.page_slots.specs.declared.faults.PageFault.{PageFault}
-use Rattle.page_slots.specs.Layout.{lower_in, slot_count_in, pointer_in, word_of}
+use Rattle.page_layout.specs.declared.faults.PageFault.{PageFault}
+use Rattle.page_layout.specs.Layout.{lower_in, slot_count_in, pointer_in, word_of}
 use Rattle.page_slots.specs.Reading.{page_of}
-use Rattle.page_slots.specs.Sound.{IsSound, IsPointer}
-use Rattle.page_slots.specs.Faults.{frame_fault, slot_fault, redirect_fault, overlap_fault, first_among, page_fault, unless_fault, checking, word_in}
+use Rattle.page_layout.specs.Sound.{IsSound, IsPointer}
+use Rattle.page_layout.specs.Faults.{frame_fault, slot_fault, first_among, word_in}
+use Rattle.page_slots.specs.Faults.{redirect_fault, overlap_fault, page_fault, unless_fault, checking}
 use Rattle.page_slots.specs.Marking.{AreClear}
-use Rattle.page_slots.proofs.FirstLemmas.{or-none, or-some, none-each}
-use Rattle.page_slots.proofs.FaultLemmas.{IsFramed, pointer-from_none, plain-from_none}
+use Rattle.page_layout.proofs.FirstLemmas.{or-none, or-some, none-each}
+use Rattle.page_layout.proofs.FaultLemmas.{IsFramed, pointer-from_none, plain-from_none}
 
 abbrev slots_have : List ℕ → ℕ → Option PageFault
 slots_have bytes count = first_among (slot_fault bytes) count

@@ -6,22 +6,25 @@ use Rattle.std.specs.Int.{next_multiple_of}
 use Rattle.std.specs.Prelude.{replicate, slice_index_or}
 use Rattle.std.proofs.lemmas.List.{length-replicate}
 use Rattle.std.proofs.lemmas.List.Folds.{sum_by-replicate}
-use Rattle.page_slots.specs.declared.faults.PageFault.{PageFault}
-use Rattle.page_slots.specs.declared.faults.PageFault.TheVariants.{Overlap}
-use Rattle.page_slots.specs.declared.pointer.Pointer.{Pointer}
-use Rattle.page_slots.specs.declared.pointer.Extent.{Extent}
+use Rattle.page_layout.specs.declared.faults.PageFault.{PageFault}
+use Rattle.page_layout.specs.declared.faults.PageFault.TheVariants.{Overlap}
+use Rattle.page_layout.specs.declared.pointer.Pointer.{Pointer}
+use Rattle.page_layout.specs.declared.pointer.Extent.{Extent}
 use Rattle.page_slots.specs.Slots.{bytes_taken}
-use Rattle.page_slots.specs.Layout.{pointer_in, upper_in, slot_in}
-use Rattle.page_slots.specs.Sound.{IsExtent, AreApart, end_of}
-use Rattle.page_slots.specs.Faults.{overlap, overlaps_among, overlap_fault, first_among}
-use Rattle.page_slots.specs.Marking.{is_marked, units_marked, AreMarked, SomeIsMarked, SomeLiesOn, IsCovered}
-use Rattle.page_slots.proofs.Shown.{rounded-up, shown}
-use Rattle.page_slots.proofs.Grown.{below_or_last}
-use Rattle.page_slots.proofs.SlotLemmas.{same_or_other}
+use Rattle.page_layout.specs.Layout.{pointer_in, upper_in}
+use Rattle.page_slots.specs.Layout.{slot_in}
+use Rattle.page_layout.specs.Sound.{IsExtent, AreApart, end_of}
+use Rattle.page_slots.specs.Faults.{overlap, overlaps_among, overlap_fault}
+use Rattle.page_layout.specs.Faults.{first_among}
+use Rattle.page_layout.specs.Units.{is_marked, units_marked, AreMarked, SomeIsMarked}
+use Rattle.page_slots.specs.Marking.{SomeLiesOn, IsCovered}
+use Rattle.page_layout.proofs.PointerLemmas.{rounded-up}
+use Rattle.page_slots.proofs.Shown.{shown}
+use Rattle.page_layout.proofs.OrderLemmas.{below_or_last, same_or_other}
 use Rattle.page_slots.proofs.HeaderSet.{same_extent}
-use Rattle.page_slots.proofs.FirstLemmas.{first-more, none-each}
-use Rattle.page_slots.proofs.FaultLemmas.{none-of_one}
-use Rattle.page_slots.proofs.MarkLemmas.{counted-above}
+use Rattle.page_layout.proofs.FirstLemmas.{first-more, none-each}
+use Rattle.page_layout.proofs.FaultLemmas.{none-of_one}
+use Rattle.page_layout.proofs.MarkLemmas.{counted-above}
 
 -- Overlaps.
 

@@ -8,7 +8,8 @@ use Rattle.std.specs.List.{position_or_len}
 use Rattle.page_slots.specs.declared.slot.Slot.{Slot}
 use Rattle.page_slots.specs.declared.slot.Slot.TheVariants.{Unused, Normal, Redirect, Dead}
 use Rattle.page_slots.specs.Slots.{is_unused, bytes_taken, has_unused, with_added}
-use Rattle.page_slots.proofs.SlotLemmas.{first_within, same_or_other}
+use Rattle.page_slots.proofs.SlotLemmas.{first_within}
+use Rattle.page_layout.proofs.OrderLemmas.{same_or_other}
 
 -- The search.
 

@@ -1,17 +1,18 @@
 -- What a page keeps when it gets one more slot, which is unused.
-use Rattle.std.proofs.Common.{◌≡◌, ◌≢◌, ⊎_elim, inl, inr, ◌⊎◌, ℕ, ◌+◌, ◌*◌, ◌%◌, ◌<◌, ◌≤◌, List, [], ◌∷◌, ◌++◌, sym, ap, ◌∙◌, subst, refl, arith}
+use Rattle.std.proofs.Common.{◌≡◌, ⊎_elim, inl, inr, ◌⊎◌, ℕ, ◌+◌, ◌*◌, ◌%◌, ◌<◌, ◌≤◌, List, [], ◌∷◌, ◌++◌, sym, ap, ◌∙◌, subst, refl, arith}
 use Rattle.std.proofs.lemmas.List.FromFn.{map-range_with_len_more}
 use Rattle.tuple_header.specs.Layout.{number_at, with_number}
 use Rattle.tuple_header.specs.Faults.{first_fault}
-use Rattle.page_slots.specs.declared.pointer.Pointer.{Pointer}
-use Rattle.page_slots.specs.declared.pointer.Extent.{Extent}
+use Rattle.page_layout.specs.declared.pointer.Pointer.{Pointer}
+use Rattle.page_layout.specs.declared.pointer.Extent.{Extent}
 use Rattle.page_slots.specs.declared.slot.Slot.{Slot}
-use Rattle.page_slots.specs.Layout.{pointer_of, pointer_in, part_of, slot_in, slots_in, lower_in, upper_in, flags_in, change_in}
-use Rattle.page_slots.specs.Sound.{IsSound, IsPointer, AreApart, HasPlainWord}
+use Rattle.page_layout.specs.Layout.{pointer_of, pointer_in, part_of, lower_in, upper_in, flags_in, change_in}
+use Rattle.page_slots.specs.Layout.{slot_in, slots_in}
+use Rattle.page_layout.specs.Sound.{IsSound, IsPointer, AreApart, HasPlainWord}
 use Rattle.page_slots.proofs.Shown.{shown, part-long}
-use Rattle.page_slots.proofs.SlotLemmas.{same_or_other}
-use Rattle.page_slots.proofs.Frames.{Agrees, agrees-with_number, number-written, number-outside, pointer-outside, plain-outside, plain-written, part-outside}
-use Rattle.page_slots.proofs.PointerSet.{pointer-read, word-small}
+use Rattle.page_layout.proofs.OrderLemmas.{same_or_other, below_or_last}
+use Rattle.page_layout.proofs.Frames.{Agrees, agrees-with_number, number-written, number-outside, pointer-outside, plain-outside, plain-written, part-outside}
+use Rattle.page_layout.proofs.PointerLemmas.{pointer-read, word-small}
 use Rattle.page_slots.proofs.Sounds.{extent-in, part-kept, slot-kept, slots-kept}
 
 pub record IsGrown (a b : List ℕ) (count : ℕ) : Type 0 where
@@ -35,12 +36,6 @@ unused-apart Pointer.Unused = tt
 unused-apart (Pointer.Normal e) = tt
 unused-apart (Pointer.Redirect target) = tt
 unused-apart Pointer.Dead = tt
-
-pub below_or_last : (j count : ℕ) → j < count + 1 → j ≢ count → j < count
-below_or_last j count h other = ⊎_elim (λ e. absurd (other e)) (λ below. below) (by j count h)
-  where
-    by : (j count : ℕ) → j < count + 1 → (j ≡ count) ⊎ (j < count)
-    by j count h = ⊎_elim (λ same. inl same) (λ differ. inr (omega (arith, differ))) (same_or_other j count)
 
 pub grown : (a m b : List ℕ) (count : ℕ) → IsSound a count → count < 291 → 28 + 4 * count ≤ upper_in a → m ≡ with_number (24 + 4 * count) 4 0 a
     → b ≡ with_number 12 2 (24 + 4 * (count + 1)) m → IsGrown a b count

@@ -8,15 +8,17 @@ use Rattle.tuple_header.specs.Faults.{HeaderFits, header_fault, first_fault}
 use Rattle.tuple_header.specs.Version.{Version}
 use Rattle.tuple_header.specs.declared.version.Row.{Row}
 use Rattle.tuple_header.proofs.Headers.{with_header_bytes, length-new, header-new, row-new, faultless-new}
-use Rattle.page_slots.specs.declared.pointer.Pointer.{Pointer}
-use Rattle.page_slots.specs.declared.pointer.Extent.{Extent}
+use Rattle.page_layout.specs.declared.pointer.Pointer.{Pointer}
+use Rattle.page_layout.specs.declared.pointer.Extent.{Extent}
 use Rattle.page_slots.specs.declared.slot.Slot.{Slot}
 use Rattle.page_slots.specs.Slots.{with_header}
-use Rattle.page_slots.specs.Layout.{pointer_in, part_of, slot_in, slots_in, upper_in, flags_in, change_in}
-use Rattle.page_slots.specs.Sound.{IsSound, AreApart}
-use Rattle.page_slots.proofs.Shown.{rounded-up, shown, part-long}
-use Rattle.page_slots.proofs.SlotLemmas.{same_or_other}
-use Rattle.page_slots.proofs.Frames.{Agrees, agrees-with_bytes, part-written, number-outside, pointer-outside}
+use Rattle.page_layout.specs.Layout.{pointer_in, part_of, upper_in, flags_in, change_in}
+use Rattle.page_slots.specs.Layout.{slot_in, slots_in}
+use Rattle.page_layout.specs.Sound.{IsSound, AreApart}
+use Rattle.page_layout.proofs.PointerLemmas.{rounded-up}
+use Rattle.page_slots.proofs.Shown.{shown, part-long}
+use Rattle.page_layout.proofs.OrderLemmas.{same_or_other}
+use Rattle.page_layout.proofs.Frames.{Agrees, agrees-with_bytes, part-written, number-outside, pointer-outside}
 use Rattle.page_slots.proofs.Sounds.{slots_in-at, extent-in, part-kept, slot-kept, slots-set, sound-behind}
 
 -- what is written to a part of the bytes

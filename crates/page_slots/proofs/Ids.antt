@@ -9,7 +9,7 @@ use Rattle.tuple_header.specs.Version.{Version}
 use Rattle.page_slots.specs.declared.slot.Slot.{Slot}
 use Rattle.page_slots.specs.declared.slot.Slot.TheVariants.{Unused, Normal, Redirect, Dead}
 use Rattle.page_slots.specs.Layout.{slot_in, slots_in}
-use Rattle.page_slots.specs.Sound.{IsVersionAt}
+use Rattle.page_slots.specs.Standing.{IsVersionAt}
 use Rattle.page_slots.specs.Slots.{version_of, is_undeleted_by}
 use Rattle.page_slots.proofs.Sounds.{slots_in-at}
 

@@ -1,6 +1,5 @@
 pub mod Added
 pub mod Found
-pub mod Frames
 pub mod FreeLemmas
 pub mod Grown
 pub mod HeaderSet
@@ -10,13 +9,12 @@ pub mod Shown
 pub mod SlotLemmas
 pub mod Sounds
 pub mod PackLemmas
+pub mod RunLemmas
 pub mod Blank
 pub mod Ids
 pub mod Dead
 pub mod StandingLemmas
-pub mod FirstLemmas
-pub mod FaultLemmas
-pub mod MarkLemmas
+pub mod RedirectLemmas
 pub mod CoverLemmas
 pub mod CheckLemmas
 pub mod PlainLemmas

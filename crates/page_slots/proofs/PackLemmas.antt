@@ -5,20 +5,20 @@ use Rattle.std.proofs.lemmas.List.{take_all}
 use Rattle.std.proofs.lemmas.List.Sums.{sum_by_more, sum_by-take-le}
 use Rattle.tuple_header.specs.Layout.{number_at, with_bytes, with_number, decoded_version}
 use Rattle.tuple_header.specs.Faults.{first_fault}
-use Rattle.page_slots.specs.declared.pointer.Pointer.{Pointer}
-use Rattle.page_slots.specs.declared.pointer.Extent.{Extent}
+use Rattle.page_layout.specs.declared.pointer.Pointer.{Pointer}
+use Rattle.page_layout.specs.declared.pointer.Extent.{Extent}
 use Rattle.page_slots.specs.declared.slot.Slot.{Slot}
 use Rattle.page_slots.specs.Slots.{bytes_taken}
-use Rattle.page_slots.specs.Layout.{pointer_of, word_of, IsPointed, pointer_in, part_of, slot_in, slots_in, change_in, flags_in, upper_in}
-use Rattle.page_slots.specs.Sound.{IsSound, IsExtent, IsPointer, AreApart, HasPlainWord}
+use Rattle.page_layout.specs.Layout.{pointer_of, word_of, IsPointed, pointer_in, part_of, change_in, flags_in, upper_in}
+use Rattle.page_slots.specs.Layout.{slot_in, slots_in}
+use Rattle.page_layout.specs.Sound.{IsSound, IsExtent, IsPointer, AreApart, HasPlainWord}
 use Rattle.page_slots.specs.Packing.{LiesOver, LieInOrder, IsPacked, IsMoved}
-use Rattle.page_slots.proofs.Shown.{rounded-up, shown, taken-shown}
-use Rattle.page_slots.proofs.SlotLemmas.{same_or_other}
-use Rattle.page_slots.proofs.Frames.{Agrees, agrees-with_bytes, agrees-with_number, part-written, number-written, number-outside, pointer-outside, plain-outside, plain-written, part-outside}
-use Rattle.page_slots.proofs.PointerSet.{word-back, word-small, pointer-read, beside}
+use Rattle.page_layout.proofs.PointerLemmas.{rounded-up, word-back, word-small, pointer-read, beside}
+use Rattle.page_slots.proofs.Shown.{shown, taken-shown}
+use Rattle.page_layout.proofs.OrderLemmas.{same_or_other, below_or_last}
+use Rattle.page_layout.proofs.Frames.{Agrees, agrees-with_bytes, agrees-with_number, part-written, number-written, number-outside, pointer-outside, plain-outside, plain-written, part-outside}
 use Rattle.page_slots.proofs.Sounds.{extent-in, slot-kept, slots-kept, slots_in-at, length-slots_in}
 use Rattle.page_slots.proofs.Added.{below-aligned, above-apart, apart-above}
-use Rattle.page_slots.proofs.Grown.{below_or_last}
 use Rattle.page_slots.proofs.HeaderSet.{same_extent}
 
 pub version-moved : (old new m b : List ℕ) (i top : ℕ) (e : Extent) → length new ≡ 8192 → length (part_of old e) ≡ e.len → 28 + 4 * i ≤ top → top + e.len ≤ 8192
@@ -132,7 +132,7 @@ packed-normal old new b count i upper top e sound within is packed room low tota
 
 -- a slot without a version is passed
 
-none-taken : (bytes : List ℕ) (i : ℕ) (p : Pointer) → p ≡ pointer_in bytes i → ((e : Extent) → p ≡ Pointer.Normal e → ⊥) → bytes_taken (slot_in bytes i) ≡ 0
+pub none-taken : (bytes : List ℕ) (i : ℕ) (p : Pointer) → p ≡ pointer_in bytes i → ((e : Extent) → p ≡ Pointer.Normal e → ⊥) → bytes_taken (slot_in bytes i) ≡ 0
 none-taken bytes i Pointer.Unused is none = ap bytes_taken (shown bytes i Pointer.Unused is)
 none-taken bytes i (Pointer.Normal e) is none = absurd (none e refl)
 none-taken bytes i (Pointer.Redirect target) is none = ap bytes_taken (shown bytes i (Pointer.Redirect target) is)
@@ -191,22 +191,6 @@ packed-none old new count i upper p within is none packed =
   where
     same_total : upper + sum_by bytes_taken (take i (slots_in count old)) ≡ 8192 → upper + (sum_by bytes_taken (take i (slots_in count old)) + 0) ≡ 8192
     same_total e = omega arith
-
-pub packed-start : (old : List ℕ) (count : ℕ) → IsSound old count → IsPacked old old count 0 8192
-packed-start old count sound = record {
-  long = sound.long;
-  total = refl;
-  even = refl;
-  header = λ i n h. refl;
-  later = λ j h k. refl;
-  plain = sound.plain;
-  slots = λ j h. absurd (omega arith);
-  bare = λ j h none. absurd (omega arith);
-  over = λ j e h there. absurd (omega arith);
-  order = λ j e h there. absurd (omega arith);
-  normal = λ j e h there. absurd (omega arith);
-  apart = λ i j h k. absurd (omega arith);
-}
 
 -- what one version more leaves of the page
 pub record Fits (old : List ℕ) (count i upper : ℕ) (e : Extent) : Type 0 where

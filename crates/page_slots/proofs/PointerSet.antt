@@ -1,42 +1,18 @@
 -- What a page keeps when a pointer without a version is written.
-use Rattle.std.proofs.Common.{◌≡◌, ◌≢◌, ⊎_elim, inl, inr, ◌⊎◌, ℕ, ◌+◌, ◌*◌, ◌%◌, ◌/◌, ◌^◌, ◌<◌, ◌≤◌, nat_lt, false, List, [], set, sym, ap, ◌∙◌, subst, refl, arith}
-use Rattle.std.proofs.lemmas.Bool.{cases_Bool, ltb-true, ltb-false}
+use Rattle.std.proofs.Common.{◌≡◌, ◌≢◌, ⊎_elim, inl, inr, ℕ, ◌+◌, ◌*◌, ◌%◌, ◌<◌, ◌≤◌, false, List, [], set, sym, ap, ◌∙◌, subst, refl, arith}
 use Rattle.tuple_header.specs.Layout.{number_at, with_number}
 use Rattle.tuple_header.specs.Faults.{first_fault}
-use Rattle.page_slots.specs.declared.pointer.Pointer.{Pointer}
-use Rattle.page_slots.specs.declared.pointer.Extent.{Extent}
-use Rattle.page_slots.specs.Layout.{pointer_of, word_of, IsPointed, pointer_in, part_of, shown_by, slots_in, lower_in, upper_in, flags_in, change_in}
+use Rattle.page_layout.specs.declared.pointer.Pointer.{Pointer}
+use Rattle.page_layout.specs.declared.pointer.Extent.{Extent}
+use Rattle.page_layout.specs.Layout.{pointer_of, word_of, IsPointed, pointer_in, part_of, lower_in, upper_in, flags_in, change_in}
+use Rattle.page_slots.specs.Layout.{shown_by, slots_in}
 use Rattle.page_slots.specs.Slots.{is_unused, bytes_taken}
-use Rattle.page_slots.specs.Sound.{IsSound, IsPointer, AreApart, HasPlainWord, HoldsNoVersion}
+use Rattle.page_layout.specs.Sound.{IsSound, IsPointer, AreApart, HasPlainWord, HoldsNoVersion}
 use Rattle.page_slots.proofs.Shown.{shown}
-use Rattle.page_slots.proofs.SlotLemmas.{same_or_other}
-use Rattle.page_slots.proofs.Frames.{Agrees, agrees-with_number, number-written, number-outside, pointer-outside, plain-outside, plain-written}
+use Rattle.page_layout.proofs.OrderLemmas.{same_or_other}
+use Rattle.page_layout.proofs.Frames.{Agrees, agrees-with_number, number-written, number-outside, pointer-outside, plain-outside, plain-written}
 use Rattle.page_slots.proofs.Sounds.{extent-in, part-kept, slot-kept, slots-set, pointer-kept, headed-kept}
-
--- A pointer is read from its word.
-
-pub word-back : (p : Pointer) → IsPointed p → pointer_of (word_of p) ≡ p
-word-back Pointer.Unused fits = refl
-word-back (Pointer.Normal e) fits =
-    let kind : (e.from + 32768 + e.len * 131072) / 32768 % 4 ≡ 1 = omega (arith, fits.0, fits.1) in
-    let from : (e.from + 32768 + e.len * 131072) % 32768 ≡ e.from = omega (arith, fits.0, fits.1) in
-    let len : (e.from + 32768 + e.len * 131072) / 131072 ≡ e.len = omega (arith, fits.0, fits.1) in
-    rw (kind, from, len) refl
-word-back (Pointer.Redirect target) fits =
-    let kind : (target + 65536) / 32768 % 4 ≡ 2 = omega (arith, fits) in
-    let offset : (target + 65536) % 32768 ≡ target = omega (arith, fits) in
-    rw (kind, offset) refl
-word-back Pointer.Dead fits = refl
-
-pub word-small : (p : Pointer) → IsPointed p → word_of p < 256 ^ 4
-word-small Pointer.Unused fits = omega arith
-word-small (Pointer.Normal e) fits = omega (arith, fits.0, fits.1)
-word-small (Pointer.Redirect target) fits = omega (arith, fits)
-word-small Pointer.Dead fits = omega arith
-
-pub pointer-read : (b : List ℕ) (i : ℕ) → pointer_in b i ≡ pointer_of (number_at (24 + 4 * i) 4 b)
-unfolding pointer_in
-pointer-read b i = refl
+use Rattle.page_layout.proofs.PointerLemmas.{word-back, word-small, pointer-read, beside}
 
 -- Pointers without a version.
 
@@ -94,15 +70,6 @@ pub record IsRepointed (a b : List ℕ) (count i : ℕ) (p : Pointer) : Type 0 w
   pub change : change_in b ≡ change_in a
   pub flags : flags_in b ≡ flags_in a
   pub upper : upper_in b ≡ upper_in a
-
-pub beside : (i j : ℕ) → j ≢ i → (24 + 4 * j + 4 ≤ 24 + 4 * i) ⊎ (24 + 4 * i + 4 ≤ 24 + 4 * j)
-beside i j other =
-    ⊎_elim (λ t. let below = ltb-true j i t in inl (omega arith))
-    (λ t. let above = ltb-false j i t in inr (⊎_elim (λ e. absurd (other e)) (λ past. omega arith) (apart_or j i above)))
-    (cases_Bool (nat_lt j i))
-  where
-    apart_or : (j i : ℕ) → i ≤ j → (j ≡ i) ⊎ (i < j)
-    apart_or j i h = ⊎_elim (λ t. inr (ltb-true i j t)) (λ t. let below = ltb-false i j t in inl (omega arith)) (cases_Bool (nat_lt i j))
 
 pub pointer-set : (a b : List ℕ) (count i : ℕ) (p : Pointer) → IsSound a count → i < count → HoldsNoVersion count p → b ≡ with_number (24 + 4 * i) 4 (word_of p) a → IsRepointed a b count i p
 pointer-set a b count i p sound within bare written =

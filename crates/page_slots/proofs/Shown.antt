@@ -1,20 +1,19 @@
 -- What a pointer shows of the bytes.
 use Rattle.std.proofs.Common.{◌≡◌, ℕ, ◌+◌, ◌-◌, ◌≤◌, List, length, drop, sym, ap, ◌∙◌, refl, subst, arith, None, length-take, length-drop}
 use Rattle.std.specs.Int.{next_multiple_of}
-use Rattle.std.proofs.lemmas.Bool.Decides.{nat_tests}
 use Rattle.tuple_header.specs.declared.version.Header.{Header}
 use Rattle.tuple_header.specs.Layout.{decoded_header}
 use Rattle.tuple_header.specs.Faults.{first_fault, header_fault}
 use Rattle.tuple_header.proofs.Faults.{first_fault-none, laid_out-from_none}
-use Rattle.page_slots.specs.declared.pointer.Pointer.{Pointer}
-use Rattle.page_slots.specs.declared.pointer.Extent.{Extent}
+use Rattle.page_layout.specs.declared.pointer.Pointer.{Pointer}
+use Rattle.page_layout.specs.declared.pointer.Extent.{Extent}
 use Rattle.page_slots.specs.declared.slot.SlotHead.{SlotHead}
 use Rattle.page_slots.specs.Slots.{version_of, head_of, bytes_taken}
-use Rattle.page_slots.specs.Sound.{IsPointer, IsExtent, IsVersionAt}
-use Rattle.page_slots.specs.Layout.{pointer_in, part_of, shown_by, slot_in}
-
-pub rounded-up : (n : ℕ) → n ≤ next_multiple_of n 8
-rounded-up n = grind (arith, nat_tests)
+use Rattle.page_layout.specs.Sound.{IsPointer, IsExtent}
+use Rattle.page_slots.specs.Standing.{IsVersionAt}
+use Rattle.page_layout.specs.Layout.{pointer_in, part_of}
+use Rattle.page_slots.specs.Layout.{shown_by, slot_in}
+use Rattle.page_layout.proofs.PointerLemmas.{rounded-up}
 
 pub shown : (bytes : List ℕ) (i : ℕ) (p : Pointer) → p ≡ pointer_in bytes i → slot_in bytes i ≡ shown_by bytes p
 unfolding slot_in

@@ -1,6 +1,6 @@
 -- The slots of a page as a map from numbers to slots: what each change of a page does to it.
-use Rattle.std.proofs.Common.{◌≡◌, ◌≢◌, ℕ, zero, suc, ◌+◌, ◌-◌, ◌<◌, ◌≤◌, ◌==◌, true, false, not, if◌then◌else◌, ◌⊎◌, inl, inr, ⊎_elim, List, [], ◌∷◌, ◌++◌, length, get_or, set, Option, Some, None, IsSome, sym, ap, ◌∙◌, refl, arith, length-append, eq-eqb}
-use Rattle.std.proofs.lemmas.Bool.{cases_Bool, true≢false, ltb-true, ltb-false, eqb-true}
+use Rattle.std.proofs.Common.{◌≡◌, ◌≢◌, ℕ, zero, suc, ◌+◌, ◌-◌, ◌<◌, ◌≤◌, true, false, not, if◌then◌else◌, ◌⊎◌, inl, inr, ⊎_elim, List, [], ◌∷◌, ◌++◌, length, get_or, set, Option, Some, None, IsSome, sym, ap, ◌∙◌, refl, arith, length-append}
+use Rattle.std.proofs.lemmas.Bool.{cases_Bool, ltb-true, ltb-false}
 use Rattle.std.proofs.lemmas.Option.{slice_get-get_or, slice_get_past, slice_get_within, slice_get_cases, get_or_from_slice_get, same_Some, none-some}
 use Rattle.std.proofs.lemmas.List.{length-set, get_or-set_same, get_or-set_other}
 use Rattle.std.proofs.lemmas.List.Sums.{prefix_len-le-length, passes_at_first}
@@ -8,6 +8,7 @@ use Rattle.std.proofs.Math.ListN.{get_or-append}
 use Rattle.std.proofs.Math.Seq.{get_or-append_seam}
 use Rattle.std.specs.List.{slice_get, position_or_len}
 use Rattle.std.specs.Option.{option_and_then, option_map}
+pub use Rattle.page_layout.proofs.OrderLemmas.{same_or_other}
 use Rattle.page_slots.specs.declared.slot.Slot.{Slot}
 use Rattle.page_slots.specs.declared.slot.Slot.TheVariants.{Unused, Normal, Redirect, Dead}
 use Rattle.tuple_header.specs.Version.{Version}
@@ -84,9 +85,6 @@ normal_at slots n normal =
 
 pub there-from_normal : (slots : List Slot) (n : ℕ) → IsNormalAt slots n → SlotIsThere slots n
 there-from_normal slots n normal = let t = normal_at slots n normal in there-from_slot_at slots n (Normal t.0) t.1
-
-pub same_or_other : (m n : ℕ) → (m ≡ n) ⊎ (m ≢ n)
-same_or_other m n = ⊎_elim (λ e. inl (eqb-true m n e)) (λ e. inr (λ same. true≢false (sym (eq-eqb m n same) ∙ e))) (cases_Bool (m == n))
 
 unused_is : (s : Slot) → is_unused s ≡ true → s ≡ Unused
 unused_is Unused e = refl

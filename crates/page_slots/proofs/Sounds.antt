@@ -5,14 +5,16 @@ use Rattle.std.proofs.lemmas.List.FromFn.{length-map-range_with_len, get_or-map-
 use Rattle.std.specs.Int.{next_multiple_of}
 use Rattle.tuple_header.specs.Layout.{number_at, with_number, decoded_version}
 use Rattle.tuple_header.specs.Faults.{first_fault}
-use Rattle.page_slots.specs.declared.pointer.Pointer.{Pointer}
-use Rattle.page_slots.specs.declared.pointer.Extent.{Extent}
+use Rattle.page_layout.specs.declared.pointer.Pointer.{Pointer}
+use Rattle.page_layout.specs.declared.pointer.Extent.{Extent}
 use Rattle.page_slots.specs.declared.slot.Slot.{Slot}
-use Rattle.page_slots.specs.Layout.{pointer_in, part_of, slot_in, slots_in, lower_in, upper_in, flags_in}
-use Rattle.page_slots.specs.Sound.{IsSound, IsExtent, IsPointer, IsHeaded, AreApart, HasPlainWord}
-use Rattle.page_slots.proofs.Shown.{rounded-up, shown}
-use Rattle.page_slots.proofs.Frames.{Agrees, agrees-with_number, number-written, number-outside, pointer-outside, plain-outside, part-outside}
-use Rattle.page_slots.proofs.SlotLemmas.{same_or_other}
+use Rattle.page_layout.specs.Layout.{pointer_in, part_of, lower_in, upper_in, flags_in}
+use Rattle.page_slots.specs.Layout.{slot_in, slots_in}
+use Rattle.page_layout.specs.Sound.{IsSound, IsExtent, IsPointer, IsHeaded, AreApart, HasPlainWord}
+use Rattle.page_layout.proofs.PointerLemmas.{rounded-up}
+use Rattle.page_slots.proofs.Shown.{shown}
+use Rattle.page_layout.proofs.Frames.{Agrees, agrees-with_number, number-written, number-outside, pointer-outside, plain-outside, part-outside}
+use Rattle.page_layout.proofs.OrderLemmas.{same_or_other}
 
 -- Lists of slots.
 

@@ -1,13 +1,13 @@
 -- Where a version stands is read off its pointer.
 use Rattle.std.proofs.Common.{◌≡◌, ℕ, ◌+◌, ◌-◌, ◌≤◌, List, length, drop, ap, ◌∙◌, refl, arith, Some, length-drop}
 use Rattle.std.specs.Prelude.{IsSome}
-use Rattle.page_slots.specs.declared.pointer.Pointer.{Pointer}
-use Rattle.page_slots.specs.declared.pointer.Extent.{Extent}
+use Rattle.page_layout.specs.declared.pointer.Pointer.{Pointer}
+use Rattle.page_layout.specs.declared.pointer.Extent.{Extent}
 use Rattle.page_slots.specs.declared.slot.Slot.{Slot}
 use Rattle.page_slots.specs.declared.slot.Slot.TheVariants.{Unused, Normal, Redirect, Dead}
 use Rattle.page_slots.specs.Slots.{version_of}
-use Rattle.page_slots.specs.Layout.{pointer_in, part_of, upper_in}
-use Rattle.page_slots.specs.Sound.{IsExtent}
+use Rattle.page_layout.specs.Layout.{pointer_in, part_of, upper_in}
+use Rattle.page_layout.specs.Sound.{IsExtent}
 use Rattle.page_slots.specs.Standing.{version_length, StandsAt}
 use Rattle.page_slots.proofs.Shown.{shown, part-long}
 

@@ -1,35 +1,17 @@
 -- The units of 8 bytes of a page, each marked where a version lies: a version begins and, rounded up, ends at a multiple of 8.
-use Rattle.std.specs.Prelude.{◌≡◌, ◌<◌, ◌≤◌, ◌⊎◌, ℕ, ◌+◌, ◌*◌, Bool, true, false, List, length, sum_by, slice_index_or, None, count_by}
+use Rattle.std.specs.Prelude.{◌≡◌, ◌<◌, ◌≤◌, ◌⊎◌, ℕ, ◌+◌, ◌*◌, Bool, true, List, length, sum_by, None}
 use Rattle.xid_circle.specs.Numbers.{Count}
-use Rattle.page_slots.specs.declared.marks.TheConstants.{PAGE_UNITS}
-use Rattle.page_slots.specs.declared.sheet.TheConstants.{PAGE_BYTES}
-use Rattle.page_slots.specs.declared.pointer.Pointer.{Pointer}
-use Rattle.page_slots.specs.declared.pointer.Extent.{Extent}
+use Rattle.page_layout.specs.declared.units.TheConstants.{PAGE_UNITS}
+use Rattle.page_layout.specs.declared.sizes.TheConstants.{PAGE_BYTES}
+use Rattle.page_layout.specs.declared.pointer.Pointer.{Pointer}
+use Rattle.page_layout.specs.declared.pointer.Extent.{Extent}
 use Rattle.page_slots.specs.Slots.{bytes_taken}
-use Rattle.page_slots.specs.Layout.{pointer_in, slots_in, upper_in}
-use Rattle.page_slots.specs.Sound.{AreApart, end_of}
-use Rattle.page_slots.specs.Faults.{overlap_fault, first_among}
-
-abbrev pub is_marked : List Bool → ℕ → Bool
-is_marked marks k = slice_index_or marks k false
-
-abbrev pub units_marked : List Bool → Count
-units_marked marks = count_by (λ mark. mark) marks
-
--- the units from one to before another were free and are marked, the others stay
-pub record AreMarked (old new : List Bool) (from to : ℕ) : Type 0 where
-  pub long : length new ≡ length old
-  pub free : (k : ℕ) → from ≤ k → k < to → is_marked old k ≡ false
-  pub now : (k : ℕ) → from ≤ k → k < to → is_marked new k ≡ true
-  pub others : (k : ℕ) → (k < from) ⊎ (to ≤ k) → is_marked new k ≡ is_marked old k
-  pub counted : units_marked new + from ≡ units_marked old + to
-
--- one of the units from one to before another was marked already
-pub record SomeIsMarked (marks : List Bool) (from to : ℕ) : Type 0 where
-  pub unit : ℕ
-  pub least : from ≤ unit
-  pub most : unit < to
-  pub marked : is_marked marks unit ≡ true
+use Rattle.page_layout.specs.Layout.{pointer_in, upper_in}
+use Rattle.page_slots.specs.Layout.{slots_in}
+use Rattle.page_layout.specs.Sound.{AreApart, end_of}
+use Rattle.page_slots.specs.Faults.{overlap_fault}
+use Rattle.page_layout.specs.Faults.{first_among}
+use Rattle.page_layout.specs.Units.{is_marked}
 
 -- the version of the slot at an index lies on this unit
 pub record LiesOn (bytes : List ℕ) (unit i : ℕ) : Type 0 where

@@ -2,14 +2,15 @@
 use Rattle.std.specs.Prelude.{◌≡◌, ◌≢◌, ℕ, ◌+◌, ◌*◌, ◌%◌, ◌<◌, ◌≤◌, ◌⊎◌, List, length, take, sum_by, None}
 use Rattle.tuple_header.specs.Layout.{number_at}
 use Rattle.tuple_header.specs.Faults.{first_fault}
-use Rattle.page_slots.specs.declared.pointer.Pointer.{Pointer}
-use Rattle.page_slots.specs.declared.pointer.Extent.{Extent}
+use Rattle.page_layout.specs.declared.pointer.Pointer.{Pointer}
+use Rattle.page_layout.specs.declared.pointer.Extent.{Extent}
 use Rattle.xid_circle.specs.Numbers.{Count}
 use Rattle.page_slots.specs.declared.slot.Slot.{Slot}
-use Rattle.page_slots.specs.declared.sheet.TheConstants.{PAGE_BYTES, PAGE_HEADER_BYTES}
+use Rattle.page_layout.specs.declared.sizes.TheConstants.{PAGE_BYTES, PAGE_HEADER_BYTES}
 use Rattle.page_slots.specs.Slots.{bytes_taken}
-use Rattle.page_slots.specs.Layout.{pointer_in, part_of, slot_in, slots_in}
-use Rattle.page_slots.specs.Sound.{AreApart, HasPlainWord, end_of}
+use Rattle.page_layout.specs.Layout.{pointer_in, part_of}
+use Rattle.page_slots.specs.Layout.{slot_in, slots_in}
+use Rattle.page_layout.specs.Sound.{AreApart, HasPlainWord, end_of}
 
 -- a version over this place, and its bytes have no fault
 pub record LiesOver (bytes : List ℕ) (upper : ℕ) (e : Extent) : Type 0 where
@@ -50,3 +51,14 @@ pub record IsMoved (new b : List ℕ) (i top : ℕ) (e : Extent) (old : List ℕ
   pub plain_others : (j : ℕ) → j ≢ i → PAGE_HEADER_BYTES + 4 * (j + 1) ≤ top → HasPlainWord new j → HasPlainWord b j
   pub part : part_of b (record { from = top; len = e.len }) ≡ part_of old e
   pub above : (d : Extent) → top + e.len ≤ d.from → d.from + d.len ≤ PAGE_BYTES → part_of b d ≡ part_of new d
+
+-- what the first so many slots take
+abbrev pub taken_to : List ℕ → Count → ℕ → ℕ
+taken_to bytes count n = sum_by bytes_taken (take n (slots_in count bytes))
+
+-- the versions of the slots from one on to before another lie one behind the other, down from one place to another
+pub record IsBlock (bytes : List ℕ) (count : Count) (first top index low : ℕ) : Type 0 where
+  pub total : low + taken_to bytes count index ≡ top + taken_to bytes count first
+  pub even : low % 8 ≡ 0
+  pub lie : (j : ℕ) (e : Extent) → first ≤ j → j < index → pointer_in bytes j ≡ Pointer.Normal e
+      → e.from + taken_to bytes count (j + 1) ≡ top + taken_to bytes count first

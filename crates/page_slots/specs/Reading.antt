@@ -1,6 +1,7 @@
 -- The page that bytes say.
 use Rattle.std.specs.Prelude.{ℕ, List}
-use Rattle.page_slots.specs.Layout.{slots_in, slot_count_in, change_in, is_all_visible_in}
+use Rattle.page_slots.specs.Layout.{slots_in}
+use Rattle.page_layout.specs.Layout.{slot_count_in, change_in, is_all_visible_in}
 use Rattle.page_slots.specs.View.{PageView, all_spare}
 
 -- so many slots as the place says where the pointers end

@@ -1,14 +1,16 @@
 -- Where a version stands among the bytes of its page.
-use Rattle.std.specs.Prelude.{◌≡◌, ◌≤◌, ℕ, ◌+◌, List, Option, Some}
+use Rattle.std.specs.Prelude.{◌≡◌, ◌≤◌, ℕ, ◌+◌, List, Option, Some, None, length}
 use Rattle.std.specs.Option.{option_map}
 use Rattle.std.specs.Int.{next_multiple_of}
 use Rattle.xid_circle.specs.Numbers.{SlotNo}
 use Rattle.tuple_header.specs.Version.{size_of}
-use Rattle.page_slots.specs.declared.pointer.Extent.{Extent}
-use Rattle.page_slots.specs.declared.sheet.TheConstants.{PAGE_BYTES, PAGE_HEADER_BYTES}
+use Rattle.page_layout.specs.declared.pointer.Extent.{Extent}
+use Rattle.page_layout.specs.declared.sizes.TheConstants.{PAGE_BYTES, PAGE_HEADER_BYTES}
 use Rattle.page_slots.specs.declared.slot.Slot.{Slot}
 use Rattle.page_slots.specs.Slots.{version_of, version_at}
 use Rattle.page_slots.specs.Layout.{slot_in}
+use Rattle.tuple_header.specs.Faults.{first_fault}
+use Rattle.tuple_header.specs.Layout.{decoded_version}
 
 -- the size of a version, if there is one, not rounded up
 abbrev pub version_length : Slot → Option ℕ
@@ -25,3 +27,10 @@ LiesWithin from len = (PAGE_HEADER_BYTES ≤ from) × (from + next_multiple_of l
 pub record StandsAt (bytes : List ℕ) (i : ℕ) (e : Extent) : Type 0 where
   pub size : version_length (slot_in bytes i) ≡ Some e.len
   pub within : LiesWithin e.from e.len
+
+-- these are the bytes of the version at an index: they have no fault
+pub record IsVersionAt (bytes : List ℕ) (i : ℕ) (part : List ℕ) : Type 0 where
+  pub faultless : first_fault part ≡ None
+  pub value : version_of (slot_in bytes i) ≡ Some (decoded_version part)
+  pub least : 66 ≤ length part
+  pub most : length part ≤ 1090

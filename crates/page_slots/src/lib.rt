@@ -10,27 +10,24 @@
 //! `specs/Slots.antt`, hints in `specs/Hints.antt`; `proofs/SlotLemmas.antt` says, for the crates above, what each change does
 //! to the map from numbers to slots.
 //!
-//! What bytes say of a page stands in `specs/Layout.antt`, and [`Page::bytes`] hands them out. There are two layers. A `Sheet`
-//! knows bytes: it keeps what `specs/Sound.antt` says of them, and its contract names them. A [`Page`] knows slots: it keeps how
-//! many bytes versions take and which slot is the first unused one (`AreTallied`), so it goes through no slots for either. A
-//! version is written into the gap between pointers and versions, and looked at where it stands ([`Page::row`]);
-//! [`Page::slot`] makes a copy. Where the gap is too small, versions are moved together first, from the end of the page downward
-//! in the order of their slots (`packing.rt`, `specs/Packing.antt`).
+//! Where the parts of a page stand among its bytes is said by `page_layout` below, what slots the bytes say by
+//! `specs/Layout.antt`; [`Page::bytes`] hands them out. There are two layers. A `Sheet` knows bytes: it keeps what `Sound` of
+//! `page_layout` says of them, and its contract names them. A [`Page`] knows slots: it keeps how many bytes versions take and
+//! which slot is the first unused one (`AreTallied`), so it goes through no slots for either. A version is written into the gap
+//! between pointers and versions, and looked at where it stands ([`Page::row`]); [`Page::slot`] makes a copy. Where the gap is
+//! too small, versions are moved together first, from the end of the page downward in the order of their slots (`packing.rt`,
+//! `specs/Packing.antt`).
 #![tactic(auto)]
 
 mod check;
-mod faults;
 mod hints;
 mod marks;
-mod numbers;
 mod packing;
 mod page;
-mod pointer;
 mod sheet;
 mod slot;
 
 pub use check::{check_page, reads_back};
-pub use faults::PageFault;
 pub use page::{AddFault, Page};
-pub use sheet::PAGE_BYTES;
+pub use page_layout::{PAGE_BYTES, PageFault};
 pub use slot::{Slot, SlotHead};

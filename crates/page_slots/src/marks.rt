@@ -1,37 +1,20 @@
-//! Whether versions of a page share bytes: each takes whole units of 8 bytes, which are marked in turn.
+//! Whether versions of a page share bytes: each takes whole units, which are marked in turn.
 
-ghost use Rattle.std.specs.Prelude.{◌≡◌, ◌≤◌, ◌<◌, ◌+◌, ◌*◌, ℕ, length, Some, None, ◌%◌, IfSome, MatchBool, MatchOption, MatchResult};
-ghost use Rattle.page_slots.specs.declared.faults.PageFault.{PageFault};
+ghost use Rattle.std.specs.Prelude.{◌≡◌, ◌≤◌, ◌<◌, ◌+◌, ◌*◌, ℕ, length, Some, None, ◌%◌, IfSome, MatchOption, MatchResult};
+ghost use Rattle.page_layout.specs.declared.faults.PageFault.{PageFault};
 ghost use Rattle.tuple_header.specs.declared.version.TheConstants.{MOST_SLOTS};
-ghost use Rattle.page_slots.specs.declared.marks.TheConstants.{PAGE_UNITS};
-ghost use Rattle.page_slots.specs.declared.sheet.TheConstants.{PAGE_BYTES};
+ghost use Rattle.page_layout.specs.declared.units.TheConstants.{PAGE_UNITS};
+ghost use Rattle.page_layout.specs.declared.sizes.TheConstants.{PAGE_BYTES};
 ghost use Rattle.page_slots.specs.Slots.{bytes_taken};
-ghost use Rattle.page_slots.specs.Layout.{pointer_in, slot_in, upper_in};
-ghost use Rattle.page_slots.specs.Sound.{IsPointer};
-ghost use Rattle.page_slots.specs.Faults.{overlap_fault, first_among};
-ghost use Rattle.page_slots.specs.Marking.{units_marked, AreMarked, SomeIsMarked, IsCovered, AreClear};
+ghost use Rattle.page_layout.specs.Layout.{pointer_in, upper_in};
+ghost use Rattle.page_slots.specs.Layout.{slot_in};
+ghost use Rattle.page_layout.specs.Sound.{IsPointer};
+ghost use Rattle.page_slots.specs.Faults.{overlap_fault};
+ghost use Rattle.page_layout.specs.Faults.{first_among};
+ghost use Rattle.page_layout.specs.Units.{units_marked};
+ghost use Rattle.page_slots.specs.Marking.{IsCovered, AreClear};
 
-use crate::faults::PageFault;
-use crate::pointer::{Pointer, pointer_at};
-
-/// How many units of 8 bytes a page has.
-const PAGE_UNITS: usize = 1024;
-
-/// Marks the units from one to before another, where none of them is marked yet. Else it answers false.
-fn mark(marks: &mut [bool; PAGE_UNITS], from: usize, to: usize) -> bool
-    requires order { from ≤ to }
-    requires within { to ≤ PAGE_UNITS }
-    ensures { MatchBool result (AreMarked marks.old marks.new from to)
-        (SomeIsMarked marks.old from to) }
-{
-    for unit in from..to {
-        if marks[unit] {
-            return false;
-        }
-        marks[unit] = true;
-    }
-    true
-}
+use page_layout::{PAGE_UNITS, PageFault, Pointer, mark, pointer_at};
 
 /// Marks the units of the version at an index, if there is one, and answers how many they are. It answers none where the version
 /// shares one with that of a lower slot.

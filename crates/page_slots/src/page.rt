@@ -3,19 +3,20 @@
 ghost use Rattle.std.specs.Prelude.{◌≡◌, ◌⊎◌, ◌≤◌, ◌<◌, ◌+◌, ◌*◌, ℕ, sum_by, [], true, false, length, IfSome, IsSome, IsTrue, ◌↔◌, Some, None, MatchOption, Err, OnOk, OnErr, IfOk};
 ghost use Rattle.tuple_header.specs.Faults.{header_fault};
 ghost use Rattle.tuple_header.specs.Version.{rounded_size_of};
-ghost use Rattle.page_slots.specs.declared.sheet.TheConstants.{MOST_BYTES, PAGE_BYTES};
+ghost use Rattle.page_slots.specs.declared.sheet.TheConstants.{MOST_BYTES};
+ghost use Rattle.page_layout.specs.declared.sizes.TheConstants.{PAGE_BYTES};
 ghost use Rattle.page_slots.specs.Layout.{shown_by};
 ghost use Rattle.page_slots.specs.Reading.{page_of};
 ghost use Rattle.page_slots.specs.Faults.{AreSoundRedirects, page_fault};
 ghost use Rattle.page_slots.specs.Standing.{length_at, LiesWithin};
-ghost use Rattle.page_slots.specs.Sound.{HoldsNoVersion};
+ghost use Rattle.page_layout.specs.Sound.{HoldsNoVersion};
 ghost use Rattle.page_slots.specs.View.{HasSlot};
 ghost use Rattle.page_slots.specs.Slots.{is_unused, is_dead, is_undeleted_by, redirects_to, head_of, slot_at, header_at, row_at, key_at, redirect_at, SlotIsThere, IsNormalAt, the_slot, with_slot, with_header_at, has_unused, free_number, with_added, bytes_taken, free_bytes, room_of, next_change, change_unless, differs_in_hints_alone};
 
 use crate::hints::differ_in_hints_alone;
-use crate::pointer::Pointer;
 use crate::sheet::{MOST_BYTES, Sheet};
 use crate::slot::{Slot, SlotHead};
+use page_layout::Pointer;
 use std::alloc::{AllocError, Global};
 use std::marker::Model;
 use thiserror::Error;
@@ -46,7 +47,8 @@ pub struct Page {
 impl Model for Page {
     ghost use Rattle.std.specs.Prelude.{◌==◌, not};
     ghost use Rattle.page_slots.specs.View.{PageView, AreTallied, all_spare};
-    ghost use Rattle.page_slots.specs.Layout.{change_in, flags_in, slots_in};
+    ghost use Rattle.page_layout.specs.Layout.{change_in, flags_in};
+    ghost use Rattle.page_slots.specs.Layout.{slots_in};
 
     ghost Value = { PageView };
 

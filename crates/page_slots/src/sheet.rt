@@ -7,30 +7,28 @@ ghost use Rattle.tuple_header.specs.Layout.{number_at, with_bytes, header_bytes,
 ghost use Rattle.tuple_header.specs.declared.version.TheConstants.{MOST_SLOTS};
 ghost use Rattle.tuple_header.specs.Version.{size_of, rounded_size_of};
 ghost use Rattle.tuple_header.specs.Faults.{HeaderFits, IsVersion, header_fault, first_fault};
-ghost use Rattle.page_slots.specs.declared.sheet.TheConstants.{MOST_BYTES, PAGE_BYTES, PAGE_HEADER_BYTES};
+ghost use Rattle.page_slots.specs.declared.sheet.TheConstants.{MOST_BYTES};
+ghost use Rattle.page_layout.specs.declared.sizes.TheConstants.{PAGE_BYTES, PAGE_HEADER_BYTES};
 ghost use Rattle.page_slots.specs.Slots.{is_unused, is_dead, is_undeleted_by, redirects_to, with_header, version_of, target_of, head_of, bytes_taken};
-ghost use Rattle.page_slots.specs.Layout.{pointer_in, part_of, shown_by, slot_in, slots_in, slot_count_in, change_in, flags_in, upper_in};
+ghost use Rattle.page_layout.specs.Layout.{pointer_in, part_of, slot_count_in, change_in, flags_in, upper_in};
+ghost use Rattle.page_slots.specs.Layout.{shown_by, slot_in, slots_in};
 ghost use Rattle.page_slots.specs.Packing.{LieInOrder};
-ghost use Rattle.page_slots.specs.Standing.{StandsAt};
+ghost use Rattle.page_slots.specs.Standing.{StandsAt, IsVersionAt};
 ghost use Rattle.page_slots.specs.Faults.{AreSoundRedirects, page_fault};
-ghost use Rattle.page_slots.specs.declared.pointer.Extent.{Extent as SpecExtent};
-ghost use Rattle.page_slots.specs.Sound.{AreAbove, IsExtent, HoldsNoVersion, IsWritten, IsPointer, IsVersionAt};
+ghost use Rattle.page_layout.specs.declared.pointer.Extent.{Extent as SpecExtent};
+ghost use Rattle.page_layout.specs.Sound.{AreAbove, IsExtent, HoldsNoVersion, IsWritten, IsPointer};
 
-use crate::numbers::{put_u16, put_u64, u16_at, u64_at};
-use crate::packing::pack;
-use crate::pointer::{Extent, Pointer, pointer_at, put_pointer};
+use crate::packing::move_together;
 use crate::slot::{Slot, SlotHead};
+use page_layout::{
+    Extent, PAGE_BYTES, PAGE_HEADER_BYTES, Pointer, part, pointer_at, put_pointer, put_u16,
+    put_u64, u16_at, u64_at,
+};
 use std::marker::Model;
 use tuple_header::{
     Header, Row, RowRef, header_of, key_of, put_header, put_version, row_in, row_size, version_of,
 };
 use xid_circle::Xid;
-
-/// The bytes of a page.
-pub const PAGE_BYTES: usize = 8192;
-
-/// The bytes of a page's header, which come first. The line pointers are right behind them.
-pub(crate) const PAGE_HEADER_BYTES: usize = 24;
 
 /// What pointers and versions may take of a page.
 pub(crate) const MOST_BYTES: usize = 8168;
@@ -46,23 +44,13 @@ pub(crate) struct Sheet {
 
 impl Model for Sheet {
     ghost use Rattle.page_slots.specs.Sheet.{SheetView};
-    ghost use Rattle.page_slots.specs.Sound.{IsSound};
+    ghost use Rattle.page_layout.specs.Sound.{IsSound};
 
     ghost Value = { SheetView };
 
     ghost view = { λ s. record { bytes = s.bytes; count = s.count } };
 
     ghost invariant = { λ s. IsSound s.bytes s.count };
-}
-
-/// The bytes of a version.
-#[inline(always)]
-pub(crate) fn part(bytes: &[u8], extent: Extent) -> &[u8]
-    requires { extent.from + extent.len ≤ length bytes.now }
-    ensures { result.now ≡ part_of bytes.now extent }
-{
-    let from = usize::from(extent.from);
-    &bytes[from..from + usize::from(extent.len)]
 }
 
 /// Writes a header over that of the version in these bytes.
@@ -586,8 +574,7 @@ impl Sheet {
         ensures order { LieInOrder self.new.bytes (slots_in self.old.count self.old.bytes)
             self.new.count }
     {
-        let old = self.bytes;
-        let upper = pack(&old, self.count, &mut self.bytes);
+        let upper = move_together(&mut self.bytes, self.count);
         put_u16(&mut self.bytes, 14, upper as u16);
     }
 

@@ -1,7 +1,7 @@
 -- What is wrong with bytes, as C reads it.
 use Rattle.std.specs.Prelude.{ℕ, Option, Some, None}
-use Rattle.page_slots.specs.declared.faults.PageFault.{PageFault}
-use Rattle.page_slots.specs.declared.faults.PageFault.TheVariants.{Length, Header, Bounds, BadPointer, BadTuple, BadRedirect, Overlap}
+use Rattle.page_layout.specs.declared.faults.PageFault.{PageFault}
+use Rattle.page_layout.specs.declared.faults.PageFault.TheVariants.{Length, Header, Bounds, BadPointer, BadTuple, BadRedirect, Overlap}
 
 -- the number of a fault
 abbrev pub number_of_page_fault : PageFault → ℕ

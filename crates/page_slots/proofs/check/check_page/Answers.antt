@@ -1,5 +1,5 @@
 use Rattle.std.proofs.Common.{◌∙◌, Ok, sym, ap, arith}
-use Rattle.page_slots.proofs.FaultLemmas.{framed-from_none}
+use Rattle.page_layout.proofs.FaultLemmas.{framed-from_none}
 use Rattle.page_slots.proofs.CheckLemmas.{behind_redirects, checked-frame, checked-slot, checked-redirect, checked-overlap, checked-page, good-pointers, plain-words, few-slots, sound-clear, fits-clear}
 use Rattle.page_slots.proofs.check.check_page.Goals as goal
 

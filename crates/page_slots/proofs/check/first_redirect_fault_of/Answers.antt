@@ -1,6 +1,6 @@
 use Rattle.std.proofs.Common.{sym}
 use Rattle.page_slots.specs.Faults.{redirect_fault}
-use Rattle.page_slots.proofs.FirstLemmas.{first-found}
+use Rattle.page_layout.proofs.FirstLemmas.{first-found}
 use Rattle.page_slots.proofs.check.first_redirect_fault_of.Goals as goal
 
 pub returns-in-Some : goal.returns-in-Some

@@ -1,5 +1,6 @@
 use Rattle.std.proofs.Common.{◌≡◌, None}
-use Rattle.page_slots.specs.Faults.{redirect_fault, first_among}
+use Rattle.page_slots.specs.Faults.{redirect_fault}
+use Rattle.page_layout.specs.Faults.{first_among}
 use Rattle.page_slots.proofs.check.first_redirect_fault_of.Given as goal
 
 abbrev pub invariant-loop-index : goal.invariant-loop-index

@@ -1,6 +1,6 @@
 use Rattle.std.proofs.Common.{◌∙◌, ◌-◌, true, false, not, ℕ, sym, ap}
 use Rattle.page_slots.specs.Faults.{leads_astray}
-use Rattle.page_slots.proofs.FaultLemmas.{redirect-tested, astray-read}
+use Rattle.page_slots.proofs.RedirectLemmas.{redirect-tested, astray-read}
 use Rattle.page_slots.proofs.check.redirect_fault_of.Goals as goal
 
 pub returns-then-holds_heap_only : goal.returns-then-holds_heap_only

@@ -1,10 +1,10 @@
 use Rattle.std.proofs.Common.{◌≡◌, ◌∙◌, ◌/◌, ◌*◌, ◌<◌, ℕ, sym, ap, arith}
 use Rattle.std.specs.Int.{next_multiple_of}
-use Rattle.page_slots.specs.declared.pointer.Pointer.{Pointer}
-use Rattle.page_slots.specs.declared.pointer.Extent.{Extent}
-use Rattle.page_slots.specs.Layout.{pointer_in}
-use Rattle.page_slots.specs.Sound.{IsExtent}
-use Rattle.page_slots.specs.Marking.{AreMarked, SomeIsMarked}
+use Rattle.page_layout.specs.declared.pointer.Pointer.{Pointer}
+use Rattle.page_layout.specs.declared.pointer.Extent.{Extent}
+use Rattle.page_layout.specs.Layout.{pointer_in}
+use Rattle.page_layout.specs.Sound.{IsExtent}
+use Rattle.page_layout.specs.Units.{AreMarked, SomeIsMarked}
 use Rattle.page_slots.proofs.Shown.{extent-good, taken-shown}
 use Rattle.page_slots.proofs.CoverLemmas.{at-span, bare-taken, eighths, rounded_even, fresh-none, stale-some, covered-normal, covered-bare}
 use Rattle.page_slots.proofs.marks.mark_version.Goals as goal

@@ -1,17 +1,18 @@
 use Rattle.std.proofs.Common.{◌≡◌, ◌∙◌, ◌+◌, ◌*◌, ◌<◌, ℕ, take, sum_by, ap, subst, refl, arith}
 use Rattle.std.proofs.lemmas.List.{take_all}
-use Rattle.page_slots.specs.declared.faults.PageFault.TheVariants.{Overlap}
-use Rattle.page_slots.specs.declared.pointer.Pointer.{Pointer}
-use Rattle.page_slots.specs.declared.pointer.Extent.{Extent}
+use Rattle.page_layout.specs.declared.faults.PageFault.TheVariants.{Overlap}
+use Rattle.page_layout.specs.declared.pointer.Pointer.{Pointer}
+use Rattle.page_layout.specs.declared.pointer.Extent.{Extent}
 use Rattle.page_slots.specs.Slots.{bytes_taken}
-use Rattle.page_slots.specs.Layout.{pointer_in, slot_in, slots_in}
-use Rattle.page_slots.specs.Sound.{IsExtent}
+use Rattle.page_layout.specs.Layout.{pointer_in}
+use Rattle.page_slots.specs.Layout.{slot_in, slots_in}
+use Rattle.page_layout.specs.Sound.{IsExtent}
 use Rattle.page_slots.specs.Faults.{overlap_fault}
 use Rattle.page_slots.specs.Marking.{IsCovered}
 use Rattle.page_slots.proofs.Shown.{extent-good}
 use Rattle.page_slots.proofs.Sounds.{length-slots_in}
 use Rattle.page_slots.proofs.PackLemmas.{taken-more}
-use Rattle.page_slots.proofs.FirstLemmas.{first-found}
+use Rattle.page_layout.proofs.FirstLemmas.{first-found}
 use Rattle.page_slots.proofs.CoverLemmas.{covered-start, apart-from_none, units-fit}
 use Rattle.page_slots.proofs.marks.units_of.Goals as goal
 

@@ -1,7 +1,8 @@
 use Rattle.std.proofs.Common.{◌≡◌, ◌*◌, sum_by, take}
 use Rattle.page_slots.specs.Slots.{bytes_taken}
 use Rattle.page_slots.specs.Layout.{slots_in}
-use Rattle.page_slots.specs.Marking.{units_marked, IsCovered}
+use Rattle.page_layout.specs.Units.{units_marked}
+use Rattle.page_slots.specs.Marking.{IsCovered}
 use Rattle.page_slots.proofs.marks.units_of.Given as goal
 
 abbrev pub invariant-loop-index : goal.invariant-loop-index

@@ -1,6 +1,7 @@
 use Rattle.std.proofs.Common.{◌≡◌, ◌∙◌, sym, ap, subst, None, ℕ, List}
 use Rattle.page_slots.specs.View.{PageView, all_spare}
-use Rattle.page_slots.specs.Layout.{slots_in, slot_count_in, change_in, is_all_visible_in}
+use Rattle.page_slots.specs.Layout.{slots_in}
+use Rattle.page_layout.specs.Layout.{slot_count_in, change_in, is_all_visible_in}
 use Rattle.page_slots.specs.Reading.{page_of}
 use Rattle.page_slots.specs.Faults.{AreSoundRedirects, page_fault}
 use Rattle.page_slots.proofs.page.Page.bytes.Goals as goal

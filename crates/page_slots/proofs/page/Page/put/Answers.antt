@@ -6,7 +6,7 @@ use Rattle.page_slots.specs.View.{PageView, AreTallied}
 use Rattle.page_slots.specs.declared.slot.Slot.{Slot}
 use Rattle.page_slots.specs.declared.slot.Slot.TheVariants.{Unused}
 use Rattle.page_slots.specs.Layout.{shown_by, slots_in}
-use Rattle.page_slots.specs.Sound.{HoldsNoVersion}
+use Rattle.page_layout.specs.Sound.{HoldsNoVersion}
 use Rattle.page_slots.specs.Slots.{SlotIsThere, is_unused, bytes_taken}
 use Rattle.page_slots.proofs.Kept.{kept_bare, taken-within, sum-bare}
 use Rattle.page_slots.proofs.FreeLemmas.{first-after_set}

@@ -1,5 +1,5 @@
 use Rattle.std.proofs.Common.{◌≡◌, ◌≤◌, sym, ap, ◌∙◌, subst, List, ℕ, length, arith}
-use Rattle.page_slots.specs.Layout.{upper_in}
+use Rattle.page_layout.specs.Layout.{upper_in}
 use Rattle.page_slots.specs.Sheet.{SheetView}
 use Rattle.page_slots.proofs.Shown.{none-shown, extent-good}
 use Rattle.page_slots.proofs.StandingLemmas.{stands-shown}

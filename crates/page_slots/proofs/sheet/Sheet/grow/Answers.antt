@@ -1,6 +1,6 @@
 use Rattle.std.proofs.Common.{◌≡◌, ◌≤◌, ◌<◌, ◌+◌, ◌*◌, sym, ap, subst, ℕ, List, arith}
 use Rattle.page_slots.specs.Sheet.{SheetView}
-use Rattle.page_slots.specs.Layout.{upper_in}
+use Rattle.page_layout.specs.Layout.{upper_in}
 use Rattle.page_slots.proofs.Grown.{IsGrown, grown}
 use Rattle.page_slots.proofs.sheet.Sheet.grow.Goals as goal
 

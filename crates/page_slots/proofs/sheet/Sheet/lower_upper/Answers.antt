@@ -1,6 +1,6 @@
 use Rattle.std.proofs.Common.{◌≡◌, ◌≤◌, ◌+◌, ◌*◌, sym, ap, subst, ℕ, List}
 use Rattle.page_slots.specs.Sheet.{SheetView}
-use Rattle.page_slots.specs.Layout.{upper_in}
+use Rattle.page_layout.specs.Layout.{upper_in}
 use Rattle.page_slots.proofs.Added.{IsLowered, upper-lowered}
 use Rattle.page_slots.proofs.sheet.Sheet.lower_upper.Goals as goal
 

@@ -1,6 +1,6 @@
 use Rattle.std.proofs.Common.{◌≡◌, ◌<◌, sym, ap, subst, ℕ, List}
 use Rattle.page_slots.specs.Sheet.{SheetView}
-use Rattle.page_slots.specs.Sound.{IsExtent, AreAbove}
+use Rattle.page_layout.specs.Sound.{IsExtent, AreAbove}
 use Rattle.page_slots.proofs.Added.{IsPlaced, pointer-placed, extent-pointed}
 use Rattle.page_slots.proofs.sheet.Sheet.place.Goals as goal
 

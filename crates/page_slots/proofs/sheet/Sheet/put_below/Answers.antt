@@ -2,11 +2,12 @@ use Rattle.std.proofs.Common.{◌≡◌, ◌≤◌, ◌+◌, ◌-◌, ◌*◌, N
 use Rattle.tuple_header.specs.Layout.{decoded_version}
 use Rattle.tuple_header.specs.Faults.{first_fault}
 use Rattle.tuple_header.specs.Version.{Version, size_of, rounded_size_of}
-use Rattle.page_slots.specs.declared.pointer.Extent.{Extent}
+use Rattle.page_layout.specs.declared.pointer.Extent.{Extent}
 use Rattle.page_slots.specs.declared.slot.Slot.{Slot}
 use Rattle.page_slots.specs.Sheet.{SheetView}
-use Rattle.page_slots.specs.Layout.{part_of, upper_in, slots_in}
-use Rattle.page_slots.proofs.Shown.{rounded-up}
+use Rattle.page_layout.specs.Layout.{part_of, upper_in}
+use Rattle.page_slots.specs.Layout.{slots_in}
+use Rattle.page_layout.proofs.PointerLemmas.{rounded-up}
 use Rattle.page_slots.proofs.Added.{extent-written}
 use Rattle.page_slots.proofs.sheet.Sheet.put_below.Goals as goal
 

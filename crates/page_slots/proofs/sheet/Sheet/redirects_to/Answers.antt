@@ -1,5 +1,5 @@
 use Rattle.std.proofs.Common.{sym, ap, ◌∙◌}
-use Rattle.page_slots.specs.declared.pointer.Pointer.TheVariants as pointer
+use Rattle.page_layout.specs.declared.pointer.Pointer.TheVariants as pointer
 use Rattle.page_slots.specs.Slots.{redirects_to}
 use Rattle.page_slots.proofs.Shown.{shown}
 use Rattle.page_slots.proofs.sheet.Sheet.redirects_to.Goals as goal

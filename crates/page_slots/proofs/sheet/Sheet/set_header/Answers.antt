@@ -1,7 +1,7 @@
 use Rattle.std.proofs.Common.{◌≡◌, ◌<◌, sym, ap, ◌∙◌, subst, List, ℕ, refl}
 use Rattle.page_slots.specs.Sheet.{SheetView}
-use Rattle.page_slots.specs.declared.pointer.Pointer.TheVariants as pointer
-use Rattle.page_slots.specs.Layout.{pointer_in}
+use Rattle.page_layout.specs.declared.pointer.Pointer.TheVariants as pointer
+use Rattle.page_layout.specs.Layout.{pointer_in}
 use Rattle.page_slots.proofs.HeaderSet.{IsReheaded, header-set, header-none}
 use Rattle.page_slots.proofs.sheet.Sheet.set_header.Goals as goal
 

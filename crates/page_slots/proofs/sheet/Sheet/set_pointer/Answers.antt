@@ -1,6 +1,6 @@
 use Rattle.std.proofs.Common.{◌≡◌, ◌<◌, sym, ap, subst, ℕ}
 use Rattle.page_slots.specs.Sheet.{SheetView}
-use Rattle.page_slots.specs.Sound.{HoldsNoVersion}
+use Rattle.page_layout.specs.Sound.{HoldsNoVersion}
 use Rattle.page_slots.proofs.PointerSet.{IsRepointed, pointer-set, bare-pointed}
 use Rattle.page_slots.proofs.sheet.Sheet.set_pointer.Goals as goal
 

@@ -1,6 +1,6 @@
 use Rattle.std.proofs.Common.{◌≡◌, sym, ap, ◌∙◌}
 use Rattle.page_slots.specs.Sheet.{SheetView}
-use Rattle.page_slots.specs.declared.pointer.Pointer.TheVariants as pointer
+use Rattle.page_layout.specs.declared.pointer.Pointer.TheVariants as pointer
 use Rattle.page_slots.proofs.Shown.{shown}
 use Rattle.page_slots.proofs.sheet.Sheet.slot.Goals as goal
 

@@ -1,6 +1,6 @@
 use Rattle.std.proofs.Common.{◌≡◌, sym, ap, ◌∙◌, subst, List, ℕ, length}
-use Rattle.page_slots.specs.Layout.{part_of}
-use Rattle.page_slots.specs.Sound.{IsVersionAt}
+use Rattle.page_layout.specs.Layout.{part_of}
+use Rattle.page_slots.specs.Standing.{IsVersionAt}
 use Rattle.page_slots.specs.Sheet.{SheetView}
 use Rattle.page_slots.proofs.Shown.{version-shown, none-shown, extent-good}
 use Rattle.page_slots.proofs.sheet.Sheet.version.Goals as goal

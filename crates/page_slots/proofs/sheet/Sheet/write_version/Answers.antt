@@ -1,8 +1,8 @@
 use Rattle.std.proofs.Common.{◌≡◌, ◌≤◌, ◌+◌, ◌*◌, sym, ap, subst, ℕ, List, arith}
 use Rattle.tuple_header.specs.Version.{size_of, rounded_size_of}
 use Rattle.page_slots.specs.Sheet.{SheetView}
-use Rattle.page_slots.specs.Layout.{upper_in}
-use Rattle.page_slots.proofs.Shown.{rounded-up}
+use Rattle.page_layout.specs.Layout.{upper_in}
+use Rattle.page_layout.proofs.PointerLemmas.{rounded-up}
 use Rattle.page_slots.proofs.Added.{IsBelow, written-below}
 use Rattle.page_slots.proofs.sheet.Sheet.write_version.Goals as goal
 
