@@ -19,7 +19,7 @@ static VERSION: [u8; 66] = [
 ];
 
 /// A number of four bytes, and where it is written.
-type Part = (usize, u32);
+pub type Part = (usize, u32);
 
 /// Writes these bytes from a place on, if they fit.
 fn write(bytes: &mut [u8], place: usize, part: &[u8]) {
@@ -29,7 +29,7 @@ fn write(bytes: &mut [u8], place: usize, part: &[u8]) {
 }
 
 /// The page's bytes, but for these numbers.
-fn page_with(parts: &[Part]) -> [u8; 8192] {
+pub fn page_with(parts: &[Part]) -> [u8; 8192] {
     let mut bytes = [0; 8192];
     write(&mut bytes, 0, &HEAD);
     write(&mut bytes, 8120, &VERSION);
@@ -110,7 +110,7 @@ fn first_fault_of_a_page(rt: HostRuntime) {
 }
 
 /// A heap-only version in slot 2, to which slot 1 leads.
-static REDIRECTED: [Part; 4] = [
+pub static REDIRECTED: [Part; 4] = [
     SECOND,
     (24, 0x0001_0002),
     (28, 0x0084_9fb8),
