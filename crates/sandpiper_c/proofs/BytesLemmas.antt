@@ -1,5 +1,5 @@
 -- The bytes of a page, written before others.
-use Rattle.std.proofs.Common.{◌≡◌, ℕ, ◌+◌, ◌≤◌, List, ◌++◌, length, take, drop, refl, ap, sym, ◌∙◌, zero-add, subst, arith}
+use Rattle.std.proofs.Common.{◌≡◌, ℕ, ◌+◌, ◌≤◌, List, ◌++◌, length, take, drop, ap, ◌∙◌, arith}
 use Rattle.std.proofs.lemmas.Slice.{drop-append-drop}
 use Rattle.tuple_header.specs.Layout.{with_bytes}
 use Rattle.page_layout.proofs.RaiseLemmas.{block-back}

@@ -1,12 +1,11 @@
 -- Bytes that are read as those of a page.
-use Rattle.std.proofs.Common.{◌≡◌, ℕ, ◌+◌, ◌<◌, ◌≤◌, ◌⊎◌, inl, inr, List, [], ◌++◌, length, refl, ap, length-append, ◌∙◌, sym, subst, arith, Option, None, Some, Result, Ok, Err, IfSome, IfErr, OnOk}
+use Rattle.std.proofs.Common.{◌≡◌, ℕ, ◌+◌, ◌<◌, ◌≤◌, ◌⊎◌, inl, inr, List, [], ◌++◌, length, ap, length-append, ◌∙◌, sym, subst, arith, Option, None, Some, Result, Ok, Err, IfSome, IfErr, OnOk}
 use Rattle.std.proofs.lemmas.List.{append-nil}
 use Rattle.std.proofs.lemmas.Option.{IfSome_then}
 use Rattle.std.specs.Io.KnownBytes.{Appends, IsAtEnd}
 use Rattle.page_slots.specs.Faults.{page_fault}
 use Rattle.page_slots.specs.Reading.{page_of}
 use Rattle.page_slots.specs.View.{PageView}
-use Rattle.page_layout.specs.declared.faults.PageFault.{PageFault}
 use Rattle.page_layout.specs.declared.faults.PageFault.TheVariants.{Length}
 use Rattle.script_text.proofs.PageLemmas.{long_fault, none_some, page_length}
 use Rattle.script_text.specs.Grammar.{with_feed}
