@@ -91,15 +91,7 @@ outcome_is s from input bytes w0 w1 w2 (Err (BadLine n)) fits columns new q e h 
       h.ends.0,
       nothing_first w0 w1 w2 (answers_of h.events) q h.ends.2,
     )
-outcome_is s from input bytes w0 w1 w2 (Err (BadPage fault)) fits columns new q e h =
-    inr (
-      s,
-      h.events,
-      h.left,
-      ran_from s from h.events h.last fits columns new h.allowed h.leads,
-      e ∙ ap (λ x. with_feed (heading s) ++ x) h.lines ∙ sym (append_assoc (with_feed (heading s)) (lines_of h.events) h.left),
-      begun_first w0 w1 w2 (answers_of h.events) q h.ends,
-    )
+outcome_is s from input bytes w0 w1 w2 (Err (BadPage fault)) fits columns new q e h = absurd h.ends
 outcome_is s from input bytes w0 w1 w2 (Err Input) fits columns new q e h =
     inr (
       s,
@@ -156,7 +148,7 @@ no_heading TooManyLines log input f = absurd f
 pub outcome_of_none : (e : ShellFault) (input w0 w1 : Option (List ℕ)) → MatchesHeading e input → Appends w0 w1 [] → IfSome input (λ bytes. ScriptOutcome (Err e) bytes w0 w1)
 outcome_of_none e None w0 w1 h quiet = tt
 outcome_of_none (BadLine n) (Some bytes) w0 w1 h quiet = inl (h.0, quiet, h.1)
-outcome_of_none (BadPage fault) (Some bytes) w0 w1 h quiet = inl quiet
+outcome_of_none (BadPage fault) (Some bytes) w0 w1 h quiet = absurd h
 outcome_of_none Input (Some bytes) w0 w1 h quiet = inl quiet
 outcome_of_none Output (Some bytes) w0 w1 h quiet = inl quiet
 outcome_of_none NoMemory (Some bytes) w0 w1 h quiet = inl quiet
