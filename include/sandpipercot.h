@@ -12,7 +12,8 @@
  *
  * MEMORY comes from the program's malloc, realloc and free. Where that is refused, the call says SANDPIPER_NO_MEMORY and has changed
  * nothing; it may be repeated. sandpiper_get, _rollback_to, _release, _commit, _abort, _prune, _close, _open_heap, _open_by_key,
- * _open_index, _next, _close_cursor, _slot_at, _page_at, _state, _version, _vacuum_begin, _vacuum_step and _vacuum_cancel ask for none.
+ * _open_index, _next, _close_cursor, _slot_at, _page_at, _page_bytes, _check_page, _state, _version, _vacuum_begin, _vacuum_step and
+ * _vacuum_cancel ask for none.
  *
  * STATUSES. Each call returns one of those below. From 16 on something was refused. Whatever the status is, also where nobody reads
  * it, the table is whole and usable. A refused call leaves everything as it was, but for two: after SANDPIPER_CONFLICT the
@@ -95,7 +96,7 @@ enum sandpiper_status {
     SANDPIPER_NO_VACUUM = 35,         /* no vacuum is running */
     SANDPIPER_NO_ENGINE = 48,         /* the handle has no table */
     SANDPIPER_HAS_ENGINE = 49,        /* sandpiper_open: the handle has a table already */
-    SANDPIPER_NO_PLACE = 50,          /* sandpiper_next: there is no place for a row */
+    SANDPIPER_NO_PLACE = 50,          /* sandpiper_next, _page_bytes: there is no place for a row, or for a page */
     /* sandpiper_open: the first setting that is out of its range */
     SANDPIPER_BAD_MAX_PAGES = 64,
     SANDPIPER_BAD_STOP_AGE = 65,
@@ -226,8 +227,12 @@ struct sandpiper_slot {
 /* Slot number 1, 2, .. of a page, counted from 0: FOUND or NO_ROW. */
 uint32_t sandpiper_slot_at(struct sandpiper *table, uint32_t page, uint16_t number, struct sandpiper_slot *slot);
 
-/* The bytes of a page are in PostgreSQL's layout (docs/format.md). */
+/* The bytes of a page are in PostgreSQL's layout (docs/format.md), so that a tool can look into one as pageinspect does. */
 #define SANDPIPER_PAGE_BYTES 8192
+
+/* Writes the bytes of a page, counted from 0, to the first 8192 of `length`: FOUND; NO_ROW where the page is not in use; NO_PLACE where
+ * `length` is less. */
+uint32_t sandpiper_page_bytes(struct sandpiper *table, uint32_t page, uint8_t *bytes, size_t length);
 
 /* What is wrong with bytes, as those of a page: the first that holds, in this order. Of slots the lowest is named. */
 enum sandpiper_page_fault {
@@ -279,7 +284,7 @@ static inline const char *sandpiper_words(uint32_t status) {
     case SANDPIPER_NO_VACUUM: return "no vacuum is running";
     case SANDPIPER_NO_ENGINE: return "the handle has no table";
     case SANDPIPER_HAS_ENGINE: return "the handle has a table already";
-    case SANDPIPER_NO_PLACE: return "there is no place for a row";
+    case SANDPIPER_NO_PLACE: return "there is no place for a row, or for a page";
     case SANDPIPER_BAD_MAX_PAGES: return "the setting max_pages is out of its range";
     case SANDPIPER_BAD_STOP_AGE: return "the setting stop_age is out of its range";
     case SANDPIPER_BAD_FREEZE_MIN_AGE: return "the setting freeze_min_age is out of its range";

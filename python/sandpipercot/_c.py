@@ -86,6 +86,7 @@ ARGUMENTS: Dict[str, List[Any]] = {
     "vacuum_begin": [POINTER, c_bool],
     "vacuum_step": [POINTER, POINTER],
     "vacuum_cancel": [POINTER],
+    "page_bytes": [POINTER, c_uint32, POINTER, c_size_t],
     "check_page": [POINTER, c_size_t, POINTER],
     "slot_at": [POINTER, c_uint32, c_uint16, POINTER],
     "page_at": [POINTER, c_uint32, POINTER],

@@ -197,7 +197,7 @@ class HasEngine(Refused):
 
 
 class NoPlace(Refused):
-    """there is no place for a row"""
+    """there is no place for a row, or for a page"""
 
     status = Status.NO_PLACE
 

@@ -200,6 +200,12 @@ class Table:
             yield Slot(Kind(slot.kind), slot.target, slot.xmin, slot.xmax, slot.key)
             number += 1
 
+    def page_bytes(self, page: int) -> Optional[bytes]:
+        """The 8192 bytes of a page, counted from 0, in PostgreSQL's layout (docs/format.md), or None where it is not in use."""
+        place = (ctypes.c_uint8 * _c.PAGE_BYTES)()
+        found = self._call("page_bytes", fits(page, 32), ctypes.addressof(place), _c.PAGE_BYTES)
+        return bytes(place) if found == Status.FOUND else None
+
     def close(self) -> None:
         """Aborts what is open, and gives the memory back. A table that is closed stays so."""
         if self.is_open:

@@ -9,6 +9,7 @@ static const struct sandpiper_settings widest = SANDPIPER_WIDEST;
 static void check_closed(void) {
     size_t count = 77;
     struct sandpiper_slot slot = {.kind = 77};
+    uint8_t bytes[1] = {77};
     struct sandpiper_piece piece = {.kind = 77};
     place->key = 77;
     CHECK(sandpiper_begin(&t, 0) == SANDPIPER_NO_ENGINE && sandpiper_commit(&t, 0) == SANDPIPER_NO_ENGINE);
@@ -24,6 +25,7 @@ static void check_closed(void) {
     CHECK(sandpiper_vacuum_begin(&t, true) == SANDPIPER_NO_ENGINE && sandpiper_vacuum_cancel(&t) == SANDPIPER_NO_ENGINE);
     CHECK(sandpiper_vacuum_step(&t, &piece) == SANDPIPER_NO_ENGINE && piece.kind == 77);
     CHECK(sandpiper_slot_at(&t, 0, 1, &slot) == SANDPIPER_NO_ROW && slot.kind == 77);
+    CHECK(sandpiper_page_bytes(&t, 0, bytes, sizeof bytes) == SANDPIPER_NO_ROW && bytes[0] == 77);
     CHECK(sandpiper_close(&t) == SANDPIPER_NO_ENGINE && !t.is_open && !t.held);
 }
 
@@ -57,10 +59,12 @@ static void check_lengths(void) {
 }
 
 static void check_numbers(void) {
+    uint8_t few[1] = {77};
     struct sandpiper_slot slot;
     CHECK(sandpiper_begin(&t, 0) == SANDPIPER_DONE);
     CHECK(sandpiper_prune(&t, UINT32_MAX) == SANDPIPER_NO_SUCH_PAGE && sandpiper_slot_at(&t, UINT32_MAX, 1, &slot) == SANDPIPER_NO_ROW);
     CHECK(sandpiper_slot_at(&t, 0, 0, &slot) == SANDPIPER_NO_ROW && sandpiper_slot_at(&t, 0, UINT16_MAX, &slot) == SANDPIPER_NO_ROW);
+    CHECK(sandpiper_page_bytes(&t, UINT32_MAX, few, sizeof few) == SANDPIPER_NO_ROW && few[0] == 77);
     CHECK(sandpiper_open_index(&t, 0, UINT8_MAX, 0, 1) == SANDPIPER_NO_SUCH_INDEX);
     CHECK(sandpiper_open_by_key(&t, 0, UINT64_MAX, 0) == SANDPIPER_BAD_BOUNDS);
     CHECK(sandpiper_abort(&t, 0) == SANDPIPER_ROLLED_BACK);

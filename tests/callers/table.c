@@ -116,7 +116,9 @@ static void savepoints_take_back(void) {
 
 /* A key that was updated is a chain of two slots, and one that was deleted keeps its slot while an index leads to it. */
 static void pages_can_be_looked_into(void) {
+    static uint8_t bytes[SANDPIPER_PAGE_BYTES + 1];
     struct sandpiper_slot slot;
+    uint32_t bad_slot = 7;
     open_table();
     CHECK(sandpiper_begin(&t, 1) == SANDPIPER_DONE);
     CHECK(sandpiper_update(&t, 1, set_row(row, 3, 30, "second")) == SANDPIPER_DONE);
@@ -133,6 +135,13 @@ static void pages_can_be_looked_into(void) {
     CHECK(slot.kind == SANDPIPER_REDIRECT && slot.target == 11 && slot.xmin == 0 && slot.key == 0);
     CHECK(sandpiper_slot_at(&t, 0, 4, &slot) == SANDPIPER_FOUND);
     CHECK(slot.kind == SANDPIPER_DEAD && slot.target == 0 && slot.key == 0);
+
+    bytes[SANDPIPER_PAGE_BYTES] = 77;
+    CHECK(sandpiper_page_bytes(&t, 0, bytes, sizeof bytes) == SANDPIPER_FOUND && bytes[SANDPIPER_PAGE_BYTES] == 77);
+    CHECK(bytes[12] == 24 + 4 * 11 && bytes[24 + 4 * 2] == 11 && bytes[24 + 4 * 2 + 2] == 1);
+    CHECK(sandpiper_check_page(bytes, SANDPIPER_PAGE_BYTES, &bad_slot) == SANDPIPER_PAGE_SOUND && bad_slot == 0);
+    bytes[24 + 4 * 2] = 4;
+    CHECK(sandpiper_check_page(bytes, SANDPIPER_PAGE_BYTES, &bad_slot) == SANDPIPER_PAGE_REDIRECT && bad_slot == 3);
     close_table();
 }
 

@@ -11,7 +11,7 @@ from collections import Counter
 from typing import Iterator, Optional, Tuple
 
 import page_format as text
-from sandpipercot import FaultKind, PageFault, check_page
+from sandpipercot import FaultKind, PageFault, Row, Table, check_page
 from sandpipercot import _c
 
 NAMES = {
@@ -70,9 +70,32 @@ def with_bytes(at: int, part: bytes) -> bytes:
 
 
 class PagesTest(unittest.TestCase):
-    def test_vector(self) -> None:
+    def test_first_insert(self) -> None:
+        with Table() as table:
+            with table.begin() as session:
+                session.insert(Row(1, (5, 0, 0, 0), b""))
+            self.assertEqual(table.page_bytes(0), text.VECTOR)
+            self.assertIsNone(table.page_bytes(1))
         self.assertEqual(text.VECTOR[:28].hex(), "01000000000000000000" + "00001c00b81f0020042000000000" + "b89f8400")
         self.assertEqual(text.VECTOR[8120:8146].hex(), "0300000000000000000000000000000001000600000818000100")
+
+    def test_versions_are_moved_together(self) -> None:
+        """Seven versions of 1096 bytes; the third goes, and another takes its slot: there is room for it in all, and in no gap."""
+        with Table(max_pages=1) as table:
+            with table.begin() as session:
+                session.insert_many(Row(key, (0, 0, 0, 0), bytes(1024)) for key in range(1, 8))
+            self.assertEqual(self.offsets(table), [7096, 6000, 4904, 3808, 2712, 1616, 520])
+            with table.begin() as session:
+                session.delete(3)
+            table.vacuum()
+            with table.begin() as session:
+                session.insert(Row(8, (0, 0, 0, 0), bytes(1024)))
+            self.assertEqual(self.offsets(table), [7096, 6000, 520, 4904, 3808, 2712, 1616])
+
+    def offsets(self, table: Table) -> "list[int]":
+        page = table.page_bytes(0)
+        assert page is not None and check_page(page) is None
+        return [offset for offset, _, _ in text.pointers(page, len(text.shown_by(page).slots))]
 
     def test_first_fault(self) -> None:
         rows = [
@@ -112,6 +135,41 @@ class PagesTest(unittest.TestCase):
             seen[expected[0] if expected else None] += 1
         for name in ("Bounds", "BadPointer", "BadTuple", "BadRedirect", "Overlap", None):
             self.assertGreater(seen[name], 0, name)
+
+    def test_pages_of_a_table(self) -> None:
+        """After steps drawn at random each page is accepted, and shows the slots that the table tells of."""
+        draw = random.Random(2)
+        with Table(max_pages=4, indexed=(True, False, False, False)) as table:
+            for _ in range(300):
+                session = table.begin(read_committed=draw.random() < 0.5)
+                for _ in range(draw.randrange(8)):
+                    self.write(draw, session)
+                session.abort() if draw.random() < 0.2 else session.commit()
+                if table.state().pages:
+                    table.prune(0)
+                if draw.random() < 0.05:
+                    table.vacuum(draw.random() < 0.5)
+                self.compare(table)
+
+    def write(self, draw: random.Random, session: "object") -> None:
+        row = Row(draw.randrange(60), (draw.randrange(3), 0, 0, 0), bytes(draw.randrange(400)))
+        if session.get(row.key) is None:  # type: ignore[attr-defined]
+            session.insert(row)  # type: ignore[attr-defined]
+        elif draw.random() < 0.3:
+            session.delete(row.key)  # type: ignore[attr-defined]
+        else:
+            session.update(row)  # type: ignore[attr-defined]
+
+    def compare(self, table: Table) -> None:
+        for number in range(table.state().pages):
+            page = table.page_bytes(number)
+            assert page is not None
+            self.assertEqual((check_page(page), text.fault_of(page)), (None, None))
+            shown = text.shown_by(page)
+            told = [(slot.kind, slot.target, slot.xmin, slot.xmax, slot.key) for slot in table.slots(number)]
+            versions = [it.version or text.Version(0, 0, 0, 0, 0, 0, 0, (0, 0, 0, 0), b"") for it in shown.slots]
+            read = [(it.kind, it.target, its.xmin, its.xmax, its.key) for it, its in zip(shown.slots, versions)]
+            self.assertEqual(read, told)
 
 
 def main() -> None:

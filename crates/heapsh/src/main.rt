@@ -1,7 +1,7 @@
 //! The command-line shell of the heap.
 #![tactic(auto)]
 
-use script::{Command, ShellFault, USAGE, command_of, run_script};
+use script::{Command, ShellFault, USAGE, command_of, inspect_script, run_script};
 use std::env;
 use std::io::ErrorKind;
 use std::process::ExitCode;
@@ -16,12 +16,21 @@ fn fails(rt: &impl Eprint, fault: ShellFault) -> ExitCode {
     ExitCode::from(fault.status())
 }
 
-fn run(rt: &HostRuntime) -> ExitCode {
-    let (ended, _) = run_script(rt.alloc(), &mut rt.stdin(), &mut rt.stdout());
+fn ends(rt: &impl Eprint, ended: Result<(), ShellFault>) -> ExitCode {
     match ended {
         Ok(()) => ExitCode::SUCCESS,
         Err(fault) => fails(rt, fault),
     }
+}
+
+fn run(rt: &HostRuntime) -> ExitCode {
+    let (ended, _) = run_script(rt.alloc(), &mut rt.stdin(), &mut rt.stdout());
+    ends(rt, ended)
+}
+
+fn inspect(rt: &HostRuntime) -> ExitCode {
+    let (ended, _) = inspect_script(rt.alloc(), &mut rt.stdin(), &mut rt.stdout());
+    ends(rt, ended)
 }
 
 fn main(rt: HostRuntime) -> ExitCode {
@@ -35,6 +44,7 @@ fn main(rt: HostRuntime) -> ExitCode {
     let (first, second) = (words.next(), words.next());
     match command_of(first.as_deref(), second.as_deref()) {
         Command::Run => run(&rt),
+        Command::Inspect => inspect(&rt),
         Command::Usage => usage(&rt),
     }
 }

@@ -1,5 +1,5 @@
 -- Where a version stands is read off its pointer.
-use Rattle.std.proofs.Common.{◌≡◌, ℕ, ◌+◌, ◌-◌, ◌≤◌, List, length, drop, ap, ◌∙◌, refl, arith, Some, length-drop}
+use Rattle.std.proofs.Common.{◌≡◌, ℕ, ◌+◌, ◌-◌, ◌≤◌, List, length, drop, ap, sym, ◌∙◌, refl, arith, Some, length-drop}
 use Rattle.std.specs.Prelude.{IsSome}
 use Rattle.page_layout.specs.declared.pointer.Pointer.{Pointer}
 use Rattle.page_layout.specs.declared.pointer.Extent.{Extent}
@@ -19,7 +19,7 @@ stands-shown bytes i e long low good is =
     let over : upper_in bytes ≤ e.from = good.over in
     let body : length (drop 66 (part_of bytes e)) ≡ length (part_of bytes e) - 66 = length-drop 66 (part_of bytes e) in
     let whole : 66 + length (drop 66 (part_of bytes e)) ≡ e.len = omega arith in
-    record { size = ap version_length (shown bytes i (Pointer.Normal e) is) ∙ ap Some whole; within = (omega arith, good.within) }
+    record { pointer = sym is; size = ap version_length (shown bytes i (Pointer.Normal e) is) ∙ ap Some whole; within = (omega arith, good.within) }
 
 -- what has a length is a version
 pub some-by_length : (s : Slot) (n : ℕ) → version_length s ≡ Some n → IsSome (version_of s)

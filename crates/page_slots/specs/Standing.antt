@@ -1,14 +1,19 @@
 -- Where a version stands among the bytes of its page.
-use Rattle.std.specs.Prelude.{◌≡◌, ◌≤◌, ℕ, ◌+◌, List, Option, Some, None, length}
+use Rattle.std.specs.Prelude.{◌≡◌, ◌≤◌, ℕ, ◌+◌, ◌-◌, List, Option, Some, None, length}
 use Rattle.std.specs.Option.{option_map}
 use Rattle.std.specs.Int.{next_multiple_of}
 use Rattle.xid_circle.specs.Numbers.{SlotNo}
 use Rattle.tuple_header.specs.Version.{size_of}
 use Rattle.page_layout.specs.declared.pointer.Extent.{Extent}
+use Rattle.page_layout.specs.declared.pointer.Pointer.{Pointer}
+use Rattle.page_layout.specs.Layout.{pointer_in}
 use Rattle.page_layout.specs.declared.sizes.TheConstants.{PAGE_BYTES, PAGE_HEADER_BYTES}
 use Rattle.page_slots.specs.declared.slot.Slot.{Slot}
 use Rattle.page_slots.specs.Slots.{version_of, version_at}
 use Rattle.page_slots.specs.Layout.{slot_in}
+use Rattle.page_slots.specs.Faults.{AreSoundRedirects, page_fault}
+use Rattle.page_slots.specs.Reading.{page_of}
+use Rattle.page_slots.specs.View.{PageView}
 use Rattle.tuple_header.specs.Faults.{first_fault}
 use Rattle.tuple_header.specs.Layout.{decoded_version}
 
@@ -23,8 +28,17 @@ length_at slots n = option_map (λ t. size_of t.row) (version_at slots n)
 abbrev pub LiesWithin : ℕ → ℕ → Type 0
 LiesWithin from len = (PAGE_HEADER_BYTES ≤ from) × (from + next_multiple_of len 8 ≤ PAGE_BYTES)
 
+-- the slot's pointer says this place, in bytes that keep all promises of the page's own
+pub record IsPointedTo (page : PageView) (n : SlotNo) (from len : ℕ) : Type 0 where
+  pub bytes : List ℕ
+  pub shown : page_of bytes ≡ page
+  pub long : length bytes ≡ PAGE_BYTES
+  pub accepted : AreSoundRedirects page.slots → page_fault bytes ≡ None
+  pub pointer : pointer_in bytes (n - 1) ≡ Pointer.Normal (record { from = from; len = len })
+
 -- the version at an index stands there
 pub record StandsAt (bytes : List ℕ) (i : ℕ) (e : Extent) : Type 0 where
+  pub pointer : pointer_in bytes i ≡ Pointer.Normal e
   pub size : version_length (slot_in bytes i) ≡ Some e.len
   pub within : LiesWithin e.from e.len
 

@@ -8,7 +8,7 @@ ghost use Rattle.page_layout.specs.declared.sizes.TheConstants.{PAGE_BYTES};
 ghost use Rattle.page_slots.specs.Layout.{shown_by};
 ghost use Rattle.page_slots.specs.Reading.{page_of};
 ghost use Rattle.page_slots.specs.Faults.{AreSoundRedirects, page_fault};
-ghost use Rattle.page_slots.specs.Standing.{length_at, LiesWithin};
+ghost use Rattle.page_slots.specs.Standing.{length_at, LiesWithin, IsPointedTo};
 ghost use Rattle.page_layout.specs.Sound.{HoldsNoVersion};
 ghost use Rattle.page_slots.specs.View.{HasSlot};
 ghost use Rattle.page_slots.specs.Slots.{is_unused, is_dead, is_undeleted_by, redirects_to, head_of, slot_at, header_at, row_at, key_at, redirect_at, SlotIsThere, IsNormalAt, the_slot, with_slot, with_header_at, has_unused, free_number, with_added, bytes_taken, free_bytes, room_of, next_change, change_unless, differs_in_hints_alone};
@@ -193,8 +193,11 @@ impl Page {
         ensures normal { IsSome result ↔ IsNormalAt self.now.slots number }
         ensures size { IfSome result (λ place. length_at self.now.slots number ≡ Some place.1) }
         ensures within { IfSome result (λ place. LiesWithin place.0 place.1) }
+        ensures pointer { IfSome result (λ place. IsPointedTo self.now number place.0 place.1) }
     {
         let index = index_of(number)?;
+        // They keep all promises of `bytes`.
+        let _bytes = self.sheet.bytes();
         if index < self.sheet.len() {
             match self.sheet.extent(index) {
                 Some(extent) => Some((extent.from, extent.len)),

@@ -3,3 +3,4 @@ pub mod HeapRow
 pub mod Numbers
 pub mod NextLemmas
 mod ManyLemmas
+mod BytesLemmas

@@ -1,7 +1,17 @@
--- What is wrong with bytes, as C reads it.
-use Rattle.std.specs.Prelude.{ℕ, Option, Some, None}
+-- The bytes of a page, and what is wrong with bytes, as C reads them.
+use Rattle.std.specs.Prelude.{◌≡◌, ◌⊎◌, ◌<◌, ◌≤◌, ℕ, List, length, take, drop, Option, Some, None, slice_get}
+use Rattle.xid_circle.specs.Numbers.{PageNo}
+use Rattle.page_slots.specs.View.{PageView}
+use Rattle.page_slots.specs.Reading.{page_of}
+use Rattle.page_layout.specs.declared.sizes.TheConstants.{PAGE_BYTES}
 use Rattle.page_layout.specs.declared.faults.PageFault.{PageFault}
 use Rattle.page_layout.specs.declared.faults.PageFault.TheVariants.{Length, Header, Bounds, BadPointer, BadTuple, BadRedirect, Overlap}
+use Rattle.session_steps.specs.State.{State}
+use Rattle.sandpiper_c.specs.declared.database.Sandpiper.{Sandpiper}
+use Rattle.sandpiper_c.specs.declared.held.Held.{Held}
+use Rattle.sandpiper_c.specs.declared.status.CallStatus.TheVariants as status
+use Rattle.sandpiper_c.specs.CallStatus.{number_of_status}
+use Rattle.sandpiper_c.specs.Calls.{held_by}
 
 -- the number of a fault
 abbrev pub number_of_page_fault : PageFault → ℕ
@@ -31,3 +41,26 @@ number_of_finding (Some fault) = number_of_page_fault fault
 abbrev pub slot_of_finding : Option PageFault → ℕ
 slot_of_finding None = 0
 slot_of_finding (Some fault) = slot_of_page_fault fault
+
+-- the first bytes are those of the page, and those behind them are as they were
+pub record AreBytesOf (page : PageView) (old new : List ℕ) : Type 0 where
+  pub reads : page_of (take PAGE_BYTES new) ≡ page
+  pub rest : drop PAGE_BYTES new ≡ drop PAGE_BYTES old
+
+-- C's places have the bytes of the page, if there is one and they are enough, and are else as they were; the status says which
+abbrev pub ShowsBytes : Option PageView → List ℕ → ℕ → List ℕ → Type 0
+ShowsBytes None old code new = (code ≡ number_of_status status.NoRow) × (new ≡ old)
+ShowsBytes (Some page) old code new =
+    ((length old < PAGE_BYTES) × (code ≡ number_of_status status.NoPlace) × (new ≡ old))
+    ⊎ ((PAGE_BYTES ≤ length old) × (code ≡ number_of_status status.Found) × AreBytesOf page old new)
+
+-- the page of this number, counted from 0, if it is in use
+abbrev pub page_numbered : State → PageNo → Option PageView
+page_numbered st number = slice_get st.heap.pages.pages number
+
+abbrev pub page_by : Option Held → PageNo → Option PageView
+page_by None number = None
+page_by (Some held) number = page_numbered held.engine.core number
+
+abbrev pub ShowsBytesOf : Sandpiper → PageNo → List ℕ → (code : ℕ) → List ℕ → Type 0
+ShowsBytesOf table number old code new = ShowsBytes (page_by (held_by table) number) old code new

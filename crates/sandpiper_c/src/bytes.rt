@@ -1,10 +1,67 @@
-//! The check of bytes, which may come from anywhere, as those of a page.
+//! The bytes of a page, and the check of bytes that come from elsewhere.
 
-ghost use Rattle.std.specs.Prelude.{◌≡◌};
+ghost use Rattle.std.specs.Prelude.{◌≡◌, ◌≤◌, length, Some};
+ghost use Rattle.page_layout.specs.declared.sizes.TheConstants.{PAGE_BYTES as PAGE_LENGTH};
 ghost use Rattle.page_slots.specs.Faults.{page_fault};
-ghost use Rattle.sandpiper_c.specs.Bytes.{number_of_page_fault, slot_of_page_fault, number_of_finding, slot_of_finding};
+ghost use Rattle.sandpiper_c.specs.Calls.{StaysAsIs};
+ghost use Rattle.sandpiper_c.specs.Bytes.{number_of_page_fault, slot_of_page_fault, number_of_finding, slot_of_finding, page_numbered, AreBytesOf, ShowsBytes, ShowsBytesOf};
 
-use page_slots::{PageFault, check_page};
+use crate::database::Sandpiper;
+use crate::status::CallStatus;
+use page_layout::put_bytes;
+use page_slots::{PAGE_BYTES, Page, PageFault, check_page};
+use session_core::Engine;
+use std::alloc::Global;
+
+/// Writes the bytes of the page to the first of C's places, which are enough.
+fn put_page(page: &Page, bytes: &mut [u8])
+    requires { PAGE_LENGTH ≤ length bytes.old }
+    ensures { AreBytesOf page.now bytes.old bytes.new }
+{
+    put_bytes(bytes, 0, page.bytes());
+}
+
+/// The same, if they are enough.
+fn put_page_if_enough(page: &Page, bytes: &mut [u8]) -> u32
+    ensures { ShowsBytes (Some page.now) bytes.old result bytes.new }
+{
+    if bytes.len() < PAGE_BYTES {
+        return CallStatus::NoPlace.number();
+    }
+    put_page(page, bytes);
+    CallStatus::Found.number()
+}
+
+/// Writes the bytes of the page of this number, if it is in use.
+fn put_page_of(engine: &Engine, number: u32, bytes: &mut [u8]) -> u32
+    ensures { ShowsBytes (page_numbered engine.now.core number) bytes.old result bytes.new }
+{
+    match engine.page(number) {
+        Some(page) => put_page_if_enough(page, bytes),
+        None => CallStatus::NoRow.number(),
+    }
+}
+
+/// Writes the 8192 bytes of the page of this number, counted from 0, to the first of C's own, if the page is in use.
+#[unsafe(no_mangle)]
+pub extern "C" fn sandpiper_page_bytes(
+    alloc: Global,
+    table: &mut Sandpiper,
+    page: u32,
+    bytes: &mut [u8],
+) -> u32
+    ensures stays { StaysAsIs table.old table.new }
+    ensures bytes { ShowsBytesOf table.old page bytes.old result bytes.new }
+{
+    match table.take(alloc) {
+        Some(held) => {
+            let code = put_page_of(&held.engine, page, bytes);
+            table.put(held);
+            code
+        }
+        None => CallStatus::NoRow.number(),
+    }
+}
 
 /// The number of a fault.
 fn number_of(fault: PageFault) -> u32

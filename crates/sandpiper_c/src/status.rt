@@ -34,7 +34,7 @@ pub enum CallStatus {
     NoEngine,
     /// The handle has an engine already.
     HasEngine,
-    /// There is no place for a row.
+    /// There is no place for a row, or for a page.
     NoPlace,
     /// The setting `max_pages` is out of its range.
     BadMaxPages,

@@ -17,12 +17,12 @@ use Rattle.script.specs.Next.{IsNext}
 use Rattle.script.specs.declared.run.Next.{Next}
 use Rattle.script.specs.declared.run.Next.TheVariants.{Line, Bad, End}
 use Rattle.script.specs.declared.fault.ShellFault.{ShellFault}
-use Rattle.script.specs.declared.fault.ShellFault.TheVariants.{BadLine, Input, Output, NoMemory, TooManyLines}
+use Rattle.script.specs.declared.fault.ShellFault.TheVariants.{BadLine, BadPage, Input, Output, NoMemory, TooManyLines}
 use Rattle.script.proofs.PiecesLemmas.{Appends-Appends}
 use Rattle.script_text.proofs.HeadingLaws.{heading_once, settings_fit, Free-heading}
 use Rattle.script.proofs.RunLemmas.{Leads-run, Uses-refl, Uses-Takes, Uses-prefix, Uses-known, no_text, text_is, position-split}
 
-first_known : (before now : Option (List ℕ)) (old p : List ℕ) → old ≡ [] → TakesText before now old p → IfSome before (λ input. (rest : List ℕ) × (now ≡ Some rest) × (input ≡ p ++ rest))
+pub first_known : (before now : Option (List ℕ)) (old p : List ℕ) → old ≡ [] → TakesText before now old p → IfSome before (λ input. (rest : List ℕ) × (now ≡ Some rest) × (input ≡ p ++ rest))
 first_known before now old p none t =
     IfSome_then before (Uses-known before now old [] p (Uses-Takes before before now old [] old p (Uses-refl before old) t))
     (λ input k. (k.0, k.1, sym (ap (λ r. r ++ input) none) ∙ k.2))
@@ -91,6 +91,7 @@ outcome_is s from input bytes w0 w1 w2 (Err (BadLine n)) fits columns new q e h 
       h.ends.0,
       nothing_first w0 w1 w2 (answers_of h.events) q h.ends.2,
     )
+outcome_is s from input bytes w0 w1 w2 (Err (BadPage fault)) fits columns new q e h = absurd h.ends
 outcome_is s from input bytes w0 w1 w2 (Err Input) fits columns new q e h =
     inr (
       s,
@@ -137,6 +138,7 @@ outcome_from before now p text from s w0 w1 w2 r u fits columns q new none h =
 -- a refusal says nothing of the first line
 pub no_heading : (e : ShellFault) (log : Refusals) (input : Option (List ℕ)) → IsRefused e log → MatchesHeading e input
 no_heading (BadLine n) log input f = absurd f
+no_heading (BadPage fault) log input f = absurd f
 no_heading Input log input f = tt
 no_heading Output log input f = tt
 no_heading NoMemory log input f = tt
@@ -146,6 +148,7 @@ no_heading TooManyLines log input f = absurd f
 pub outcome_of_none : (e : ShellFault) (input w0 w1 : Option (List ℕ)) → MatchesHeading e input → Appends w0 w1 [] → IfSome input (λ bytes. ScriptOutcome (Err e) bytes w0 w1)
 outcome_of_none e None w0 w1 h quiet = tt
 outcome_of_none (BadLine n) (Some bytes) w0 w1 h quiet = inl (h.0, quiet, h.1)
+outcome_of_none (BadPage fault) (Some bytes) w0 w1 h quiet = absurd h
 outcome_of_none Input (Some bytes) w0 w1 h quiet = inl quiet
 outcome_of_none Output (Some bytes) w0 w1 h quiet = inl quiet
 outcome_of_none NoMemory (Some bytes) w0 w1 h quiet = inl quiet

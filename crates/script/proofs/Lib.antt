@@ -2,3 +2,4 @@ pub mod PiecesLemmas
 pub mod RunLemmas
 pub mod FinishLemmas
 pub mod FirstLemmas
+pub mod InspectLemmas

@@ -16,7 +16,7 @@ use Rattle.calls.specs.declared.reply.Reply.{Reply}
 use Rattle.session_core.proofs.Running.{Leads-run as Replies-run}
 use Rattle.script_text.specs.declared.line.Line.{Line}
 use Rattle.script.specs.declared.fault.ShellFault.{ShellFault}
-use Rattle.script.specs.declared.fault.ShellFault.TheVariants.{BadLine, Input, Output, NoMemory, TooManyLines}
+use Rattle.script.specs.declared.fault.ShellFault.TheVariants.{BadLine, BadPage, Input, Output, NoMemory, TooManyLines}
 use Rattle.script_text.proofs.ByteLemmas.{place, Free, place-free, place-append_found, place-append_past, place-split, position_found, position_none}
 use Rattle.script_text.proofs.GrammarLaws.{Free-spelling}
 use Rattle.std.proofs.lemmas.Option.{IfSome_then}
@@ -179,6 +179,7 @@ bad_from_line p rest n at h =
 
 ends_fault : (e : ShellFault) (log : Refusals) → IsRefused e log → (k : ℕ) (left : List ℕ) (before after : Option (List ℕ)) (text : List ℕ) → WritesBeginning before after text → EndsLines (Err e) k left before after text
 ends_fault (BadLine n) log f k left before after text b = absurd f
+ends_fault (BadPage fault) log f k left before after text b = absurd f
 ends_fault Input log f k left before after text b = b
 ends_fault Output log f k left before after text b = b
 ends_fault NoMemory log f k left before after text b = b
@@ -187,6 +188,7 @@ ends_fault TooManyLines log f k left before after text b = absurd f
 -- a refusal causes its fault
 pub caused_by : (e : ShellFault) (log : Refusals) → IsRefused e log → IsCaused e log
 caused_by (BadLine n) log f = absurd f
+caused_by (BadPage fault) log f = absurd f
 caused_by Input log f = f
 caused_by Output log f = f
 caused_by NoMemory log f = f

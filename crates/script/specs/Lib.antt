@@ -5,3 +5,4 @@ pub mod Pieces
 pub mod Script
 pub mod Next
 pub mod Steps
+pub mod Inspected

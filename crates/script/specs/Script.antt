@@ -18,7 +18,7 @@ use Rattle.script_text.specs.Answers.{reply_text, ids_text, Shown, shown_text, i
 use Rattle.script_text.specs.declared.line.Line.{Line}
 use Rattle.script_text.specs.declared.line.Line.TheVariants.{Do, VacuumFinish, Ids, Page, Entries}
 use Rattle.script.specs.declared.fault.ShellFault.{ShellFault}
-use Rattle.script.specs.declared.fault.ShellFault.TheVariants.{BadLine, TooManyLines}
+use Rattle.script.specs.declared.fault.ShellFault.TheVariants.{BadLine, BadPage, TooManyLines}
 use Rattle.script_text.specs.declared.line.TheConstants.{MOST_LINE_BYTES}
 
 -- A line that was read and answered: a step with its reply; steps that finish a vacuum, with what
@@ -134,13 +134,14 @@ WritesBeginning before after text = (left : List ℕ) × GivesText before after 
 
 -- what a script's result says of its input and of what was written: without a fault all lines were read and answered; after bad
 -- line n those before it were, and it is the first that isn't allowed; where the numbers of lines ran out, all lines with a number
--- were read; after another fault a beginning of the answers was written
+-- were read; no page is read, so none is bad; after another fault a beginning of the answers was written
 abbrev pub ScriptOutcome : Result (Unit {0}) ShellFault → List ℕ → Option (List ℕ) → Option (List ℕ) → Type 0
 ScriptOutcome (Ok u) input before after = (settings : Settings) × (events : List Event)
     × IsScriptRun settings events × (input ≡ script settings events) × Appends before after (answers_of events)
 ScriptOutcome (Err (BadLine n)) input before after = ((n ≡ 1) × Appends before after [] × IsBadHeading input)
     ⊎ ((settings : Settings) × (events : List Event) × (rest : List ℕ) × IsScriptRun settings events
     × (input ≡ script settings events ++ rest) × IsBadLine rest × (n ≡ length events + 2) × Appends before after (answers_of events))
+ScriptOutcome (Err (BadPage fault)) input before after = ⊥
 ScriptOutcome (Err TooManyLines) input before after = (settings : Settings) × (events : List Event) × (rest : List ℕ) × IsScriptRun settings events
     × (input ≡ script settings events ++ rest) × (length events + 2 ≡ 18446744073709551615) × WritesBeginning before after (answers_of events)
 ScriptOutcome (Err fault) input before after = Appends before after []

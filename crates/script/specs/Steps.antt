@@ -6,7 +6,7 @@ use Rattle.script.specs.Engine.{EngineView}
 use Rattle.script_text.specs.Grammar.{IsAllowed, LineFits, spelling, with_feed}
 use Rattle.script.specs.Script.{Event, line_of, answer_of, lines_of, answers_of, Moves, EventsLead, IsBadLine, IsBadHeading, WritesBeginning}
 use Rattle.script.specs.declared.fault.ShellFault.{ShellFault}
-use Rattle.script.specs.declared.fault.ShellFault.TheVariants.{BadLine, TooManyLines}
+use Rattle.script.specs.declared.fault.ShellFault.TheVariants.{BadLine, BadPage, TooManyLines}
 
 -- what a line asks for was done, and its answer is added
 abbrev pub DoesLine : List ℕ → EngineView → EngineView → List ℕ → List ℕ → Type 0
@@ -16,6 +16,7 @@ DoesLine text from to old new = (e : Event) × LineFits (line_of e) × (text ≡
 abbrev pub EndsLines : Result (Unit {0}) ShellFault → ℕ → List ℕ → Option (List ℕ) → Option (List ℕ) → List ℕ → Type 0
 EndsLines (Ok u) lines left before after text = (left ≡ []) × Appends before after text
 EndsLines (Err (BadLine n)) lines left before after text = (n ≡ lines + 2) × IsBadLine left × Appends before after text
+EndsLines (Err (BadPage fault)) lines left before after text = ⊥
 EndsLines (Err TooManyLines) lines left before after text = (lines + 2 ≡ 18446744073709551615) × WritesBeginning before after text
 EndsLines (Err fault) lines left before after text = WritesBeginning before after text
 
@@ -40,5 +41,6 @@ Uses before after old used new = (more : List ℕ) × Consumes before after more
 -- why there is no engine: the first line is bad, or a fault came
 abbrev pub MatchesHeading : ShellFault → Option (List ℕ) → Type 0
 MatchesHeading (BadLine n) input = (n ≡ 1) × IfSome input (λ bytes. IsBadHeading bytes)
+MatchesHeading (BadPage fault) input = ⊥
 MatchesHeading TooManyLines input = ⊥
 MatchesHeading fault input = Unit {0}

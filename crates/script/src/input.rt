@@ -2,12 +2,13 @@
 
 ghost use Rattle.std.specs.Prelude.{◌≡◌, ◌+◌, ◌-◌, ◌<◌, ◌≤◌, ◌==◌, [], length, take, drop, position, Ok, IfOk, IfSome, OnErr, IfErr};
 ghost use Rattle.std.specs.Io.KnownBytes.{Keeps, Consumes, IsAtEnd};
+ghost use Rattle.page_layout.specs.declared.sizes.TheConstants.{PAGE_BYTES};
 ghost use Rattle.script.specs.Pieces.{TakesText};
 ghost use Rattle.script.specs.Refusals.{IsRefused};
 
 use crate::fault::ShellFault;
 use crate::io_log::{IoLog, is_interruption};
-use script_text::{MOST_LINE_BYTES, RefusedGrowth, buffer};
+use script_text::{RefusedGrowth, buffer};
 use std::alloc::Global;
 use std::io::Read;
 use std::marker::Model;
@@ -103,7 +104,7 @@ impl Pending {
         log: &mut IoLog<R, W>,
         reader: &mut R,
     ) -> Result<usize, ShellFault>
-        requires { length self.old ≤ MOST_LINE_BYTES }
+        requires { length self.old ≤ PAGE_BYTES }
         ensures takes { TakesText (R.remaining reader.old)
             (R.remaining reader.new) self.old self.new }
         ensures grows { IfOk result (λ n. length self.new ≡ length self.old + n) }

@@ -7,3 +7,4 @@ pub mod GrammarLaws
 pub mod HeadingLaws
 pub mod TellingLemmas
 pub mod EntryLemmas
+pub mod PageLemmas

@@ -1,3 +1,4 @@
 pub mod Grammar
 pub mod Answers
+pub mod Inspected
 pub mod Reading

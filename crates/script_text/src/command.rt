@@ -8,6 +8,8 @@ ghost use Rattle.std.specs.Option.{option_map};
 pub enum Command {
     /// To run the script on standard input.
     Run,
+    /// To look into the bytes of a page on standard input.
+    Inspect,
     /// To say how it is called.
     Usage,
 }
@@ -15,15 +17,20 @@ pub enum Command {
 /// How the program is called.
 pub const USAGE: &str = "usage: heapsh run|threads|inspect";
 
-/// What the first two words ask for: a script is run where `run` is the only word.
+/// What the first two words ask for: a script is run where `run` is the only word, and a page looked into where `inspect` is.
 pub fn command_of(first: Option<&str>, second: Option<&str>) -> Command
-    ensures { result ≡ Command.Run
+    ensures run { result ≡ Command.Run
         ↔
         ((option_map (λ word. word.now) first.entry ≡ Some (codes "run"))
+        × (option_map (λ word. word.now) second.entry ≡ None)) }
+    ensures inspect { result ≡ Command.Inspect
+        ↔
+        ((option_map (λ word. word.now) first.entry ≡ Some (codes "inspect"))
         × (option_map (λ word. word.now) second.entry ≡ None)) }
 {
     match (first, second) {
         (Some(word), None) if word == "run" => Command::Run,
+        (Some(word), None) if word == "inspect" => Command::Inspect,
         _ => Command::Usage,
     }
 }

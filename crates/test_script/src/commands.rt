@@ -4,7 +4,7 @@ use crate::runs::none_wrong;
 use script::{Command, USAGE, command_of};
 use std::test::Fail;
 
-static COMMANDS: [(Option<&str>, Option<&str>, Command); 12] = [
+static COMMANDS: [(Option<&str>, Option<&str>, Command); 13] = [
     (Some("run"), None, Command::Run),
     (None, None, Command::Usage),
     (Some(""), None, Command::Usage),
@@ -13,10 +13,11 @@ static COMMANDS: [(Option<&str>, Option<&str>, Command); 12] = [
     (Some("Run"), None, Command::Usage),
     (Some(" run"), None, Command::Usage),
     (Some("threads"), None, Command::Usage),
-    (Some("inspect"), None, Command::Usage),
+    (Some("inspect"), None, Command::Inspect),
     (Some("run"), Some("run"), Command::Usage),
     (Some("run"), Some(""), Command::Usage),
     (Some("inspect"), Some("run"), Command::Usage),
+    (Some("inspects"), None, Command::Usage),
 ];
 
 // The place of the first words that ask for something else.

@@ -3,7 +3,7 @@
 use crate::runs::none_wrong;
 use commit_status::GiveFault;
 use heap_write::{PruneFault, WriteFault};
-use page_slots::AddFault;
+use page_slots::{AddFault, PageFault};
 use script::ShellFault;
 use session_core::{RunFault, SettingsFault};
 use std::alloc::{AllocError, Global};
@@ -70,15 +70,34 @@ static RUN_FAULTS: [(RunFault, &str); 2] = [
     (RunFault::NoMemory, "there is no memory"),
 ];
 
-static SHELL_FAULTS: [(ShellFault, &str); 5] = [
+static SHELL_FAULTS: [(ShellFault, &str); 12] = [
     (ShellFault::BadLine(7), "bad line 7"),
+    (ShellFault::BadPage(PageFault::Length), "bad page Length"),
+    (ShellFault::BadPage(PageFault::Header), "bad page Header"),
+    (ShellFault::BadPage(PageFault::Bounds), "bad page Bounds"),
+    (
+        ShellFault::BadPage(PageFault::BadPointer(1)),
+        "bad page BadPointer 1",
+    ),
+    (
+        ShellFault::BadPage(PageFault::BadTuple(291)),
+        "bad page BadTuple 291",
+    ),
+    (
+        ShellFault::BadPage(PageFault::BadRedirect(1)),
+        "bad page BadRedirect 1",
+    ),
+    (
+        ShellFault::BadPage(PageFault::Overlap(2)),
+        "bad page Overlap 2",
+    ),
     (ShellFault::Input, "input fault"),
     (ShellFault::Output, "output fault"),
     (ShellFault::NoMemory, "no memory"),
     (ShellFault::TooManyLines, "too many lines"),
 ];
 
-static STATUSES: [u8; 5] = [1, 2, 2, 3, 3];
+static STATUSES: [u8; 12] = [1, 1, 1, 1, 1, 1, 1, 1, 2, 2, 3, 3];
 
 // The place of the first fault that has other words.
 fn first_wrong<T: Display>(

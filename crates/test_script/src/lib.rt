@@ -16,6 +16,8 @@ mod headings;
 #[cfg(test)]
 mod lines;
 #[cfg(test)]
+mod pages;
+#[cfg(test)]
 mod prompts;
 #[cfg(test)]
 mod runs;
