@@ -21,7 +21,7 @@ pub returns : goal.returns
 returns g c =
     let pages = c.self.inside.pages.items in
     let n = c.args.number in
-    let was = c.index_mut-page.result.now in
+    let was = c.index_mut-own.result.now in
     let within : n < length pages = omega (arith, c.requires.within, ap (λ (p : PagesView). length p.pages) c.self.view_is) in
-    let at : slice_get c.args.self.now.pages n ≡ Some was = ap (λ (p : PagesView). slice_get p.pages n) (sym c.self.view_is) ∙ read_at pages n was within c.index_mut-page.ensures.value in
+    let at : slice_get c.args.self.now.pages n ≡ Some was = ap (λ (p : PagesView). slice_get p.pages n) (sym c.self.view_is) ∙ read_at pages n was within c.index_mut-own.ensures.value in
     record { edits = (was, c.change-result.new.arg2, at, record { shown = _; shows = refl; left = _; met = c.change-result.ensures; leaves = refl }, ap (λ (p : PagesView). with_page p n c.change-result.new.arg2) c.self.view_is) }
