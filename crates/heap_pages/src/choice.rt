@@ -6,6 +6,7 @@ ghost use Rattle.heap_pages.specs.Choice.{free_byte_of, HasRoom, FindsFirstPage}
 ghost use Rattle.heap_pages.specs.View.{free_space_bytes};
 ghost use Rattle.heap_pages.specs.declared.pages.TheConstants.{MOST_PAGES};
 
+use crate::own_page::OwnPage;
 use page_slots::Page;
 use space_maps::FreeMap;
 
@@ -25,7 +26,7 @@ fn has_room(page: &Page, size: usize) -> bool
 
 /// The first page in which a version of this size fits, if there is one. A page is looked at only where its byte in the map
 /// is large enough.
-pub(crate) fn first_with_room(pages: &[Page], map: &FreeMap, size: usize) -> Option<u32>
+pub(crate) fn first_with_room(pages: &[OwnPage], map: &FreeMap, size: usize) -> Option<u32>
     requires few { length pages.now ≤ MOST_PAGES }
     requires bytes { map.now.bytes ≡ free_space_bytes pages.now }
     ensures { FindsFirstPage pages.now (HasRoom size) result }
@@ -33,7 +34,7 @@ pub(crate) fn first_with_room(pages: &[Page], map: &FreeMap, size: usize) -> Opt
     let least = (size / 32).min(255) as u8;
     let mut from = 0;
     while let Some(number) = map.next(from, least) {
-        if has_room(&pages[number as usize], size) {
+        if has_room(pages[number as usize].page(), size) {
             return Some(number);
         }
         from = number + 1;

@@ -7,6 +7,7 @@ ghost use Rattle.heap_pages.specs.View.{free_space_bytes, Edits, NotesMark, Writ
 ghost use Rattle.heap_pages.specs.Choice.{Promises, HasRoom, FindsFirstPage, IsPlaceFor};
 
 use crate::choice::{first_with_room, free_byte};
+use crate::own_page::OwnPage;
 use page_slots::Page;
 use space_maps::{FreeMap, Mark, VisibilityMap};
 use std::alloc::{AllocError, Global};
@@ -34,7 +35,7 @@ pub enum Placement {
 /// to that, which first takes back what the visibility map says of the page.
 #[derive(Debug, Drop)]
 pub struct Pages {
-    pages: Vec<Page>,
+    pages: Vec<OwnPage>,
     free: FreeMap,
     marks: VisibilityMap,
     // how many pages can be added without memory, here and in the maps
@@ -79,7 +80,10 @@ impl Pages {
     pub fn page(&self, number: u32) -> Option<&Page>
         ensures { option_copied result ≡ slice_get self.now.pages number }
     {
-        self.pages.get(number as usize)
+        match self.pages.get(number as usize) {
+            Some(own) => Some(own.page()),
+            None => None,
+        }
     }
 
     /// The free-space byte of the page of this number, if it is in use: how many times its room holds 32 bytes, at most 255.
@@ -97,9 +101,9 @@ impl Pages {
             → FnOnceTakesAtMut F.FnOnce change page }
         ensures edits { Edits F.FnOnce change self.old self.new number result }
     {
-        let page = &mut self.pages[number as usize];
-        let result = change(page);
-        self.free.note(number, free_byte(page));
+        let own = &mut self.pages[number as usize];
+        let result = own.edit(change);
+        self.free.note(number, free_byte(own.page()));
         result
     }
 
@@ -113,8 +117,8 @@ impl Pages {
     {
         let target = &mut self.pages[number as usize];
         target.set_flag(false);
-        let result = change(target);
-        self.free.note(number, free_byte(target));
+        let result = target.edit(change);
+        self.free.note(number, free_byte(target.page()));
         self.marks.note(number, Mark::Nothing);
         result
     }
@@ -136,17 +140,18 @@ impl Pages {
         Ok(())
     }
 
-    /// Adds a page after all others. There is room for it in memory, and fewer than 65536 pages are in use.
-    pub fn push_page(&mut self, page: Page)
+    /// Adds a page after all others. There is room for it in the table's memory, and fewer than 65536 pages are in use.
+    pub fn push_page(&mut self, page: Box<Page>)
         requires room { 0 < self.old.spare }
         requires few { length self.old.pages < MOST_PAGES }
-        ensures pages { self.new.pages ≡ self.old.pages ++ page ∷ [] }
+        ensures pages { self.new.pages ≡ self.old.pages ++ page.value ∷ [] }
         ensures marks { self.new.marks ≡ self.old.marks ++ Mark.Nothing ∷ [] }
         ensures spare { self.old.spare ≡ self.new.spare + 1 }
     {
-        self.free.add_page(free_byte(&page));
+        let own = OwnPage::of(page);
+        self.free.add_page(free_byte(own.page()));
         self.marks.add_page();
-        self.pages.push_reserved(page);
+        self.pages.push_reserved(own);
         self.spare -= 1;
     }
 

@@ -1,7 +1,6 @@
 -- What is known of the pages stays true.
-use Rattle.std.proofs.Common.{◌≡◌, ◌≢◌, ℕ, ◌+◌, ◌≤◌, min, Bool, false, ⊎_elim, List, [], ◌∷◌, ◌++◌, length, map, set, get_or, Option, Some, None, sym, ap, subst, refl, ◌∙◌, arith}
+use Rattle.std.proofs.Common.{◌≡◌, ◌≢◌, ℕ, ◌+◌, ◌≤◌, min, Bool, false, ⊎_elim, List, [], ◌∷◌, ◌++◌, length, set, Option, Some, None, sym, ap, subst, refl, ◌∙◌, arith}
 use Rattle.std.proofs.Math.Nat.{min-le_left, min-le_right}
-use Rattle.std.proofs.Math.ListN.{get_or-map}
 use Rattle.std.proofs.Math.Seq.{get_or-append_seam}
 use Rattle.std.proofs.lemmas.Bool.{cases_lt, cases_eq}
 use Rattle.std.proofs.lemmas.Option.{same_Some, none-some, slice_get_within, get_or_from_slice_get}
@@ -10,7 +9,6 @@ use Rattle.std.specs.Prelude.{slice_get}
 use Rattle.xid_circle.specs.declared.Tid.{Tid}
 use Rattle.tuple_header.specs.declared.version.Row.{Row}
 use Rattle.tuple_writes.specs.Writes.{with_root, with_updated}
-use Rattle.page_slots.specs.declared.slot.Slot.{Slot}
 use Rattle.page_slots.specs.View.{PageView}
 use Rattle.page_slots.specs.Slots.{IsNormalAt}
 use Rattle.commit_status.specs.declared.status.Status.{Status}
@@ -52,16 +50,11 @@ pub hints-finished : (w v : Window) (ids : List ℕ) (status : Status) (pages : 
 hints-finished w v ids status pages hints live f =
     hints-on w v pages pages hints hints (λ turn reached. ages-finished w v ids status turn live f) (λ n. refl) (λ n. refl)
 
-slots-same : (pages pages' : List PageView) (n : ℕ) → map (λ (p : PageView). p.slots) pages' ≡ map (λ (p : PageView). p.slots) pages → (page_in pages' n).slots ≡ (page_in pages n).slots
-slots-same pages pages' n same =
-    let f : PageView → List Slot = λ p. p.slots in
-    sym (get_or-map f pages' n unused_page) ∙ ap (λ slots. get_or slots n []) same ∙ get_or-map f pages n unused_page
-
 -- there is more memory
 pub hints-grown : (w v : Window) (pages pages' : PagesView) (hints hints' : List (Option ℕ)) → SameIds w v → SamePages pages pages' → hints' ≡ hints
     → AreTrueHints w pages.pages hints → AreTrueHints v pages'.pages hints'
 hints-grown w v pages pages' hints hints' ids same kept =
-    hints-on w v pages.pages pages'.pages hints hints' (λ turn reached. ages-same w v turn ids) (λ n. slots-same pages.pages pages'.pages n same.slots)
+    hints-on w v pages.pages pages'.pages hints hints' (λ turn reached. ages-same w v turn ids) (λ n. ap (λ (ps : List PageView). (page_in ps n).slots) same.pages)
     (λ n. ap (λ (hs : List (Option ℕ)). turn_on hs n) kept)
 
 -- the ids alone have more

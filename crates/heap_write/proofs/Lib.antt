@@ -1,7 +1,6 @@
 pub mod PageLemmas
 pub mod IdLemmas
 pub mod PlaceLemmas
-pub mod SlotMemory
 pub mod Reserving
 pub mod KeyLemmas
 pub mod Writing

@@ -1,24 +1,20 @@
 -- The pages of a table by their numbers, and what keeps them.
-use Rattle.std.proofs.Common.{◌≡◌, ◌≢◌, ℕ, zero, suc, ◌<◌, ◌≤◌, inl, inr, List, [], ◌∷◌, length, set, Some, None, slice_get, sym, ap, subst, refl, ◌∙◌, arith}
+use Rattle.std.proofs.Common.{◌≡◌, ◌≢◌, ℕ, zero, suc, ◌<◌, inl, inr, List, [], length, map, set, Some, None, slice_get, sym, ap, subst, refl, ◌∙◌}
 use Rattle.std.proofs.lemmas.Bool.{cases_lt, true≢false}
 use Rattle.std.proofs.lemmas.Option.{slice_get-get_or, slice_get_within, get_or_from_slice_get, same_Some}
-use Rattle.std.proofs.lemmas.List.{get_or_past, get_or-set_same, get_or-set_other, set-get_or, set-set, length-set}
-use Rattle.std.proofs.Math.Seq.{map-set_same}
+use Rattle.std.proofs.lemmas.List.{get_or_past, get_or-set_same, get_or-set_other, set-get_or}
 use Rattle.xid_circle.specs.declared.Tid.{Tid}
 use Rattle.page_slots.specs.View.{PageView}
-use Rattle.space_maps.specs.declared.mark.Mark.TheVariants.{Nothing}
 use Rattle.heap_pages.specs.View.{PagesView, with_page}
-use Rattle.page_slots.specs.declared.slot.Slot.{Slot}
 use Rattle.page_slots.specs.Slots.{IsNormalAt, row_at, room_of}
 use Rattle.table_indexes.specs.Indexes.{SameEntries}
 use Rattle.table_indexes.proofs.Columns.{entries-then}
 use Rattle.table_indexes.proofs.IndexLemmas.{same-entries}
-use Rattle.heap_write.specs.Heap.{HeapView, unused_page, SameIds, Keeps, PutsPage}
-use Rattle.heap_write.specs.Heap.PutsPage.{in_use, after_all}
+use Rattle.heap_write.specs.Heap.{HeapView, unused_page, slots_of, SameIds, Keeps}
 use Rattle.tuple_header.specs.declared.version.Row.{Row}
 use Rattle.heap_write.specs.Writes.{KeepsValues}
 use Rattle.heap_write.specs.Refusals.{VersionIsThere}
-use Rattle.heap_write.specs.Growth.{page_in, SamePage, SamePages}
+use Rattle.heap_write.specs.Growth.{page_in, SamePages}
 
 -- The page of a number.
 
@@ -42,10 +38,6 @@ nothing-at (suc i) h = true≢false (sym h)
 pub nothing-there : (h : HeapView) (place : Tid) → slice_get h.pages.pages place.page ≡ None → ¬ VersionIsThere h place
 nothing-there h place none there =
     nothing-at place.slot (subst (λ (p : PageView). IsNormalAt p.slots place.slot) (page-none h.pages.pages place.page none) there)
-
-pub no-version : (slots : List Slot) (slot : ℕ) → length slots ≡ 0 → ¬ IsNormalAt slots slot
-no-version [] slot none = nothing-at slot
-no-version (first ∷ rest) slot none = absurd (omega (arith, none))
 
 no-row : (slot : ℕ) (old : Row) → row_at [] slot ≢ Some old
 no-row zero old = λ e. cc
@@ -71,50 +63,34 @@ room-none pages n none = ap (λ (p : PageView). room_of p.slots) (page-none page
 -- Pages that have the same in them.
 
 pub same-pages : (pages : PagesView) → SamePages pages pages
-same-pages pages = record { slots = refl; changes = refl; flags = refl; marks = refl }
-
-pub same-set : (pages : PagesView) (n : ℕ) (page : PageView) → SamePage (page_in pages.pages n) page → SamePages pages (with_page pages n page)
-same-set pages n page same = record {
-  slots = map-set_same (λ (p : PageView). p.slots) pages.pages n page unused_page same.slots;
-  changes = map-set_same (λ (p : PageView). p.change) pages.pages n page unused_page same.change;
-  flags = map-set_same (λ (p : PageView). p.flag) pages.pages n page unused_page same.flag;
-  marks = refl;
-}
-
-pub same-then : (a b c : PagesView) → SamePages a b → SamePages b c → SamePages a c
-same-then a b c first second = record {
-  slots = second.slots ∙ first.slots;
-  changes = second.changes ∙ first.changes;
-  flags = second.flags ∙ first.flags;
-  marks = second.marks ∙ first.marks;
-}
+same-pages pages = record { pages = refl; marks = refl }
 
 pub keeps : (h h' : HeapView) → SamePages h.pages h'.pages → SameIds h.statuses h'.statuses → SameEntries h.indexes h'.indexes → h'.max_pages ≡ h.max_pages → Keeps h h'
 keeps h h' same ids entries max_pages = record {
-  slots = same.slots;
-  changes = same.changes;
-  flags = same.flags;
+  pages = same.pages;
   marks = same.marks;
   statuses = ids;
   entries = entries;
   max_pages = max_pages;
 }
 
+-- the slots of all pages
+pub slots-kept : (h h' : HeapView) → Keeps h h' → slots_of h' ≡ slots_of h
+slots-kept h h' same = ap (λ (pages : List PageView). map (λ (page : PageView). page.slots) pages) same.pages
+
 pub keeps-all : (h : HeapView) → Keeps h h
 keeps-all h = keeps h h (same-pages h.pages) (record { first = refl; stop_age = refl; entries = refl }) (same-entries h.indexes h.indexes refl) refl
 
 pub keeps-then : (h h1 h2 : HeapView) → Keeps h h1 → Keeps h1 h2 → Keeps h h2
 keeps-then h h1 h2 first second = record {
-  slots = second.slots ∙ first.slots;
-  changes = second.changes ∙ first.changes;
-  flags = second.flags ∙ first.flags;
+  pages = second.pages ∙ first.pages;
   marks = second.marks ∙ first.marks;
   statuses = record { first = second.statuses.first ∙ first.statuses.first; stop_age = second.statuses.stop_age ∙ first.statuses.stop_age; entries = second.statuses.entries ∙ first.statuses.entries };
   entries = entries-then h.indexes h1.indexes h2.indexes first.entries second.entries;
   max_pages = second.max_pages ∙ first.max_pages;
 }
 
--- A page in the place of another, twice.
+-- A page in the place of another.
 
 pub page-set : (pages : List PageView) (n : ℕ) (page : PageView) → n < length pages → page_in (set pages n page) n ≡ page
 page-set pages n page within = get_or-set_same pages n page unused_page within
@@ -122,14 +98,7 @@ page-set pages n page within = get_or-set_same pages n page unused_page within
 pub page-set_other : (pages : List PageView) (n m : ℕ) (page : PageView) → m ≢ n → page_in (set pages n page) m ≡ page_in pages m
 page-set_other pages n m page other = get_or-set_other pages n m page unused_page other
 
-pub puts-grown : (pages middle pages' : PagesView) (n : ℕ) (grown page : PageView) → n < length pages.pages → middle.pages ≡ set pages.pages n grown → middle.marks ≡ pages.marks
-    → PutsPage middle pages' n page → PutsPage pages pages' n page
-puts-grown pages middle pages' n grown page within is marks (in_use lt e m) =
-    in_use within (e ∙ ap (λ ps. set ps n page) is ∙ set-set pages.pages n grown page) (m ∙ ap (λ ms. set ms n Nothing) marks)
-puts-grown pages middle pages' n grown page within is marks (after_all over e m) =
-    absurd (let long : length middle.pages ≡ length pages.pages = ap length is ∙ length-set pages.pages n grown in let no : 1 ≤ 0 = omega (arith, within, over, long) in omega (arith, no))
-
--- the same, of a table whose view is known
+-- all is as it was on a table whose view is known
 pub keeps-viewed : (v h h' : HeapView) → v ≡ h → SamePages v.pages h'.pages → SameIds v.statuses h'.statuses → SameEntries v.indexes h'.indexes → h'.max_pages ≡ v.max_pages → Keeps h h'
 keeps-viewed v h h' view_is same ids entries max_pages = subst (λ u. Keeps u h') view_is (keeps v h' same ids entries max_pages)
 

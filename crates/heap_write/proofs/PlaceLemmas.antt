@@ -29,12 +29,6 @@ byte-le size room promised = let e = min-le_left (room / 32) 255 in grind (arith
 promised-room : (size : ℕ) (p : PageView) → Promises size p → HasRoom size p
 promised-room size p promised = byte-le size (room_of p.slots) promised
 
-pub alike-same : (size : ℕ) (p q : PageView) → q.slots ≡ p.slots → Alike size p q
-alike-same size p q same = record {
-  room = subst (λ slots. HasRoom size p ↔ (size ≤ room_of slots)) (sym same) (λ h. h, λ h. h);
-  byte = subst (λ slots. Promises size p ↔ (size ≤ 32 * free_byte_of (room_of slots))) (sym same) (λ h. h, λ h. h);
-}
-
 pub alike-full : (size : ℕ) (p q : PageView) → ¬ HasRoom size p → ¬ HasRoom size q → Alike size p q
 alike-full size p q no_before no_after = record {
   room = (λ h. absurd (no_before h), λ h. absurd (no_after h));

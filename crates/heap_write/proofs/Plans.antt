@@ -1,5 +1,5 @@
 -- The plan of a page's pruning: it stays one when there is more memory, and the page is pruned once it is applied.
-use Rattle.std.proofs.Common.{◌≡◌, ◌⊎◌, inl, inr, ℕ, ◌<◌, ◌≤◌, ◌&&◌, ◌==◌, not, Bool, true, if◌then◌else◌, List, [], ◌∷◌, length, Option, Some, None, slice_get, sym, ap, subst, refl, ◌∙◌, arith}
+use Rattle.std.proofs.Common.{◌≡◌, ◌⊎◌, inl, inr, ℕ, ◌<◌, ◌≤◌, ◌&&◌, ◌==◌, not, Bool, true, List, [], ◌∷◌, length, Option, Some, None, slice_get, sym, ap, subst, refl, ◌∙◌, arith}
 use Rattle.std.proofs.lemmas.Option.{slice_get-get_or}
 use Rattle.std.proofs.lemmas.Bool.{true≢false, eqb-true}
 use Rattle.std.specs.Prelude.{IsSome, IsFalse, IsTrue, ◌↔◌}
@@ -9,7 +9,7 @@ use Rattle.tuple_header.specs.declared.version.Row.{Row}
 use Rattle.tuple_header.specs.Version.{Version, rounded_size_of}
 use Rattle.tuple_header.specs.declared.version.Header.{Header}
 use Rattle.tuple_header.specs.Marks.{is_frozen, is_heap_only}
-use Rattle.page_slots.specs.View.{PageView, HasSlot}
+use Rattle.page_slots.specs.View.{PageView}
 use Rattle.page_slots.specs.declared.slot.Slot.{Slot}
 use Rattle.page_slots.specs.Slots.{slot_at, version_of, header_at, row_at, version_at, IsNormalAt, SlotIsThere, with_slot, room_of}
 use Rattle.page_slots.proofs.SlotLemmas.{normal_at, there-from_slot_at}
@@ -25,7 +25,7 @@ use Rattle.prune.specs.Pruning.{loose_in, IsInChainOf, IsLoose, PrunesSlot, by_r
 use Rattle.prune.specs.Room.{IsPlanOf}
 use Rattle.prune.specs.Laws.{IsPrunedPage}
 use Rattle.prune.proofs.Idle.{idle-plan}
-use Rattle.prune.proofs.Listing.{applied-slot, applied-flag, applied-spare}
+use Rattle.prune.proofs.Listing.{applied-slot, applied-flag}
 use Rattle.prune.proofs.Planned.{plan-pruned}
 use Rattle.prune.proofs.Removing.{pruned-removes}
 use Rattle.table_indexes.specs.Indexes.{NeedsEntry}
@@ -40,7 +40,6 @@ use Rattle.heap_write.specs.declared.target.Target.{Target}
 use Rattle.heap_write.proofs.PageLemmas.{keeps-all, page-at, page-back, page-set, there-within}
 use Rattle.heap_write.proofs.IdlePages.{dead-back, kept-there}
 use Rattle.heap_write.proofs.Reserving.{chosen-set, ready-set}
-use Rattle.heap_write.proofs.SlotMemory.{slot-pruned}
 use Rattle.heap_write.proofs.Updating.{kept-slots, kept-full, no-room, on_page-needs}
 
 -- More memory for ids changes no plan.
@@ -161,13 +160,6 @@ moves-needs h own place row horizon size actions there full plan still is needs 
 
 pruned-by : (w : Window) (horizon : ℕ) (page : PageView) (actions : List (ℕ × Action)) → IsPlan w horizon page.slots actions → IsPruned w horizon page.slots (applied actions page).slots
 pruned-by w horizon page actions plan = plan-pruned w horizon page (applied actions page) (record { actions = actions; plan = plan; is = refl })
-
-pub applied-slot_ready : (h h' : HeapView) (n : ℕ) (actions : List (ℕ × Action)) → n < length h.pages.pages → IsPlanOf (page_on h n).slots actions → h' ≡ with_applied h n actions
-    → HasSlot (page_on h n) → HasSlot (page_on h' n)
-applied-slot_ready h h' n actions within (w, horizon, plan) is has =
-    let page = page_on h n in
-    subst (λ p. HasSlot p) (sym (applied-page h h' n actions within is))
-    (slot-pruned w horizon page (applied actions page) (pruned-by w horizon page actions plan) (applied-spare actions page) has)
 
 row-stays : (w : Window) (horizon : ℕ) (slots after : List Slot) (n : ℕ) → RemovesVersions w horizon slots after → IsNormalAt after n → row_at after n ≡ row_at slots n
 row-stays w horizon slots after n removes there = by (version_at after n) refl there

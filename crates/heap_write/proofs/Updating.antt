@@ -1,25 +1,24 @@
 -- An update that prunes first, put together.
-use Rattle.std.proofs.Common.{◌≡◌, ◌⊎◌, ℕ, ◌<◌, ◌≤◌, Bool, inl, inr, List, [], get_or, Option, Some, None, Result, Ok, Err, sym, ap, subst, refl, ◌∙◌, arith}
+use Rattle.std.proofs.Common.{◌≡◌, ◌⊎◌, ℕ, ◌<◌, ◌≤◌, Bool, inl, inr, List, Option, Some, None, Result, Ok, Err, sym, ap, subst, refl, ◌∙◌, arith}
 use Rattle.std.specs.Prelude.{IfErr, IfOk, IfSome, IsFalse, IsTrue, OnErr, ◌↔◌}
 use Rattle.std.proofs.lemmas.Bool.{true≢false}
 use Rattle.xid_circle.specs.declared.Xid.{Xid}
-use Rattle.std.proofs.Math.ListN.{get_or-map}
 use Rattle.xid_circle.specs.declared.Tid.{Tid}
 use Rattle.tuple_header.specs.declared.version.Row.{Row}
 use Rattle.tuple_header.specs.Version.{rounded_size_of}
 use Rattle.page_slots.specs.View.{PageView}
-use Rattle.page_slots.specs.declared.slot.Slot.{Slot}
 use Rattle.page_slots.specs.Slots.{room_of}
 use Rattle.heap_pages.specs.Choice.{HasRoom}
 use Rattle.commit_status.specs.Window.{Window, IsWindow}
 use Rattle.snapshot.specs.Own.{Own, unassigned_levels}
 use Rattle.heap_write.specs.declared.heap.WriteFault.{WriteFault}
 use Rattle.heap_write.specs.declared.heap.WriteFault.TheVariants.{NeedsFreeze as needs_freeze, NoRoom, NoMemory}
-use Rattle.heap_write.specs.Heap.{HeapView, unused_page, page_on, Keeps}
+use Rattle.heap_write.specs.Heap.{HeapView, page_on, Keeps}
 use Rattle.heap_write.specs.Writes.{NeedsFreeze, TakesIds, SameOwn, TableIsFull, KeepsValues, PrunesIfFull, UpdatesOnPage, Replaces}
 use Rattle.heap_write.specs.Writes.PrunesIfFull.{has_room}
 use Rattle.heap_write.specs.Writes.Replaces.{on_page}
 use Rattle.table_indexes.specs.Indexes.{NeedsEntry}
+use Rattle.heap_write.specs.Growth.{page_in}
 use Rattle.heap_write.specs.Refusals.{NeedsIds, VersionIsThere, UpdateNeedsMemory, FailsUpdate, AnswersUpdate}
 use Rattle.heap_write.specs.Steps.{IsDoneUnder}
 use Rattle.heap_write.proofs.PageLemmas.{keeps-all}
@@ -36,8 +35,7 @@ no-room size room small large = let no : 1 ≤ 0 = omega (arith, small, large) i
 
 pub kept-slots : (h h1 : HeapView) (n : ℕ) → Keeps h h1 → (page_on h1 n).slots ≡ (page_on h n).slots
 kept-slots h h1 n keeps =
-    let f : PageView → List Slot = λ p. p.slots in
-    sym (get_or-map f h1.pages.pages n unused_page) ∙ ap (λ slots. get_or slots n []) keeps.slots ∙ get_or-map f h.pages.pages n unused_page
+    ap (λ (pages : List PageView). (page_in pages n).slots) keeps.pages
 
 pub kept-full : (h h1 : HeapView) (n size : ℕ) → Keeps h h1 → room_of (page_on h n).slots < size → ¬ HasRoom size (page_on h1 n)
 kept-full h h1 n size keeps full = no-room size (room_of (page_on h1 n).slots) (subst (λ slots. room_of slots < size) (sym (kept-slots h h1 n keeps)) full)

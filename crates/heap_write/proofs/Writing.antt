@@ -11,7 +11,7 @@ use Rattle.snapshot.specs.Own.{Own}
 use Rattle.std.proofs.lemmas.Option.{slice_get_within}
 use Rattle.tuple_writes.specs.Writes.{with_root, with_updated, replaced_change, PutsXmax, AddsToPage}
 use Rattle.space_maps.specs.declared.mark.Mark.TheVariants.{Nothing}
-use Rattle.heap_pages.specs.View.{PagesView, with_page}
+use Rattle.heap_pages.specs.View.{PagesView}
 use Rattle.heap_pages.specs.declared.pages.Placement.TheVariants as to
 use Rattle.table_indexes.specs.Indexes.{SameEntries, Enters}
 use Rattle.table_indexes.proofs.IndexLemmas.{same-entries, entries-back}
@@ -24,9 +24,9 @@ use Rattle.heap_write.specs.Writes.{NeedsFreeze, TakesIds, GoesTo, PutsRoot, Set
 use Rattle.heap_write.specs.Writes.UpdatesOnPage.{heap_only, as_root}
 use Rattle.heap_write.specs.Writes.Replaces.{elsewhere}
 use Rattle.heap_write.specs.Refusals.{VersionIsThere}
-use Rattle.heap_write.specs.Growth.{page_in, SamePage, GrowsPage, Reserves, target_number}
+use Rattle.heap_write.specs.Growth.{page_in, SamePages, target_number}
 use Rattle.heap_write.specs.Steps.{IsChosen}
-use Rattle.heap_write.proofs.PageLemmas.{page-at, puts-grown, page-set, page-set_other, there-within}
+use Rattle.heap_write.proofs.PageLemmas.{page-at, page-set, page-set_other, there-within}
 use Rattle.heap_write.proofs.PlaceLemmas.{page-place}
 use Rattle.tuple_writes.proofs.Altered.{normal-added}
 use Rattle.std.proofs.lemmas.Bool.{cases_eq}
@@ -36,11 +36,12 @@ pub both-ok : {T E : Type 0} {A B C : T → Type 0} (r : Result T E) → ((x : T
 both-ok (Ok x) f a b = f x a b
 both-ok (Err e) f a b = a
 
--- A table with more memory for a page.
+-- A table with more memory.
 
 -- a write that puts page n on the second table puts it on the first
 pub record Grown (h h1 : HeapView) (n : ℕ) : Type 0 where
-  pub same : SamePage (page_on h n) (page_on h1 n)
+  pub slots : (page_on h1 n).slots ≡ (page_on h n).slots
+  pub change : (page_on h1 n).change ≡ (page_on h n).change
   pub puts : (pages' : PagesView) (page : PageView) → PutsPage h1.pages pages' n page → PutsPage h.pages pages' n page
   pub entries : SameEntries h.indexes h1.indexes
 
@@ -52,16 +53,9 @@ puts-same_pages pages pages1 pages' n page same marks (after_all over is m) =
 
 pub grown-none : (h h1 : HeapView) (n : ℕ) → h1.pages.pages ≡ h.pages.pages → h1.pages.marks ≡ h.pages.marks → SameEntries h.indexes h1.indexes → Grown h h1 n
 grown-none h h1 n same marks entries = record {
-  same = subst (λ pages. SamePage (page_on h n) (page_in pages n)) (sym same) (record { slots = refl; change = refl; flag = refl });
+  slots = ap (λ (pages : List PageView). (page_in pages n).slots) same;
+  change = ap (λ (pages : List PageView). (page_in pages n).change) same;
   puts = λ pages' page puts. puts-same_pages h.pages h1.pages pages' n page same marks puts;
-  entries = entries;
-}
-
-pub grown-set : (h h1 : HeapView) (n : ℕ) (page : PageView) → n < length h.pages.pages → h1.pages ≡ with_page h.pages n page → SamePage (page_on h n) page
-    → SameEntries h.indexes h1.indexes → Grown h h1 n
-grown-set h h1 n page within is same entries = record {
-  same = subst (λ p. SamePage (page_on h n) p) (sym (ap (λ (p : PagesView). page_in p.pages n) is ∙ page-set h.pages.pages n page within)) same;
-  puts = λ pages' new puts. puts-grown h.pages h1.pages pages' n page new within (ap (λ (p : PagesView). p.pages) is) (ap (λ (p : PagesView). p.marks) is) puts;
   entries = entries;
 }
 
@@ -71,23 +65,23 @@ root-grown h h1 h' updated x row n grown root =
     record {
       page = root.page;
       puts = grown.puts h'.pages root.page root.puts;
-      slots = root.slots ∙ ap (λ slots. with_root slots updated x n row) grown.same.slots;
-      change = root.change ∙ ap next_change grown.same.change;
+      slots = root.slots ∙ ap (λ slots. with_root slots updated x n row) grown.slots;
+      change = root.change ∙ ap next_change grown.change;
       flag = root.flag;
-      within = subst (λ slots. free_number slots ≤ 291) grown.same.slots root.within;
-      entries = subst (λ slots. E (free_number slots)) grown.same.slots (enters-grown h.indexes h1.indexes h'.indexes row _ grown.entries root.entries);
+      within = subst (λ slots. free_number slots ≤ 291) grown.slots root.within;
+      entries = subst (λ slots. E (free_number slots)) grown.slots (enters-grown h.indexes h1.indexes h'.indexes row _ grown.entries root.entries);
     }
 
 pub here-grown : (h h1 h' : HeapView) (place : Tid) (x : ℕ) (row : Row) → Grown h h1 place.page → HotUpdates h1 h' place x row → HotUpdates h h' place x row
 here-grown h h1 h' place x row grown here = record {
   page = here.page;
   puts = grown.puts h'.pages here.page here.puts;
-  slots = here.slots ∙ ap (λ slots. with_updated slots place.slot x place.page row) grown.same.slots;
+  slots = here.slots ∙ ap (λ slots. with_updated slots place.slot x place.page row) grown.slots;
   change = here.change
-      ∙ ap (λ slots. replaced_change slots place.slot x place.page (free_number slots) true (next_change (page_on h1 place.page).change)) grown.same.slots
-      ∙ ap (λ change. replaced_change (page_on h place.page).slots place.slot x place.page (free_number (page_on h place.page).slots) true (next_change change)) grown.same.change;
+      ∙ ap (λ slots. replaced_change slots place.slot x place.page (free_number slots) true (next_change (page_on h1 place.page).change)) grown.slots
+      ∙ ap (λ change. replaced_change (page_on h place.page).slots place.slot x place.page (free_number (page_on h place.page).slots) true (next_change change)) grown.change;
   flag = here.flag;
-  within = subst (λ slots. free_number slots ≤ 291) grown.same.slots here.within;
+  within = subst (λ slots. free_number slots ≤ 291) grown.slots here.within;
   entries = entries-then h.indexes h1.indexes h'.indexes grown.entries here.entries;
 }
 
@@ -109,30 +103,22 @@ values-back h h1 place row slots entries keeps old at =
 
 -- An insert.
 
--- where the place for a new version stands ready, it goes to the number of the target
-reserved-grown : (h h1 : HeapView) (size : ℕ) (target : Target) → Reserves h.pages h1.pages h.max_pages size (Some target) → SameEntries h.indexes h1.indexes
-    → Grown h h1 (target_number h1.pages.pages target) × GoesTo h size (target_number h1.pages.pages target)
-reserved-grown h h1 size (Page n) (chosen, grows) entries = (
-  grown-set h h1 n grows.page (page-place h.pages.pages h.max_pages size n chosen).0 grows.pages_are grows.same entries,
-  record { place = to.Page n; chosen = chosen; number = refl },
-)
-reserved-grown h h1 size (New page) (chosen, (same, marks)) entries = (
-  grown-none h h1 (length h1.pages.pages) same marks entries,
-  record { place = to.NewPage; chosen = chosen; number = ap (λ pages. Some (length pages)) (sym same) },
-)
+-- what was chosen for a new version is the number of the target
+goes-chosen : (h h1 : HeapView) (size : ℕ) (target : Target) → IsChosen h size (Some target) → SamePages h.pages h1.pages → GoesTo h size (target_number h1.pages.pages target)
+goes-chosen h h1 size (Page n) chosen same = record { place = to.Page n; chosen = chosen; number = refl }
+goes-chosen h h1 size (New page) chosen same = record { place = to.NewPage; chosen = chosen; number = ap (λ pages. Some (length pages)) (sym same.pages) }
 
 pub inserts : (h h1 h' : HeapView) (own own' : Own) (row : Row) (x : ℕ) (target : Target) → ¬ NeedsFreeze h.statuses own
-    → Reserves h.pages h1.pages h.max_pages (rounded_size_of row) (Some target) → SameEntries h.indexes h1.indexes
+    → IsChosen h (rounded_size_of row) (Some target) → SamePages h.pages h1.pages → SameEntries h.indexes h1.indexes
     → TakesIds h.statuses h'.statuses own own' x → PutsRoot h1 h' false x row (target_number h1.pages.pages target) → h'.max_pages ≡ h.max_pages → Inserts h h' own own' row x
-inserts h h1 h' own own' row x target free reserves entries takes root max_pages =
+inserts h h1 h' own own' row x target free chosen same entries takes root max_pages =
     let number = target_number h1.pages.pages target in
-    let at = reserved-grown h h1 (rounded_size_of row) target reserves entries in
     record {
       free = free;
       takes_ids = takes;
       number = number;
-      goes_to = at.1;
-      root = root-grown h h1 h' false x row number at.0 root;
+      goes_to = goes-chosen h h1 (rounded_size_of row) target chosen same;
+      root = root-grown h h1 h' false x row number (grown-none h h1 number same.pages same.marks entries) root;
       max_pages = max_pages;
     }
 
@@ -220,19 +206,15 @@ stays-there h h1 middle place x row n before same_pages there root at =
           subst (λ (p : PageView). IsNormalAt p.slots place.slot) (sym kept ∙ is) there_1
     ]
 
--- the page has grown in memory alone
-pub grown-page : (h h1 : HeapView) (n : ℕ) → n < length h.pages.pages → GrowsPage h.pages h1.pages n → SameEntries h.indexes h1.indexes → Grown h h1 n
-grown-page h h1 n within grows same = grown-set h h1 n grows.page within grows.pages_are grows.same same
-
--- An update on the page, said of the table before the page grew.
+-- An update on the page, said of the table before there was more memory.
 
 pub on_page-grown : (h h1 h' : HeapView) (place : Tid) (x : ℕ) (row : Row) → Grown h h1 place.page → UpdatesOnPage h1 h' place x row → UpdatesOnPage h h' place x row
-on_page-grown h h1 h' place x row grown (heap_only keeps here) = heap_only (values-back h h1 place row grown.same.slots grown.entries keeps) (here-grown h h1 h' place x row grown here)
+on_page-grown h h1 h' place x row grown (heap_only keeps here) = heap_only (values-back h h1 place row grown.slots grown.entries keeps) (here-grown h h1 h' place x row grown here)
 on_page-grown h h1 h' place x row grown (as_root changes replaces) =
-    as_root (λ keeps. changes (values-kept h h1 place row grown.same.slots grown.entries keeps)) (record {
+    as_root (λ keeps. changes (values-kept h h1 place row grown.slots grown.entries keeps)) (record {
       middle = replaces.middle;
       root = root-grown h h1 replaces.middle true x row place.page grown replaces.root;
-      away = subst (λ slots. SetsXmax replaces.middle h' place x (record { page = place.page; slot = free_number slots })) grown.same.slots replaces.away;
+      away = subst (λ slots. SetsXmax replaces.middle h' place x (record { page = place.page; slot = free_number slots })) grown.slots replaces.away;
     })
 
 -- An update on the page.

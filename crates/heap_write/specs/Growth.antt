@@ -1,19 +1,17 @@
--- What stands ready before a write changes anything: memory for ids, a slot and a page. (For entries: `HasEntries` of Indexes.)
-use Rattle.std.specs.Prelude.{◌≡◌, ℕ, ◌<◌, ◌≤◌, Bool, false, List, [], length, map, Option, Some, None, slice_index_or}
+-- What stands ready before a write changes anything: memory for ids and a page. (For entries: `HasEntries` of Indexes.)
+use Rattle.std.specs.Prelude.{◌≡◌, ℕ, ◌<◌, ◌≤◌, Bool, false, List, [], length, Option, Some, None, slice_index_or}
 use Rattle.tuple_header.specs.declared.version.Row.{Row}
-use Rattle.page_slots.specs.View.{PageView, HasSlot}
+use Rattle.page_slots.specs.View.{PageView}
 use Rattle.page_slots.specs.Slots.{room_of, free_number, next_change}
 use Rattle.commit_status.specs.Window.{Window}
 use Rattle.snapshot.specs.Own.{Own, unassigned_levels}
 use Rattle.tuple_writes.specs.Writes.{with_root}
-use Rattle.heap_pages.specs.Choice.{IsPlaceFor}
-use Rattle.heap_pages.specs.View.{PagesView, with_page}
+use Rattle.heap_pages.specs.View.{PagesView}
 use Rattle.heap_pages.specs.declared.pages.Placement.{Placement}
 use Rattle.heap_pages.specs.declared.pages.Placement.TheVariants as place
 use Rattle.heap_write.specs.declared.target.Target.{Target}
 use Rattle.heap_write.specs.declared.target.Target.TheVariants.{Page, New}
 use Rattle.heap_write.specs.Heap.{unused_page, PutsPage}
-use Rattle.heap_write.specs.Refusals.{NeedsSlot}
 use Rattle.heap_pages.specs.declared.pages.TheConstants.{MOST_PAGES}
 use Rattle.tuple_header.specs.declared.version.TheConstants.{MOST_SLOTS}
 
@@ -24,40 +22,24 @@ pub record HasIds (w : Window) (own : Own) : Type 0 where
   pub in_table : unassigned_levels own.ids own.saved ≤ w.spare
   pub in_own : unassigned_levels own.ids own.saved ≤ own.spare
 
--- Slots and pages.
+-- Pages.
 
 -- the page of a number, or one that was never used
 abbrev pub page_in : List PageView → ℕ → PageView
 page_in pages n = slice_index_or pages n unused_page
 
--- the page is as it was, though there may be more memory
-pub record SamePage (page page' : PageView) : Type 0 where
-  pub slots : page'.slots ≡ page.slots
-  pub change : page'.change ≡ page.change
-  pub flag : page'.flag ≡ page.flag
-
--- so are all pages, and what is noted of them
+-- all pages are as they were, and what is noted of them, though there may be memory for more
 pub record SamePages (pages pages' : PagesView) : Type 0 where
-  pub slots : map (λ (p : PageView). p.slots) pages'.pages ≡ map (λ (p : PageView). p.slots) pages.pages
-  pub changes : map (λ (p : PageView). p.change) pages'.pages ≡ map (λ (p : PageView). p.change) pages.pages
-  pub flags : map (λ (p : PageView). p.flag) pages'.pages ≡ map (λ (p : PageView). p.flag) pages.pages
+  pub pages : pages'.pages ≡ pages.pages
   pub marks : pages'.marks ≡ pages.marks
-
--- the page of this number alone may have more memory
-pub record GrowsPage (pages pages' : PagesView) (n : ℕ) : Type 0 where
-  pub page : PageView
-  pub pages_are : pages' ≡ with_page pages n page
-  pub same : SamePage (page_in pages.pages n) page
-  pub has_slot : HasSlot page
 
 -- Where a root is to go.
 
--- a page that was never used, with memory for a slot
+-- a page that was never used
 pub record IsFreshPage (page : PageView) : Type 0 where
   pub slots : page.slots ≡ []
   pub change : page.change ≡ 0
   pub flag : page.flag ≡ false
-  pub spare : 0 < page.spare
 
 abbrev pub target_number : List PageView → Target → ℕ
 target_number pages (Page n) = n
@@ -65,7 +47,7 @@ target_number pages (New page) = length pages
 
 -- a version of this size can be put there without memory
 abbrev pub IsReserved : PagesView → ℕ → Target → Type 0
-IsReserved pages size (Page n) = (n < length pages.pages) × (size ≤ room_of (page_in pages.pages n).slots) × HasSlot (page_in pages.pages n)
+IsReserved pages size (Page n) = (n < length pages.pages) × (size ≤ room_of (page_in pages.pages n).slots)
 IsReserved pages size (New page) = IsFreshPage page.value × (size ≤ room_of page.value.slots) × (0 < pages.spare) × (length pages.pages < MOST_PAGES)
 
 -- the place that was chosen where a root is to go there, or nowhere
@@ -73,21 +55,6 @@ abbrev pub place_of_target : Option Target → Placement
 place_of_target None = place.Nowhere
 place_of_target (Some (Page n)) = place.Page n
 place_of_target (Some (New page)) = place.NewPage
-
--- the pages have grown for it in memory alone
-abbrev pub GrowsFor : PagesView → PagesView → Option Target → Type 0
-GrowsFor pages pages' None = pages' ≡ pages
-GrowsFor pages pages' (Some (Page n)) = GrowsPage pages pages' n
-GrowsFor pages pages' (Some (New page)) = (pages'.pages ≡ pages.pages) × (pages'.marks ≡ pages.marks)
-
--- the place for a version of this size stands ready, if there is one
-abbrev pub Reserves : PagesView → PagesView → ℕ → ℕ → Option Target → Type 0
-Reserves pages pages' limit size found = IsPlaceFor pages.pages limit size (place_of_target found) × GrowsFor pages pages' found
-
--- the list of pages, or of a page's slots, has to grow for it
-pub data PlaceNeedsMemory (pages : List PageView) (limit size : ℕ) : Type 0 where
-  for_page : IsPlaceFor pages limit size place.NewPage → PlaceNeedsMemory pages limit size
-  for_slot : (n : ℕ) → IsPlaceFor pages limit size (place.Page n) → NeedsSlot (page_in pages n) → PlaceNeedsMemory pages limit size
 
 -- x made a version of the row as a root on the page of this number
 pub record PutsVersion (pages pages' : PagesView) (updated : Bool) (x : ℕ) (row : Row) (n : ℕ) : Type 0 where

@@ -1,5 +1,5 @@
 -- A table: its pages, what became of each id, and its indexes.
-use Rattle.std.specs.Prelude.{◌≡◌, ℕ, ◌<◌, ℤ, pos, false, List, [], ◌∷◌, ◌++◌, map, length, Option, slice_set, slice_index_or}
+use Rattle.std.specs.Prelude.{◌≡◌, ℕ, ◌<◌, ℤ, pos, false, List, [], ◌∷◌, ◌++◌, length, slice_set, slice_index_or}
 use Rattle.tuple_header.specs.declared.version.Row.{Row}
 use Rattle.page_slots.specs.View.{PageView}
 use Rattle.page_slots.specs.declared.slot.Slot.{Slot}
@@ -26,7 +26,7 @@ key_value row = pos row.key
 
 -- a page that is not in use: it has no slots, and was never changed
 abbrev pub unused_page : PageView
-unused_page = record { slots = []; change = 0; flag = false; spare = 0 }
+unused_page = record { slots = []; change = 0; flag = false }
 
 abbrev pub page_on : HeapView → ℕ → PageView
 page_on h n = slice_index_or h.pages.pages n unused_page
@@ -41,9 +41,7 @@ pub record SameIds (w w' : Window) : Type 0 where
 
 -- all is as it was, though there may be more memory
 pub record Keeps (h h' : HeapView) : Type 0 where
-  pub slots : slots_of h' ≡ slots_of h
-  pub changes : map (λ p. p.change) h'.pages.pages ≡ map (λ p. p.change) h.pages.pages
-  pub flags : map (λ p. p.flag) h'.pages.pages ≡ map (λ p. p.flag) h.pages.pages
+  pub pages : h'.pages.pages ≡ h.pages.pages
   pub marks : h'.pages.marks ≡ h.pages.marks
   pub statuses : SameIds h.statuses h'.statuses
   pub entries : SameEntries h.indexes h'.indexes

@@ -1,17 +1,16 @@
 -- Why a write is not done, of the first reason in the order of its tests, and what it leaves: all as it was, though there may
 -- be more memory; only an update that ends in NoRoom may leave the page of the old version pruned.
-use Rattle.std.specs.Prelude.{◌≡◌, ◌⊎◌, ℕ, ◌<◌, ◌≤◌, length, Result, IfOk, IfErr, OnErr}
+use Rattle.std.specs.Prelude.{◌⊎◌, ℕ, ◌<◌, ◌≤◌, length, Result, IfOk, IfErr, OnErr}
 use Rattle.xid_circle.specs.declared.Tid.{Tid}
 use Rattle.xid_circle.specs.declared.Xid.{Xid}
 use Rattle.xid_circle.specs.Circle.{IsNormal}
 use Rattle.commit_status.specs.Window.{IsWindow}
 use Rattle.tuple_header.specs.declared.version.Row.{Row}
 use Rattle.tuple_header.specs.Version.{rounded_size_of}
-use Rattle.page_slots.specs.View.{PageView}
 use Rattle.snapshot.specs.Own.{Own, unassigned_levels}
 use Rattle.page_slots.specs.Slots.{room_of, IsNormalAt}
 use Rattle.heap_pages.specs.Choice.{IsPlaceFor}
-use Rattle.heap_pages.specs.declared.pages.Placement.TheVariants.{Page, NewPage}
+use Rattle.heap_pages.specs.declared.pages.Placement.TheVariants.{NewPage}
 use Rattle.table_indexes.specs.Indexes.{NeedsEntry}
 use Rattle.heap_write.specs.declared.pruning.PruneFault.{PruneFault}
 use Rattle.heap_write.specs.declared.pruning.PruneFault.TheVariants as prune_fault
@@ -20,20 +19,14 @@ use Rattle.heap_write.specs.declared.heap.WriteFault.TheVariants as fault
 use Rattle.heap_write.specs.Heap.{HeapView, page_on, Keeps}
 use Rattle.heap_write.specs.Writes.{NeedsFreeze, SameOwn, TableIsFull, PrunesIfFull, KeepsValues, Updates}
 
--- the first slot of a page takes memory: with it comes memory for all that the page may have
-pub record NeedsSlot (page : PageView) : Type 0 where
-  pub none : length page.slots ≡ 0
-  pub full : page.spare ≡ 0
-
 -- the new ids take memory: the table of ids has to grow for them, or the session's own list
 abbrev pub NeedsIds : HeapView → Own → Type 0
 NeedsIds h own = (h.statuses.spare < unassigned_levels own.ids own.saved) ⊎ (own.spare < unassigned_levels own.ids own.saved)
 
--- something has to grow for a new root: the ids, the list of pages, a page's list of slots, or an index
+-- something has to grow for a new root: the ids, the list of pages, or an index
 pub data RootNeedsMemory (h : HeapView) (own : Own) (size : ℕ) : Type 0 where
   for_ids : NeedsIds h own → RootNeedsMemory h own size
   for_page : IsPlaceFor h.pages.pages h.max_pages size NewPage → RootNeedsMemory h own size
-  for_slot : (n : ℕ) → IsPlaceFor h.pages.pages h.max_pages size (Page n) → NeedsSlot (page_on h n) → RootNeedsMemory h own size
   for_entry : NeedsEntry h.indexes → RootNeedsMemory h own size
 
 abbrev pub LacksForInsert : HeapView → Own → Row → WriteFault → Type 0
@@ -46,8 +39,7 @@ abbrev pub VersionIsThere : HeapView → Tid → Type 0
 VersionIsThere h place = IsNormalAt (page_on h place.page).slots place.slot
 
 -- Something has to grow for an update: the ids; or, where the row has room on its page once that is pruned if it is full, an index
--- where a value in one changes; or, where it has none there, whatever a new root takes. The page has a version, so memory for each
--- slot that it may have.
+-- where a value in one changes; or, where it has none there, whatever a new root takes.
 pub data UpdateNeedsMemory (h : HeapView) (own : Own) (place : Tid) (row : Row) (horizon : ℕ) : Type 0 where
   for_ids : NeedsIds h own → UpdateNeedsMemory h own place row horizon
   for_entry : (ready : HeapView) → PrunesIfFull h ready place horizon (rounded_size_of row)

@@ -128,7 +128,6 @@ impl HeapState {
             → IsPlanOn self.old place.page horizon plan.now.actions.items
             → AnswersUpdate self.old self.new own.old own.new place row.now horizon result }
     {
-        self.fact_slot_beside(place);
         let heap_only = self.keeps_values(place, row);
         let reserved = self.reserve_ids_for(own, heap_only);
         self.statuses.fact_window();

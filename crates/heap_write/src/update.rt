@@ -8,7 +8,6 @@ ghost use Rattle.table_indexes.specs.Indexes.{HasEntries, NeedsEntry};
 ghost use Rattle.heap_write.specs.Heap.{page_on, Keeps};
 ghost use Rattle.heap_write.specs.Writes.{NewestIsGiven, SameOwn, KeepsValues, HotUpdates, ColdUpdates, UpdatesOnPage};
 ghost use Rattle.heap_write.specs.Refusals.{VersionIsThere, NeedsIds, AnswersUpdate};
-ghost use Rattle.page_slots.specs.View.{HasSlot};
 ghost use Rattle.heap_write.specs.Growth.{HasIds, IsReserved, target_number};
 ghost use Rattle.heap_write.specs.Steps.{IsReplaceable, IsDoneUnder};
 
@@ -52,7 +51,6 @@ impl HeapState {
         if needs_freeze(&self.statuses, own) {
             return Err(WriteFault::NeedsFreeze);
         }
-        self.fact_slot_beside(place);
         let heap_only = self.keeps_values(place, row);
         let reserved = self.reserve_ids_for(own, heap_only);
         self.statuses.fact_window();
@@ -72,17 +70,6 @@ impl HeapState {
                 None => true,
             },
             None => true,
-        }
-    }
-
-    /// That a page with a version has memory for a further slot. It does nothing; its contract is the fact.
-    pub(crate) fn fact_slot_beside(&self, place: Tid)
-        requires { VersionIsThere self.now place }
-        ensures { HasSlot (page_on self.now place.page) }
-    {
-        match self.pages.page(place.page) {
-            Some(page) => page.fact_memory(),
-            None => unreachable!(),
         }
     }
 
@@ -106,7 +93,7 @@ impl HeapState {
         self.indexes.make_room_for(heap_only)
     }
 
-    /// Replaces a version by one on its page, which has room and memory for it: a heap-only one, or a root.
+    /// Replaces a version by one on its page, which has room for it: a heap-only one, or a root.
     pub(crate) fn replace_on_page(
         &mut self,
         own: &mut OwnIds,
@@ -117,7 +104,6 @@ impl HeapState {
         requires may { IsReplaceable self.old own.old place }
         requires has_ids { HasIds self.old.statuses own.old }
         requires room { rounded_size_of row.now ≤ room_of (page_on self.old place.page).slots }
-        requires has_slot { HasSlot (page_on self.old place.page) }
         requires heap_only { IsTrue heap_only ↔ KeepsValues self.old place row.now }
         requires has_entries { IsFalse heap_only → HasEntries self.old.indexes }
         ensures under { IsDoneUnder self.old self.new own.old own.new result.0 }
@@ -130,12 +116,11 @@ impl HeapState {
         }
     }
 
-    /// Replaces a version by a heap-only one on its page, which has room and memory for it.
+    /// Replaces a version by a heap-only one on its page, which has room for it.
     fn hot_update(&mut self, own: &mut OwnIds, place: Tid, row: &Row) -> Xid
         requires may { IsReplaceable self.old own.old place }
         requires has_ids { HasIds self.old.statuses own.old }
         requires room { rounded_size_of row.now ≤ room_of (page_on self.old place.page).slots }
-        requires has_slot { HasSlot (page_on self.old place.page) }
         ensures under { IsDoneUnder self.old self.new own.old own.new result.0 }
         ensures replaces { HotUpdates self.old self.new place result.0 row.now }
     {

@@ -2,13 +2,12 @@
 //!
 //! A page has at most 291 slots, numbered from 1; a slot is unused, holds a version, leads to another slot, or is dead
 //! (PostgreSQL manual, Database Page Layout). A [`Page`] keeps the bytes of that layout in the value itself, and asks for no
-//! memory. Its contract sees it as the record of `specs/View.antt`: its slots, a change number, the all-visible flag, and how
-//! many slots can be added without memory, which is always as many as can be counted. It promises that a call changes nothing
-//! but what it names, and that [`Page::add`] takes the lowest unused slot and is full exactly where the version is larger than
-//! the room. [`Page::add_row`] is for those who have asked for room before. The change number counts changes of slots, modulo
-//! 2^64, except changes of hint bits alone. What stands at a number, the room and the change number are defined in
-//! `specs/Slots.antt`, hints in `specs/Hints.antt`; `proofs/SlotLemmas.antt` says, for the crates above, what each change does
-//! to the map from numbers to slots.
+//! memory: so no change of a page is refused any. Its contract sees it as the record of `specs/View.antt`: its slots, a change
+//! number, and the all-visible flag. It promises that a call changes nothing but what it names, and that [`Page::add`] takes the
+//! lowest unused slot and is full exactly where the version is larger than the room. [`Page::add_row`] is for those who have
+//! asked for room before. The change number counts changes of slots, modulo 2^64, except changes of hint bits alone. What stands
+//! at a number, the room and the change number are defined in `specs/Slots.antt`, hints in `specs/Hints.antt`;
+//! `proofs/SlotLemmas.antt` says, for the crates above, what each change does to the map from numbers to slots.
 //!
 //! Where the parts of a page stand among its bytes is said by `page_layout` below, what slots the bytes say by
 //! `specs/Layout.antt`; [`Page::bytes`] hands them out. There are two layers. A `Sheet` knows bytes: it keeps what `Sound` of

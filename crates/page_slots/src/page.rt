@@ -10,14 +10,12 @@ ghost use Rattle.page_slots.specs.Reading.{page_of};
 ghost use Rattle.page_slots.specs.Faults.{AreSoundRedirects, page_fault};
 ghost use Rattle.page_slots.specs.Standing.{length_at, LiesWithin, IsPointedTo};
 ghost use Rattle.page_layout.specs.Sound.{HoldsNoVersion};
-ghost use Rattle.page_slots.specs.View.{HasSlot};
 ghost use Rattle.page_slots.specs.Slots.{is_unused, is_dead, is_undeleted_by, redirects_to, head_of, slot_at, header_at, row_at, key_at, redirect_at, SlotIsThere, IsNormalAt, the_slot, with_slot, with_header_at, has_unused, free_number, with_added, bytes_taken, free_bytes, room_of, next_change, change_unless, differs_in_hints_alone};
 
 use crate::hints::differ_in_hints_alone;
 use crate::sheet::{MOST_BYTES, Sheet};
 use crate::slot::{Slot, SlotHead};
 use page_layout::Pointer;
-use std::alloc::{AllocError, Global};
 use std::marker::Model;
 use thiserror::Error;
 use tuple_header::{Header, MOST_SLOTS, Row, RowRef, Tuple, row_size};
@@ -29,9 +27,6 @@ pub enum AddFault {
     /// The version's size is over the page's room.
     #[error("there is no room on the page")]
     Full,
-    /// A new slot was needed, and memory for it was refused. No page answers it, since none takes memory.
-    #[error("there is no memory")]
-    NoMemory,
 }
 
 /// A page of the table: at most 291 slots, whose pointers and versions take at most 8168 bytes.
@@ -46,7 +41,7 @@ pub struct Page {
 
 impl Model for Page {
     ghost use Rattle.std.specs.Prelude.{◌==◌, not};
-    ghost use Rattle.page_slots.specs.View.{PageView, AreTallied, all_spare};
+    ghost use Rattle.page_slots.specs.View.{PageView, AreTallied};
     ghost use Rattle.page_layout.specs.Layout.{change_in, flags_in};
     ghost use Rattle.page_slots.specs.Layout.{slots_in};
 
@@ -56,7 +51,6 @@ impl Model for Page {
       slots = slots_in p.sheet.count p.sheet.bytes;
       change = change_in p.sheet.bytes;
       flag = not (flags_in p.sheet.bytes == 0);
-      spare = all_spare;
     } };
 
     ghost invariant = { λ p.
@@ -73,7 +67,7 @@ fn index_of(number: u16) -> Option<usize>
 
 impl Page {
     /// A page with no slot, never changed, on which not all is visible to all.
-    pub fn new(_alloc: Global) -> Self
+    pub fn new() -> Self
         ensures slots { result.slots ≡ [] }
         ensures change { result.change ≡ 0 }
         ensures flag { result.flag ≡ false }
@@ -309,25 +303,18 @@ impl Page {
     }
 
     /// Adds a version in the lowest unused slot, or else in a new last one, and answers the slot's number. It answers Full
-    /// exactly where the version's size is over the room, and then changes no slot. It takes no memory, and never answers NoMemory.
+    /// exactly where the version's size is over the room, and then changes no slot. It takes no memory.
     pub fn add(&mut self, version: Tuple) -> Result<u16, AddFault>
         ensures full { (result ≡ Err AddFault.Full)
             ↔ (room_of self.old.slots < rounded_size_of version.row) }
-        ensures memory { result ≡ Err AddFault.NoMemory → self.old.spare ≡ 0 }
-        ensures memory_only_to_grow { result ≡ Err AddFault.NoMemory
-            → has_unused self.old.slots ≡ false }
-        ensures memory_for_the_first { result ≡ Err AddFault.NoMemory → length self.old.slots ≡ 0 }
         ensures number { IfOk result (λ n. n ≡ free_number self.old.slots) }
         ensures limit { IfOk result (λ n. n ≤ MOST_SLOTS) }
         ensures slots { OnOk result
             (self.new.slots ≡ with_added self.old.slots (Slot.Normal version)) }
         ensures change { OnOk result (self.new.change ≡ next_change self.old.change) }
-        ensures spare { OnOk result (self.old.spare ≤ self.new.spare + 1) }
-        ensures spare_kept { has_unused self.old.slots ≡ true → self.old.spare ≤ self.new.spare }
         ensures flag { self.new.flag ≡ self.old.flag }
         ensures err_slots { OnErr result (self.new.slots ≡ self.old.slots) }
         ensures err_change { OnErr result (self.new.change ≡ self.old.change) }
-        ensures err_spare { OnErr result (self.old.spare ≤ self.new.spare) }
     {
         if row_size(&version.row) > self.room() {
             return Err(AddFault::Full);
@@ -342,14 +329,11 @@ impl Page {
     pub fn add_row(&mut self, header: Header, row: &Row) -> u16
         requires faultless { header_fault header ≡ None }
         requires room { rounded_size_of row.now ≤ room_of self.old.slots }
-        requires memory { HasSlot self.old }
         ensures number { result ≡ free_number self.old.slots }
         ensures limit { result ≤ MOST_SLOTS }
         ensures slots { self.new.slots
             ≡ with_added self.old.slots (Slot.Normal (record { header = header; row = row.now })) }
         ensures change { self.new.change ≡ next_change self.old.change }
-        ensures spare { self.old.spare ≤ self.new.spare + 1 }
-        ensures spare_kept { has_unused self.old.slots ≡ true → self.old.spare ≤ self.new.spare }
         ensures flag { self.new.flag ≡ self.old.flag }
     {
         let _room = self.room();
@@ -365,29 +349,6 @@ impl Page {
         index as u16 + 1
     }
 
-    /// Says that the next `count` versions are added without memory, as all are: it does nothing.
-    pub fn make_room(&mut self, count: usize) -> Result<(), AllocError>
-        ensures room { OnOk result (count ≤ self.new.spare) }
-        ensures refused { OnErr result (self.old.spare < count) }
-        ensures grows { OnErr result
-            ((length self.old.slots ≡ 0) ⊎ (MOST_SLOTS < length self.old.slots + count)) }
-        ensures spare { self.old.spare ≤ self.new.spare }
-        ensures slots { self.new.slots ≡ self.old.slots }
-        ensures change { self.new.change ≡ self.old.change }
-        ensures flag { self.new.flag ≡ self.old.flag }
-    {
-        let (_free, _count) = (self.free, count);
-        Ok(())
-    }
-
-    /// That a page with a slot has memory for all that it may have. It does nothing; its contract is the fact.
-    pub fn fact_memory(&self)
-        ensures { 0 < length self.now.slots
-            → (0 < self.now.spare) ⊎ (MOST_SLOTS ≤ length self.now.slots) }
-    {
-        let _free = self.free;
-    }
-
     /// Gives the version in the slot of this number, which is there and normal, another header, which has no fault. The
     /// change number is raised where the header differs otherwise than in hints.
     pub fn set_header(&mut self, number: u16, header: Header)
@@ -398,7 +359,6 @@ impl Page {
             ≡ change_unless
             (differs_in_hints_alone (the_slot self.old.slots number) header) self.old.change }
         ensures flag { self.new.flag ≡ self.old.flag }
-        ensures spare { self.new.spare ≡ self.old.spare }
     {
         let index = usize::from(number) - 1;
         let hints_alone = match self.sheet.header(index) {

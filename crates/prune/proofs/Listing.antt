@@ -135,10 +135,6 @@ pub applied-flag : (acts : List (ℕ × Action)) (page : PageView) → (applied 
 applied-flag [] page = refl
 applied-flag (a ∷ rest) page = applied-flag rest (after_action page a.0 a.1)
 
-pub applied-spare : (acts : List (ℕ × Action)) (page : PageView) → (applied acts page).spare ≡ page.spare
-applied-spare [] page = refl
-applied-spare (a ∷ rest) page = applied-spare rest (after_action page a.0 a.1)
-
 -- A plan that is applied as far as action i.
 
 pub record IsApplying (plan : List (ℕ × Action)) (before page : PageView) (i : ℕ) : Type 0 where

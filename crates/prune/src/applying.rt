@@ -83,7 +83,6 @@ pub fn prune(page: &mut Page, statuses: &StatusTable, horizon: Xid)
     ensures none_dead { SoundPage statuses.now horizon.0 page.old.slots → (n : ℕ)
         → ¬ IsDeadAt statuses.now horizon.0 page.new.slots n }
     ensures flag { page.new.flag ≡ page.old.flag }
-    ensures spare { page.new.spare ≡ page.old.spare }
 {
     prune_by_plan(page, statuses, horizon);
 }

@@ -14,6 +14,7 @@ use Rattle.heap_write.specs.declared.heap.WriteFault.TheVariants as fault
 use Rattle.heap_write.specs.Heap.{HeapView, SameIds, Keeps, slots_of}
 use Rattle.heap_write.specs.Writes.{TakesIds, PrunesIfFull, Inserts, Updates, Deletes}
 use Rattle.heap_write.specs.Refusals.{LacksForInsert, FailsUpdate, FailsDelete}
+use Rattle.heap_write.proofs.PageLemmas.{slots-kept}
 use Rattle.table_integrity.proofs.Places.{readies-stand, root-new, root_version, free_place, taken_version, inserts-stand, deletes-stand, updates-ready, updates-stand}
 use Rattle.table_integrity.proofs.Keeping.{kept-stays, readied-stays, ready-come, given-stays}
 use Rattle.table_integrity.proofs.InUse.{stays-then}
@@ -70,7 +71,7 @@ module _ (st : State) (w : World) (s : ℕ) (e e' : Session) (at : session_at st
   kept h w' keeps had found =
       let stays = kept-stays st.heap h (horizon_of st) agrees.sound.table keeps in (
         agree agrees refl had
-            (subst (λ slots. theory.HeapAgrees (seen_in slots h.statuses (set st.sessions s (Some e'))) w') (sym keeps.slots)
+            (subst (λ slots. theory.HeapAgrees (seen_in slots h.statuses (set st.sessions s (Some e'))) w') (sym (slots-kept st.heap h keeps))
             (found-kept (slots_of st.heap) st.heap.statuses h.statuses st.sessions s e e' w' at same keeps.statuses found))
             (Sound-kept st w h s e e' at agrees same keeps.statuses keeps.max_pages stays),
         stays.led,
@@ -86,7 +87,7 @@ module _ (st : State) (w : World) (s : ℕ) (e e' : Session) (at : session_at st
       let ids = same-then st.heap.statuses ready.statuses h.statuses (ready-ids readies) keeps.statuses in
       let pruned = (follows.Follows-prune (seen st) 0 (version_in (slots_of ready)) (removes-past st w (version_in (slots_of ready)) place.page agrees (readies-stand st.heap ready place (horizon_of st) size readies)) w' found).1 in (
         agree agrees refl had
-            (subst (λ slots. theory.HeapAgrees (seen_in slots h.statuses (set st.sessions s (Some e'))) w') (sym keeps.slots)
+            (subst (λ slots. theory.HeapAgrees (seen_in slots h.statuses (set st.sessions s (Some e'))) w') (sym (slots-kept ready h keeps))
             (found-kept (slots_of ready) st.heap.statuses h.statuses st.sessions s e e' w' at same ids pruned))
             (Sound-kept st w h s e e' at agrees same ids (keeps.max_pages ∙ ready-limit readies) stays),
         stays.led,

@@ -42,6 +42,7 @@ use Rattle.root_index.specs.declared.progress.Progress.{Progress}
 use Rattle.root_index.specs.declared.progress.Progress.TheVariants.{Done}
 use Rattle.vacuum_passes.specs.Visits.{VisitsAt}
 use Rattle.heap_write.specs.Cleaning.{FreesAt, SweepsAt}
+use Rattle.heap_write.proofs.PageLemmas.{slots-kept}
 use Rattle.sound_vacuum.specs.Freeing.{AreUnled}
 use Rattle.sound_vacuum.specs.Sweeping.{AreDead, IsSweptTo}
 use Rattle.sound_vacuum.specs.Between.{KeepsDeadSlots, StepsBetween}
@@ -110,7 +111,7 @@ keeps-then a b c first second n = record {
 }
 
 kept-keep : (h h' : HeapView) → Keeps h h' → KeepsDeadSlots h h'
-kept-keep h h' k = pages-keep h h' k.slots k.entries
+kept-keep h h' k = pages-keep h h' (slots-kept h h' k) k.entries
 
 finished-keep : (h h' : HeapView) (ids : List ℕ) (status : _) → FinishesInTable h h' ids status → KeepsDeadSlots h h'
 finished-keep h h' ids status f = pages-keep h h' (ap (λ (p : PagesView). lists.page_slots_of p) f.pages) (same-entries h.indexes h'.indexes f.indexes)

@@ -1,9 +1,7 @@
 -- What is noted of pages, where the steps between those of a vacuum change them.
-use Rattle.std.proofs.Common.{◌≡◌, ℕ, Bool, true, false, List, [], ◌∷◌, ◌++◌, map, length, ◌≤◌, Option, Some, None, refl, sym, ap, ◌∙◌, subst}
-use Rattle.std.specs.Prelude.{slice_get, slice_set}
-use Rattle.std.specs.Option.{option_map}
-use Rattle.std.proofs.lemmas.List.{length-set, length-map, set-set}
-use Rattle.std.proofs.lemmas.Option.{slice_get-map, same_Some, none-some}
+use Rattle.std.proofs.Common.{◌≡◌, ℕ, Bool, true, false, List, [], ◌∷◌, ◌++◌, ◌≤◌, refl, sym, ap, ◌∙◌, subst}
+use Rattle.std.specs.Prelude.{slice_set}
+use Rattle.std.proofs.lemmas.List.{length-set, set-set}
 use Rattle.xid_circle.specs.declared.Tid.{Tid}
 use Rattle.tuple_header.specs.Version.{rounded_size_of}
 use Rattle.tuple_header.specs.declared.version.Row.{Row}
@@ -32,23 +30,6 @@ use Rattle.sound_vacuum.proofs.Cleaned.{pruned-maps}
 use Rattle.sound_vacuum.proofs.LaterMaps.{later-of, added-maps}
 use Rattle.sound_vacuum.proofs.Noted.{noted-true}
 use Rattle.sound_vacuum.proofs.OnePage.{set-here, set-other}
-
--- More memory alone.
-
-mapped-from : {B : Type 0} (f : PageView → B) (o : Option PageView) (x : B) → option_map f o ≡ Some x → (page : PageView) × (o ≡ Some page) × (f page ≡ x)
-mapped-from f None x is = absurd (none-some x is)
-mapped-from f (Some page) x is = (page, refl, same_Some (f page) x is)
-
--- a page of the one list is one of the other, with the same slots and flag
-same-page : (pages pages' : List PageView) → map (λ (p : PageView). p.slots) pages' ≡ map (λ (p : PageView). p.slots) pages → map (λ (p : PageView). p.flag) pages' ≡ map (λ (p : PageView). p.flag) pages
-    → (n : ℕ) (q : PageView) → slice_get pages' n ≡ Some q → (page : PageView) × (slice_get pages n ≡ Some page) × (page.slots ≡ q.slots) × (page.flag ≡ q.flag)
-same-page pages pages' slots flags n q at =
-    let slots_of : PageView → List Slot = λ (p : PageView). p.slots in
-    let flag_of : PageView → Bool = λ (p : PageView). p.flag in
-    let by_slots = sym (slice_get-map slots_of pages n) ∙ ap (λ (l : List (List Slot)). slice_get l n) (sym slots) ∙ slice_get-map slots_of pages' n ∙ ap (option_map slots_of) at in
-    let by_flag = sym (slice_get-map flag_of pages n) ∙ ap (λ (l : List Bool). slice_get l n) (sym flags) ∙ slice_get-map flag_of pages' n ∙ ap (option_map flag_of) at in
-    let here = mapped-from slots_of (slice_get pages n) q.slots by_slots in
-    (here.0, here.1, here.2, same_Some here.0.flag q.flag (ap (option_map flag_of) (sym here.1) ∙ by_flag))
 
 ids-on : (w v : Window) (horizon : ℕ) (slots : List Slot) → SameIds w v → SettlesOn w v horizon horizon slots
 ids-on w v horizon slots same = record {
@@ -103,15 +84,8 @@ module _ (w : Window) (horizon : ℕ) where
 
   kept-true : (h h' : HeapView) → Keeps h h' → AreTrue h → AreTrue h'
   kept-true h h' k t =
-      let old : (n : ℕ) (q : PageView) → slice_get h'.pages.pages n ≡ Some q → (page : PageView) × (slice_get h.pages.pages n ≡ Some page) × (page.slots ≡ q.slots) × (page.flag ≡ q.flag)
-      = same-page h.pages.pages h'.pages.pages k.slots k.flags in
-      let slots_of : PageView → List Slot = λ (p : PageView). p.slots in
-      let long = sym (length-map h'.pages.pages slots_of) ∙ ap (λ (l : List (List Slot)). length l) k.slots ∙ length-map h.pages.pages slots_of in
-      subst (λ ms. MapsAreTrue w horizon h'.pages.pages ms) (sym k.marks) (record {
-        count = t.count ∙ sym long;
-        true_marks = λ n q at. let o = old n q at in subst (λ slots. IsTrueMark w horizon slots (mark_on h.pages.marks n)) o.2 (t.true_marks n o.0 o.1);
-        true_flags = λ n q at. let o = old n q at in sym o.3 ∙ t.true_flags n o.0 o.1;
-      })
+      subst (λ (pages : List PageView). MapsAreTrue w horizon pages h'.pages.marks) (sym k.pages)
+      (subst (λ (marks : List Mark). MapsAreTrue w horizon h.pages.pages marks) (sym k.marks) t)
 
   readied-true : (h h' : HeapView) (place : Tid) (later size : ℕ) → SameIds w h.statuses → PrunesIfFull h h' place later size → AreTrue h → AreTrue h'
   readied-true h h' place later size ids (PrunesIfFull.has_room room is) t = subst AreTrue (sym is) t

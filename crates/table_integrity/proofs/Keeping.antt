@@ -29,6 +29,7 @@ use Rattle.heap_write.specs.Writes.{TakesIds, PrunesIfFull, Prunes}
 use Rattle.heap_write.specs.Refusals.{FailsUpdate}
 use Rattle.heap_write.specs.declared.heap.WriteFault.{WriteFault}
 use Rattle.heap_write.specs.declared.heap.WriteFault.TheVariants as fault
+use Rattle.heap_write.proofs.PageLemmas.{slots-kept}
 use Rattle.table_integrity.specs.Table.{SoundTable, StaysSoundTable}
 use Rattle.table_integrity.specs.Laws.{FinishesInTable}
 use Rattle.table_integrity.proofs.Memory.{same-status, same-sound}
@@ -88,7 +89,7 @@ aborted-stays h h' horizon ids s f theirs =
 -- There is more memory.
 
 pub kept-stays : (h h' : HeapView) (horizon : ℕ) → SoundTable h horizon → Keeps h h' → StaysSoundTable h h' horizon
-kept-stays h h' horizon s k = slots-stay h h' horizon k.slots k.entries still
+kept-stays h h' horizon s k = slots-stay h h' horizon (slots-kept h h' k) k.entries still
     (λ n used. statuses-stay h.statuses h'.statuses (λ x gone. same-status h.statuses h'.statuses k.statuses x ∙ gone) (λ x done. same-status h.statuses h'.statuses k.statuses x ∙ done)
     (value_in n) (since_at h.indexes n) horizon horizon (slots_of h) (entries_in h.indexes n)
     (index-sound h horizon s n used) still)
@@ -105,7 +106,7 @@ abbrev pub with_table : HeapView → Window → HeapView
 with_table h w = record h { statuses = w }
 
 as-was : (h : HeapView) (w : Window) (horizon : ℕ) → SameIds h.statuses w → SoundTable h horizon → StaysSoundTable h (with_table h w) horizon
-as-was h w horizon ids s = kept-stays h (with_table h w) horizon s (record { slots = refl; changes = refl; flags = refl; marks = refl; statuses = ids; entries = entries-kept h.indexes; max_pages = refl })
+as-was h w horizon ids s = kept-stays h (with_table h w) horizon s (record { pages = refl; marks = refl; statuses = ids; entries = entries-kept h.indexes; max_pages = refl })
 
 pub ready-come : (h h' : HeapView) (place : Tid) (horizon size : ℕ) → PrunesIfFull h h' place horizon size → OnlyCome h.indexes h'.indexes
 ready-come h h' place horizon size (PrunesIfFull.has_room room is) = same-come h.indexes h'.indexes (same-entries h.indexes h'.indexes (ap (λ (g : HeapView). g.indexes) is))

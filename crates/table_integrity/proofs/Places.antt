@@ -24,6 +24,7 @@ use Rattle.index_lookup.proofs.PageLists.{slots-there, puts-with_page, puts-push
 use Rattle.snapshot.specs.Own.{Own}
 use Rattle.heap_write.specs.Heap.{HeapView, slots_of, unused_page, page_on, PutsPage}
 use Rattle.heap_write.specs.Writes.{PutsRoot, SetsXmax, HotUpdates, ColdUpdates, UpdatesOnPage, Replaces, PrunesIfFull, Prunes, Inserts, Updates, Deletes}
+use Rattle.heap_write.proofs.PageLemmas.{slots-kept}
 use Rattle.table_integrity.proofs.Memory.{cut-back}
 
 -- Changes of what stands at each place.
@@ -312,22 +313,23 @@ readies-stand h h' place horizon size (PrunesIfFull.has_room room is) = record {
   gone = λ p t at. inl (ap (λ (g : HeapView). version_in (slots_of g) p) is ∙ at);
 }
 readies-stand h h' place horizon size (PrunesIfFull.is_left full goes keeps) = record {
-  kept = λ p t at. ap (λ pages. version_in pages p) (sym keeps.slots) ∙ at;
-  gone = λ p t at. inl (ap (λ pages. version_in pages p) keeps.slots ∙ at);
+  kept = λ p t at. ap (λ pages. version_in pages p) (sym (slots-kept h h' keeps)) ∙ at;
+  gone = λ p t at. inl (ap (λ pages. version_in pages p) (slots-kept h h' keeps) ∙ at);
 }
 readies-stand h h' place horizon size (PrunesIfFull.is_pruned full grown keeps prunes) =
     let n = place.page in
     let stands = prunes-stand grown h' n horizon prunes in
+    let same = slots-kept h grown keeps in
     record {
-      kept = λ p t at. ap (λ pages. version_in pages p) (sym keeps.slots) ∙ stands.kept p t at;
+      kept = λ p t at. ap (λ pages. version_in pages p) (sym same) ∙ stands.kept p t at;
       gone = λ p t at. ⊎_elim
           (λ stays. inl stays)
           (λ cut. inr (
             cut.0,
             cut-back h.statuses grown.statuses horizon (slots_on (slots_of h) n) p.slot keeps.statuses
-                (subst (λ pages. IsCut grown.statuses horizon (slots_on pages n) p.slot) keeps.slots cut.1),
+                (subst (λ pages. IsCut grown.statuses horizon (slots_on pages n) p.slot) same cut.1),
           ))
-          (stands.gone p t (ap (λ pages. version_in pages p) keeps.slots ∙ at));
+          (stands.gone p t (ap (λ pages. version_in pages p) same ∙ at));
     }
 
 -- Writes.

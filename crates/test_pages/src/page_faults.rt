@@ -2,7 +2,6 @@
 
 use page_slots::PageFault::{BadPointer, BadRedirect, BadTuple, Bounds, Header, Length, Overlap};
 use page_slots::{Page, PageFault, check_page, reads_back};
-use std::alloc::Global;
 
 /// The header and the one pointer of a page: change number 1, pd_lower 28, pd_upper 8120, the size and layout version, and a
 /// version of 66 bytes at 8120.
@@ -133,8 +132,8 @@ fn page_of_bytes(rt: HostRuntime) {
 }
 
 /// How many slots are read from the own bytes of a page with none.
-fn slots_read_back(alloc: Global) -> Option<u16> {
-    match reads_back(&Page::new(alloc)) {
+fn slots_read_back() -> Option<u16> {
+    match reads_back(&Page::new()) {
         Ok(page) => Some(page.slots()),
         Err(_fault) => None,
     }
@@ -142,5 +141,5 @@ fn slots_read_back(alloc: Global) -> Option<u16> {
 
 #[test]
 fn a_page_is_read_from_its_own_bytes(rt: HostRuntime) {
-    assert_eq!(rt; slots_read_back(rt.alloc()), Some(0));
+    assert_eq!(rt; slots_read_back(), Some(0));
 }

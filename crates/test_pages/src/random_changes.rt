@@ -220,7 +220,7 @@ fn a_page_is_as_the_list_of_its_slots(rt: HostRuntime) -> Result<(), Fail> {
             slots: ArrayVec::new(),
             change: 0,
         };
-        go_through(Page::new(rt.alloc()), list, seed)?;
+        go_through(Page::new(), list, seed)?;
     }
     Ok(())
 }

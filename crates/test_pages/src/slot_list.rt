@@ -32,17 +32,17 @@ pub fn size_of(length: u16) -> usize {
     (usize::from(length) + 66).div_ceil(8).saturating_mul(8)
 }
 
-fn taken(listed: &Listed) -> usize {
+fn bytes_of(listed: &Listed) -> usize {
     match listed {
         Listed::Version(_key, length, _heap_only) => size_of(*length),
         Listed::Unused | Listed::Redirect(_) | Listed::Dead => 0,
     }
 }
 
-fn all_taken(slots: &[Listed]) -> usize {
+fn bytes_of_all(slots: &[Listed]) -> usize {
     let mut bytes: usize = 0;
     for listed in slots {
-        bytes = bytes.saturating_add(taken(listed));
+        bytes = bytes.saturating_add(bytes_of(listed));
     }
     bytes
 }
@@ -72,7 +72,7 @@ impl SlotList {
         let pointers = self.slots.len().saturating_mul(4);
         let free = 8168usize
             .saturating_sub(pointers)
-            .saturating_sub(all_taken(&self.slots));
+            .saturating_sub(bytes_of_all(&self.slots));
         if first_unused(&self.slots).is_some() {
             free
         } else if self.slots.len() < MOST {

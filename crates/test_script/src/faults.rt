@@ -23,10 +23,7 @@ static TUPLE_FAULTS: [(TupleFault, &str); 9] = [
     (TupleFault::Ctid, "there is no such slot"),
 ];
 
-static ADD_FAULTS: [(AddFault, &str); 2] = [
-    (AddFault::Full, "there is no room on the page"),
-    (AddFault::NoMemory, "there is no memory"),
-];
+static ADD_FAULTS: [(AddFault, &str); 1] = [(AddFault::Full, "there is no room on the page")];
 
 static GIVE_FAULTS: [(GiveFault, &str); 2] = [
     (GiveFault::NeedsFreeze, "old ids have to be frozen first"),

@@ -50,16 +50,15 @@ fn version_of(length: usize) -> Tuple {
     }
 }
 
-fn page_of(alloc: Global, versions: u8) -> Result<Page, AllocError> {
-    let mut page = Page::new(alloc);
-    page.make_room(usize::from(versions))?;
+fn page_of(versions: u8) -> Page {
+    let mut page = Page::new();
     for _ in 0..versions {
         let _ = page.add(version_of(LARGEST));
     }
-    Ok(page)
+    page
 }
 
-fn push(pages: &mut Pages, page: Page) -> Result<(), AllocError> {
+fn push(pages: &mut Pages, page: Box<Page>) -> Result<(), AllocError> {
     pages.make_room(1)?;
     if pages.len() < MOST_PAGES {
         pages.push_page(page);
@@ -69,7 +68,7 @@ fn push(pages: &mut Pages, page: Page) -> Result<(), AllocError> {
 
 fn add(alloc: Global, pages: &mut Pages, count: u16, versions: u8) -> Result<(), AllocError> {
     for _ in 0..count {
-        push(pages, page_of(alloc, versions)?)?;
+        push(pages, Box::new(alloc, page_of(versions))?)?;
     }
     Ok(())
 }

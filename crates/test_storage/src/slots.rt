@@ -11,8 +11,6 @@ use xid_circle::{Tid, Xid};
 /// What is done to a page, or asked of it.
 #[derive(Clone, Copy)]
 enum PageStep {
-    /// So many more slots are to take no memory.
-    MakeRoom(usize),
     /// A version is added, of this key and with a body of so many bytes.
     Add(u8, usize, Result<u16, AddFault>),
     /// The same, but of a row that stands elsewhere.
@@ -78,7 +76,6 @@ fn add_row(page: &mut Page, key: u8, length: usize) -> Result<u16, AddFault> {
     if row_size(&version.row) > page.room() {
         return Err(AddFault::Full);
     }
-    page.make_room(1).map_err(|_| AddFault::NoMemory)?;
     Ok(page.add_row(version.header, &version.row))
 }
 
@@ -218,7 +215,6 @@ impl Step for PageStep {
 
     fn is_so(&self, _alloc: Global, page: &mut Page) -> Result<bool, AllocError> {
         match *self {
-            PageStep::MakeRoom(count) => page.make_room(count)?,
             PageStep::Add(key, length, told) => return Ok(add(page, key, length) == told),
             PageStep::AddRow(key, length, told) => return Ok(add_row(page, key, length) == told),
             PageStep::SetDead(number) => set_dead(page, number),
@@ -263,11 +259,10 @@ static ROOM: [PageStep; 20] = [
 
 #[test]
 fn room_of_a_page(rt: HostRuntime) -> Result<(), Fail> {
-    run(rt.alloc(), Page::new(rt.alloc()), &ROOM)
+    run(rt.alloc(), Page::new(), &ROOM)
 }
 
-static NUMBERS_AND_CHANGES: [PageStep; 40] = [
-    PageStep::MakeRoom(5),
+static NUMBERS_AND_CHANGES: [PageStep; 39] = [
     PageStep::State(0, false),
     PageStep::Change(0),
     PageStep::Add(1, 0, Ok(1)),
@@ -313,7 +308,7 @@ static NUMBERS_AND_CHANGES: [PageStep; 40] = [
 
 #[test]
 fn numbers_of_slots_and_changes(rt: HostRuntime) -> Result<(), Fail> {
-    run(rt.alloc(), Page::new(rt.alloc()), &NUMBERS_AND_CHANGES)
+    run(rt.alloc(), Page::new(), &NUMBERS_AND_CHANGES)
 }
 
 /// A hint, then both marks of the inserter, then a deleter, then a hint.
@@ -333,7 +328,7 @@ static CHANGES_OF_A_HEADER: [PageStep; 11] = [
 
 #[test]
 fn changes_of_a_header(rt: HostRuntime) -> Result<(), Fail> {
-    run(rt.alloc(), Page::new(rt.alloc()), &CHANGES_OF_A_HEADER)
+    run(rt.alloc(), Page::new(), &CHANGES_OF_A_HEADER)
 }
 
 /// Slots with a row, unused, that lead elsewhere, dead, and that are not there.
@@ -360,7 +355,7 @@ static KINDS_OF_SLOTS: [PageStep; 18] = [
 
 #[test]
 fn looks_into_a_page(rt: HostRuntime) -> Result<(), Fail> {
-    run(rt.alloc(), Page::new(rt.alloc()), &KINDS_OF_SLOTS)
+    run(rt.alloc(), Page::new(), &KINDS_OF_SLOTS)
 }
 
 /// Seven versions, without the second and the fourth.
@@ -388,7 +383,7 @@ static GAPS: [PageStep; 18] = [
 
 #[test]
 fn gaps_are_filled(rt: HostRuntime) -> Result<(), Fail> {
-    run(rt.alloc(), Page::new(rt.alloc()), &GAPS)
+    run(rt.alloc(), Page::new(), &GAPS)
 }
 
 /// A version of 66 bytes, which is then marked dead.
@@ -418,7 +413,7 @@ static BYTES: [PageStep; 17] = [
 
 #[test]
 fn bytes_of_a_page(rt: HostRuntime) -> Result<(), Fail> {
-    run(rt.alloc(), Page::new(rt.alloc()), &BYTES)
+    run(rt.alloc(), Page::new(), &BYTES)
 }
 
 /// Seven versions, without the third, and another in its place.
@@ -455,5 +450,5 @@ static COMPACTION: [PageStep; 26] = [
 
 #[test]
 fn versions_are_moved_together(rt: HostRuntime) -> Result<(), Fail> {
-    run(rt.alloc(), Page::new(rt.alloc()), &COMPACTION)
+    run(rt.alloc(), Page::new(), &COMPACTION)
 }

@@ -62,17 +62,19 @@ fn row(key: u64, first: i64) -> Row {
 }
 
 /// A page of this number with rows of these ids, keys and first columns.
-fn page_of(alloc: Global, number: u32, rows: &[(u32, u64, i64)]) -> Page {
-    let mut page = Page::new(alloc);
+fn page_of(number: u32, rows: &[(u32, u64, i64)]) -> Page {
+    let mut page = Page::new();
     for (x, key, first) in rows {
         let _ = insert(&mut page, number, *x, &row(*key, *first));
     }
     page
 }
 
-fn add_page(pages: &mut Pages, page: Page) {
+fn add_page(alloc: Global, pages: &mut Pages, page: Page) {
     if pages.make_room(1).is_ok() && pages.len() < MOST_PAGES {
-        pages.push_page(page);
+        if let Ok(page) = Box::new(alloc, page) {
+            pages.push_page(page);
+        }
     }
 }
 
@@ -83,10 +85,10 @@ static SEVEN_AND_EIGHT: [(u32, u64, i64); 2] = [(3, 7, 70), (3, 8, 80)];
 /// On page 0 id 5 inserted key 7. On page 1 id 3 inserted keys 7 and 8, and id 4 updated key 7.
 fn two_pages(alloc: Global) -> Pages {
     let mut pages = Pages::new(alloc);
-    add_page(&mut pages, page_of(alloc, 0, &FIVE));
-    let mut second = page_of(alloc, 1, &SEVEN_AND_EIGHT);
+    add_page(alloc, &mut pages, page_of(0, &FIVE));
+    let mut second = page_of(1, &SEVEN_AND_EIGHT);
     let _ = update(&mut second, 1, 1, 4, &row(7, 71));
-    add_page(&mut pages, second);
+    add_page(alloc, &mut pages, second);
     pages
 }
 
@@ -97,8 +99,8 @@ static NINE_EIGHT_AND_TEN: [(u32, u64, i64); 3] = [(3, 9, 92), (3, 8, 80), (3, 1
 /// No engine makes these: on page 0 id 4 inserted key 9, and then id 3. On page 1 id 3 inserted key 9 again, and keys 8 and 10.
 fn three_of_a_key(alloc: Global) -> Pages {
     let mut pages = Pages::new(alloc);
-    add_page(&mut pages, page_of(alloc, 0, &NINE_TWICE));
-    add_page(&mut pages, page_of(alloc, 1, &NINE_EIGHT_AND_TEN));
+    add_page(alloc, &mut pages, page_of(0, &NINE_TWICE));
+    add_page(alloc, &mut pages, page_of(1, &NINE_EIGHT_AND_TEN));
     pages
 }
 

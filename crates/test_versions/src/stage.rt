@@ -1,6 +1,6 @@
 //! Steps of a page and of the table of ids.
 
-ghost use Rattle.std.specs.Prelude.{◌≤◌, ◌<◌, IsTrue};
+ghost use Rattle.std.specs.Prelude.{◌≤◌, IsTrue};
 ghost use Rattle.page_slots.specs.Slots.{room_of};
 ghost use Rattle.tuple_header.specs.Version.{rounded_size_of};
 
@@ -146,15 +146,11 @@ fn set_dead(page: &mut Page, number: u16) {
     }
 }
 
-/// Whether the page has room for the row, and memory for a slot.
-fn has_place(page: &mut Page, row: &Row) -> bool
-    ensures room { IsTrue result → rounded_size_of row.now ≤ room_of page.new.slots }
-    ensures memory { IsTrue result → 0 < page.new.spare }
+/// Whether the page has room for the row.
+fn has_place(page: &Page, row: &Row) -> bool
+    ensures { IsTrue result → rounded_size_of row.now ≤ room_of page.now.slots }
 {
-    match page.make_room(1) {
-        Ok(()) => (66 + row.body.len()).next_multiple_of(8) <= page.room(),
-        Err(_) => false,
-    }
+    (66 + row.body.len()).next_multiple_of(8) <= page.room()
 }
 
 /// Inserts a row on the page of this number, and answers its slot.
@@ -403,7 +399,7 @@ impl PageStep {
 fn new_stage(alloc: Global, first: u32) -> Stage {
     Stage {
         statuses: table_of(alloc, first, 5),
-        page: Page::new(alloc),
+        page: Page::new(),
     }
 }
 

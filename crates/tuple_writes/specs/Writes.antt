@@ -1,11 +1,11 @@
 -- The slots of a page after a write.
-use Rattle.std.specs.Prelude.{◌≡◌, ℕ, ◌≤◌, ◌+◌, Bool, true, List}
+use Rattle.std.specs.Prelude.{◌≡◌, ℕ, Bool, true, List}
 use Rattle.xid_circle.specs.Numbers.{Id, PageNo, SlotNo, Count}
 use Rattle.xid_circle.specs.declared.Tid.{Tid}
 use Rattle.page_slots.specs.declared.slot.Slot.{Slot}
 use Rattle.page_slots.specs.declared.slot.Slot.TheVariants.{Unused, Normal, Redirect, Dead}
 use Rattle.page_slots.specs.View.{PageView}
-use Rattle.page_slots.specs.Slots.{the_slot, with_slot, with_added, has_unused, free_number, change_unless}
+use Rattle.page_slots.specs.Slots.{the_slot, with_slot, with_added, free_number, change_unless}
 use Rattle.page_slots.specs.Hints.{same_but_hints}
 use Rattle.tuple_header.specs.declared.version.Row.{Row}
 use Rattle.tuple_writes.specs.Headers.{replaced_header, root_header, heap_only_header}
@@ -50,12 +50,9 @@ pub record PutsXmax (page page' : PageView) (n : SlotNo) (x : Id) (successor : T
   pub slots : page'.slots ≡ with_replaced page.slots n x successor.page successor.slot hot
   pub change : page'.change ≡ replaced_change page.slots n x successor.page successor.slot hot page.change
   pub flag : page'.flag ≡ page.flag
-  pub spare : page'.spare ≡ page.spare
 
--- a version has come: the page has these slots and this change number now, and memory for one slot less at most
+-- a version has come: the page has these slots and this change number now
 pub record AddsToPage (page page' : PageView) (now : List Slot) (count : Count) : Type 0 where
   pub slots : page'.slots ≡ now
   pub change : page'.change ≡ count
   pub flag : page'.flag ≡ page.flag
-  pub spare : page.spare ≤ page'.spare + 1
-  pub spare_kept : has_unused page.slots ≡ true → page.spare ≤ page'.spare

@@ -3,7 +3,7 @@
 //! An insert adds a version as a root. A delete, and an update whose new version goes to another page, take a version
 //! away. A HOT update replaces it by a heap-only one on the same page (README.HOT). `specs/Headers.antt` and
 //! `specs/Writes.antt` say exactly what each leaves, and the functions promise that. None takes memory: the caller has
-//! tested the room and asked for memory before.
+//! tested the room.
 //!
 //! The laws say that a sound page, as pruning asks for, stays sound, and index entries stay right, under each write by an
 //! id in progress, when ids are given or finish, and under a later horizon (`specs/Laws.antt`).

@@ -1,9 +1,7 @@
-//! Writes. None takes memory, and each fits: whoever calls one has tested the page's room, and asked for memory by
-//! `Page::make_room` where the page has no slot.
+//! Writes. None takes memory, and each fits: whoever calls one has tested the page's room.
 
 ghost use Rattle.std.specs.Prelude.{◌≡◌, ◌≤◌, false, true};
 ghost use Rattle.xid_circle.specs.Circle.{IsNormal};
-ghost use Rattle.page_slots.specs.View.{HasSlot};
 ghost use Rattle.page_slots.specs.Slots.{room_of, free_number, next_change, IsNormalAt};
 ghost use Rattle.tuple_header.specs.Version.{rounded_size_of};
 ghost use Rattle.tuple_writes.specs.Writes.{replaced_change, with_root, with_updated, PutsXmax, AddsToPage};
@@ -16,12 +14,10 @@ use xid_circle::{Tid, Xid};
 
 /// Adds a version of the row, made by `x`, a normal id, as a root in the lowest unused slot, else in a new last one, and
 /// answers the slot's number. It is marked as made by an update, if it is, or else by an insert. The page has the number
-/// given, room for the row, and an unused slot or memory for a new one. (PostgreSQL, `heap_insert` and `heap_update` in
-/// src/backend/access/heap/heapam.c.)
+/// given, and room for the row. (PostgreSQL, `heap_insert` and `heap_update` in src/backend/access/heap/heapam.c.)
 pub fn add_root(page: &mut Page, number_of_page: u32, updated: bool, x: Xid, row: &Row) -> u16
     requires normal { IsNormal x.0 }
     requires room { rounded_size_of row.now ≤ room_of page.old.slots }
-    requires memory { HasSlot page.old }
     ensures number { result ≡ free_number page.old.slots }
     ensures limit { result ≤ MOST_SLOTS }
     ensures adds { AddsToPage page.old page.new
@@ -81,13 +77,12 @@ pub fn mark_cold_updated(page: &mut Page, slot: u16, x: Xid, place: Tid)
 }
 
 /// Updates the version in a slot by one of this row on the same page, as `x`, a normal id, and answers the new one's slot:
-/// the old one is HOT-updated, the new one heap-only. The page has the number given, room for the row, and an unused slot
-/// or memory for a new one. (README.HOT: such an update makes no index entry.)
+/// the old one is HOT-updated, the new one heap-only. The page has the number given, and room for the row. (README.HOT: such an
+/// update makes no index entry.)
 pub fn hot_update(page: &mut Page, number_of_page: u32, slot: u16, x: Xid, row: &Row) -> u16
     requires version { IsNormalAt page.old.slots slot }
     requires normal { IsNormal x.0 }
     requires room { rounded_size_of row.now ≤ room_of page.old.slots }
-    requires memory { HasSlot page.old }
     ensures number { result ≡ free_number page.old.slots }
     ensures limit { result ≤ MOST_SLOTS }
     ensures adds { AddsToPage page.old page.new

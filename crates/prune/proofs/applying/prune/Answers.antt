@@ -1,6 +1,6 @@
 use Rattle.std.proofs.Common.{ap, ◌∙◌}
 use Rattle.page_slots.specs.View.{PageView}
-use Rattle.prune.proofs.Listing.{applied-flag, applied-spare}
+use Rattle.prune.proofs.Listing.{applied-flag}
 use Rattle.prune.proofs.Planned.{plan-pruned}
 use Rattle.prune.proofs.Removing.{pruned-removes, pruned-keeps_roots}
 use Rattle.prune.proofs.Unseen.{removed-keeps_found}
@@ -22,9 +22,6 @@ returns-clause-roots c = λ apart.
 
 pub returns-clause-flag : goal.returns-clause-flag
 returns-clause-flag c = ap (λ (p : PageView). p.flag) c.prune_by_plan.ensures.is ∙ applied-flag c.prune_by_plan.ensures.actions c.args.page.now
-
-pub returns-clause-spare : goal.returns-clause-spare
-returns-clause-spare c = ap (λ (p : PageView). p.spare) c.prune_by_plan.ensures.is ∙ applied-spare c.prune_by_plan.ensures.actions c.args.page.now
 
 pub returns-clause-never_seen : goal.returns-clause-never_seen
 returns-clause-never_seen c = λ sound.

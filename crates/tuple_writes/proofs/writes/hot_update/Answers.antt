@@ -1,6 +1,5 @@
-use Rattle.std.proofs.Common.{◌≡◌, ◌≤◌, true, rules, arith, ◌∙◌}
+use Rattle.std.proofs.Common.{◌≡◌, rules, ◌∙◌}
 use Rattle.page_slots.specs.declared.slot.Slot.TheVariants.{Normal}
-use Rattle.page_slots.specs.Slots.{has_unused}
 use Rattle.tuple_writes.specs.Writes.{with_updated}
 use Rattle.tuple_writes.proofs.Altered.{change-updated}
 use Rattle.tuple_writes.proofs.writes.hot_update.Goals as goal
@@ -9,7 +8,6 @@ pub returns-clause-adds : goal.returns-clause-adds
 returns-clause-adds c =
     let was = c.args.page.now in
     let now : c.set_xmax.new.page.slots ≡ with_updated was.slots c.args.slot c.args.x.0 c.args.number_of_page c.args.row.now = search rules in
-    let kept : has_unused was.slots ≡ true → was.spare ≤ c.set_xmax.new.page.spare = λ some. omega (arith, c.add_row.ensures.spare_kept some, c.set_xmax.ensures.spare) in
     record {
       slots = now;
       change = c.set_xmax.ensures.change
@@ -17,6 +15,4 @@ returns-clause-adds c =
           c.args.number_of_page c.free_number-number.result was.change c.add_row.new.self.change
           c.requires.version c.add_row.ensures.slots c.free_number-number.ensures.value c.add_row.ensures.change;
       flag = c.set_xmax.ensures.flag ∙ c.add_row.ensures.flag;
-      spare = omega (arith, c.add_row.ensures.spare, c.set_xmax.ensures.spare);
-      spare_kept = kept;
     }

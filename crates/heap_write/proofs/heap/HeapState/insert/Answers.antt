@@ -5,7 +5,8 @@ use Rattle.heap_write.specs.declared.target.Target.{Target}
 use Rattle.heap_write.specs.Heap.{HeapView}
 use Rattle.heap_write.specs.Writes.{NeedsFreeze, Inserts, TableIsFull}
 use Rattle.heap_write.specs.Refusals.{RootNeedsMemory, LacksForInsert}
-use Rattle.heap_write.specs.Growth.{Reserves}
+use Rattle.heap_pages.specs.Choice.{IsPlaceFor}
+use Rattle.heap_write.specs.Growth.{place_of_target}
 use Rattle.heap_write.specs.contracts.heap.HeapState.{the_view}
 use Rattle.heap_write.proofs.Reserving.{needs-memory, room-left, insert-refused}
 use Rattle.heap_write.proofs.Writing.{both-ok, inserts}
@@ -20,10 +21,10 @@ pub returns-in-Ok-Some-clause-ok : goal.returns-in-Ok-Some-clause-ok
 returns-in-Ok-Some-clause-ok c =
     let h = the_view c.self.inside in
     let free = iff_false c.needs_freeze.ensures c.if-needs_freeze.false in
-    let R : ℕ → Option Target → Type 0 = λ size found. Reserves c.self.inside.pages c.reserve_place.new.pages c.self.inside.max_pages size found in
-    let reserves = subst (λ found. R (rounded_size_of c.args.row.now) found) c.in-Ok-Some.field-0-is (subst (λ size. R size c.in-Ok-Some.field-0) c.row_size.ensures.value c.in-Ok-Some.ensures.reserves) in
+    let R : ℕ → Option Target → Type 0 = λ size found. IsPlaceFor c.self.inside.pages.pages c.self.inside.max_pages size (place_of_target found) in
+    let chosen = subst (λ found. R (rounded_size_of c.args.row.now) found) c.in-Ok-Some.field-0-is (subst (λ size. R size c.in-Ok-Some.field-0) c.row_size.ensures.value c.in-Ok-Some.ensures.chosen) in
     both-ok c.insert_at.result (λ x takes root. subst (λ v. Inserts v c.insert_at.new.self c.args.own.now c.insert_at.new.own c.args.row.now x.0) c.self.view_is
-    (inserts h _ c.insert_at.new.self c.args.own.now c.insert_at.new.own c.args.row.now x.0 c.in-Ok-Some.target free reserves (record { entries = λ n. refl; since = λ n. refl }) takes root c.insert_at.ensures.max_pages)) c.insert_at.ensures.takes c.insert_at.ensures.root
+    (inserts h _ c.insert_at.new.self c.args.own.now c.insert_at.new.own c.args.row.now x.0 c.in-Ok-Some.target free chosen c.reserve_place.ensures.same (record { entries = λ n. refl; since = λ n. refl }) takes root c.insert_at.ensures.max_pages)) c.insert_at.ensures.takes c.insert_at.ensures.root
 
 pub returns-in-Err-clause-fault : goal.returns-in-Err-clause-fault
 returns-in-Err-clause-fault c =
@@ -39,11 +40,11 @@ returns-in-Ok-Some-clause-fault c =
     let own = c.args.own.now in
     let size = rounded_size_of c.args.row.now in
     let free = iff_false c.needs_freeze.ensures c.if-needs_freeze.false in
-    let R : ℕ → Option Target → Type 0 = λ n found. Reserves c.self.inside.pages c.reserve_place.new.pages c.self.inside.max_pages n found in
-    let reserves = subst (λ found. R size found) c.in-Ok-Some.field-0-is (subst (λ n. R n c.in-Ok-Some.field-0) c.row_size.ensures.value c.in-Ok-Some.ensures.reserves) in
+    let R : ℕ → Option Target → Type 0 = λ n found. IsPlaceFor c.self.inside.pages.pages c.self.inside.max_pages n (place_of_target found) in
+    let chosen = subst (λ found. R size found) c.in-Ok-Some.field-0-is (subst (λ n. R n c.in-Ok-Some.field-0) c.row_size.ensures.value c.in-Ok-Some.ensures.chosen) in
     let failed = c.insert_at.ensures in
     subst (λ v. IfErr c.insert_at.result (λ fault. LacksForInsert v own c.args.row.now fault)) c.self.view_is
-    (insert-refused h own c.args.row.now c.insert_at.result free (room-left h size c.in-Ok-Some.target reserves.0) failed.fault failed.needs)
+    (insert-refused h own c.args.row.now c.insert_at.result free (room-left h size c.in-Ok-Some.target chosen) failed.fault failed.needs)
 
 pub returns-in-Ok-Some-clause-err : goal.returns-in-Ok-Some-clause-err
 returns-in-Ok-Some-clause-err c =

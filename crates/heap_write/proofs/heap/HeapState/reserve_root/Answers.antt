@@ -3,11 +3,12 @@ use Rattle.std.specs.Prelude.{OnErr}
 use Rattle.std.proofs.lemmas.Result.{IfOk-weaker, on_err_weaker}
 use Rattle.heap_write.specs.Heap.{HeapView}
 use Rattle.heap_write.specs.Refusals.{RootNeedsMemory}
-use Rattle.heap_write.specs.Growth.{Reserves}
+use Rattle.heap_pages.specs.Choice.{IsPlaceFor}
+use Rattle.heap_write.specs.Growth.{place_of_target}
 use Rattle.heap_write.specs.Steps.{IsChosen}
 use Rattle.heap_write.specs.contracts.heap.HeapState.{the_view}
 use Rattle.heap_write.proofs.PageLemmas.{keeps-viewed}
-use Rattle.heap_write.proofs.Reserving.{reserves-chosen, needs-memory}
+use Rattle.heap_write.proofs.Reserving.{chosen-kept, needs-memory}
 use Rattle.heap_write.proofs.HintLemmas.{hints-same_ids, hints-grown}
 use Rattle.heap_write.proofs.heap.HeapState.reserve_root.Goals as goal
 
@@ -17,8 +18,8 @@ returns-clause-keeps c = keeps-viewed (the_view c.self.inside) _ _ c.self.view_i
 pub returns-clause-chosen : goal.returns-clause-chosen
 returns-clause-chosen c =
     let h : HeapView = record { pages = c.reserve_place.new.pages; statuses = c.reserve_ids.new.statuses; indexes = c.make_room.new.self; max_pages = c.self.inside.max_pages } in
-    IfOk-weaker c.reserve_place.result (λ found. Reserves c.self.inside.pages c.reserve_place.new.pages c.self.inside.max_pages c.args.size found) (λ found. IsChosen h c.args.size found)
-    (λ found reserves. reserves-chosen c.self.inside.pages h c.args.size found reserves) c.reserve_place.ensures.reserves
+    IfOk-weaker c.reserve_place.result (λ found. IsPlaceFor c.self.inside.pages.pages c.self.inside.max_pages c.args.size (place_of_target found)) (λ found. IsChosen h c.args.size found)
+    (λ found chosen. chosen-kept c.self.inside.pages h c.args.size found c.reserve_place.ensures.same chosen) c.reserve_place.ensures.chosen
 
 pub returns-clause-needs : goal.returns-clause-needs
 returns-clause-needs c =

@@ -4,8 +4,6 @@ use Rattle.page_slots.specs.Slots.{room_of}
 use Rattle.heap_pages.specs.View.{PagesView}
 use Rattle.commit_status.specs.Window.{IsWindow}
 use Rattle.heap_write.specs.Heap.{HeapView}
-use Rattle.page_slots.specs.View.{HasSlot}
-use Rattle.heap_write.specs.Growth.{page_in}
 use Rattle.heap_write.specs.Writes.{NeedsFreeze}
 use Rattle.heap_write.specs.Writes.PrunesIfFull.{has_room}
 use Rattle.heap_write.proofs.Replacing.{is-replaceable, replaceable-kept}
@@ -29,10 +27,6 @@ pub replace_on_page-requires-clause-room : goal.replace_on_page-requires-clause-
 replace_on_page-requires-clause-room c =
     let slots = kept-slots c.args.self.now c.reserve_ids_for-reserved.new.self c.args.place.page c.reserve_ids_for-reserved.ensures.keeps in
     subst (λ s. rounded_size_of c.args.row.now ≤ room_of s) (sym slots) c.requires.room
-
-pub replace_on_page-requires-clause-has_slot : goal.replace_on_page-requires-clause-has_slot
-replace_on_page-requires-clause-has_slot c =
-    subst (λ (p : PagesView). HasSlot (page_in p.pages c.args.place.page)) (sym c.reserve_ids_for-reserved.ensures.pages) c.fact_slot_beside.ensures
 
 pub replace_on_page-requires-clause-heap_only : goal.replace_on_page-requires-clause-heap_only
 replace_on_page-requires-clause-heap_only c =

@@ -1,21 +1,17 @@
 use Rattle.std.proofs.Common.{◌≤◌, List, sym, subst}
 use Rattle.std.specs.Prelude.{IsFalse}
 use Rattle.tuple_header.specs.Version.{rounded_size_of}
-use Rattle.page_slots.specs.View.{HasSlot}
 use Rattle.page_slots.specs.declared.slot.Slot.{Slot}
 use Rattle.page_slots.specs.Slots.{room_of}
 use Rattle.commit_status.specs.Window.{IsWindow}
-use Rattle.prune.specs.Room.{IsPlanOf}
-use Rattle.heap_pages.specs.View.{PagesView}
 use Rattle.table_indexes.specs.Indexes.{HasEntries, SameEntries}
 use Rattle.table_indexes.proofs.IndexLemmas.{entries-back}
 use Rattle.heap_write.specs.Heap.{HeapView}
-use Rattle.heap_write.specs.Growth.{page_in}
 use Rattle.heap_write.specs.Writes.Replaces.{on_page}
 use Rattle.heap_write.proofs.Replacing.{once-pruned}
 use Rattle.heap_write.proofs.Writing.{values-on}
-use Rattle.heap_write.proofs.Updating.{kept-slots, answers-memory, answers-done}
-use Rattle.heap_write.proofs.Plans.{can-kept, applied-slot_ready, applied-row, stays-needs}
+use Rattle.heap_write.proofs.Updating.{answers-memory, answers-done}
+use Rattle.heap_write.proofs.Plans.{can-kept, applied-row, stays-needs}
 use Rattle.heap_write.proofs.heap.HeapState.update_on_pruned.Goals as goal
 
 pub apply_plan-requires-clause-can_apply : goal.apply_plan-requires-clause-can_apply
@@ -32,17 +28,6 @@ replace_on_page-requires-clause-room c =
     let grown = c.reserve_ids_for-reserved.ensures in
     let pruned = once-pruned c.apply_plan.new.self grown.keeps grown.own c.apply_plan.ensures c.requires.around c.requires.may in
     subst (λ (l : List Slot). rounded_size_of c.args.row.now ≤ room_of l) (sym pruned.slots) c.requires.fits
-
-pub replace_on_page-requires-clause-has_slot : goal.replace_on_page-requires-clause-has_slot
-replace_on_page-requires-clause-has_slot c =
-    let n = c.args.place.page in
-    let actions = c.args.plan.now.actions.items in
-    let h1 = c.reserve_ids_for-reserved.new.self in
-    let grown = c.reserve_ids_for-reserved.ensures in
-    let pruned = once-pruned c.apply_plan.new.self grown.keeps grown.own c.apply_plan.ensures c.requires.around c.requires.may in
-    let plan = subst (λ (l : List Slot). IsPlanOf l actions) (sym (kept-slots c.args.self.now h1 n grown.keeps)) c.requires.around.planned in
-    let has_slot = subst (λ (p : PagesView). HasSlot (page_in p.pages n)) (sym grown.pages) c.fact_slot_beside.ensures in
-    applied-slot_ready h1 c.apply_plan.new.self n actions pruned.within plan c.apply_plan.ensures has_slot
 
 pub replace_on_page-requires-clause-heap_only : goal.replace_on_page-requires-clause-heap_only
 replace_on_page-requires-clause-heap_only c =
