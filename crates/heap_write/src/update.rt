@@ -1,10 +1,10 @@
 //! A row is updated whose page has room for it.
 
-ghost use Rattle.std.specs.Prelude.{◌≡◌, ℕ, ◌≤◌, ◌⊎◌, IsFalse, IsTrue, OnErr, OnOk, ◌↔◌};
+ghost use Rattle.std.specs.Prelude.{◌≡◌, ℕ, ◌≤◌, ◌⊎◌, IfSome, IsFalse, IsSome, IsTrue, OnErr, OnOk, ◌↔◌};
 ghost use Rattle.snapshot.specs.Own.{unassigned_levels};
-ghost use Rattle.page_slots.specs.Slots.{room_of};
+ghost use Rattle.page_slots.specs.Slots.{room_of, row_at};
 ghost use Rattle.tuple_header.specs.Version.{rounded_size_of};
-ghost use Rattle.table_indexes.specs.Indexes.{HasEntries, NeedsEntry};
+ghost use Rattle.table_indexes.specs.Indexes.{HasEntries, NeedsEntry, SameValues};
 ghost use Rattle.heap_write.specs.Heap.{page_on, Keeps};
 ghost use Rattle.heap_write.specs.Writes.{NewestIsGiven, SameOwn, KeepsValues, HotUpdates, ColdUpdates, UpdatesOnPage};
 ghost use Rattle.heap_write.specs.Refusals.{VersionIsThere, NeedsIds, AnswersUpdate};
@@ -15,6 +15,7 @@ use crate::heap::{Answer, HeapState, WriteFault};
 use crate::hints::expect_write;
 use crate::ids::{needs_freeze, reserve_ids, take_ids};
 use crate::target::Target;
+use page_slots::Page;
 use snapshot::OwnIds;
 use std::alloc::AllocError;
 use tuple_header::{Row, row_size};
@@ -22,15 +23,19 @@ use tuple_writes::{hot_update, mark_cold_updated};
 use xid_circle::{Tid, Xid};
 
 impl HeapState {
-    /// Whether the row has room on the page of this number. A page that is not in use has room for any row.
-    pub fn has_room(&self, number: u32, row: &Row) -> bool
-        ensures { IsTrue result
-            ↔ (rounded_size_of row.now ≤ room_of (page_on self.now number).slots) }
+    /// Whether the row has room on the page of the version at a place, and if so, whether in each index in use it has the value of
+    /// that version: both by one look at the page. A page that is not in use has room for any row.
+    pub fn fits_beside(&self, place: Tid, row: &Row) -> Option<bool>
+        ensures room { IsSome result
+            ↔ (rounded_size_of row.now ≤ room_of (page_on self.now place.page).slots) }
+        ensures values { IfSome result
+            (λ keeps_values. IsTrue keeps_values ↔ KeepsValues self.now place row.now) }
     {
         let size = row_size(row);
-        match self.pages.page(number) {
-            Some(page) => size <= page.room(),
-            None => true,
+        match self.pages.page(place.page) {
+            Some(page) if size <= page.room() => Some(self.has_values_of(page, place.slot, row)),
+            Some(_full) => None,
+            None => Some(true),
         }
     }
 
@@ -40,10 +45,17 @@ impl HeapState {
     /// answers NeedsFreeze exactly where the levels lack more ids than can be given, else NoMemory only where something has
     /// to grow. A refused update changes nothing and gives no id. (README.HOT; PostgreSQL, `heap_update` in
     /// src/backend/access/heap/heapam.c.)
-    pub fn update_on_page(&mut self, own: &mut OwnIds, place: Tid, row: &Row) -> Answer
+    pub fn update_on_page(
+        &mut self,
+        own: &mut OwnIds,
+        place: Tid,
+        row: &Row,
+        keeps_values: bool,
+    ) -> Answer
         requires newest { NewestIsGiven self.old.statuses own.old }
         requires there { VersionIsThere self.old place }
         requires room { rounded_size_of row.now ≤ room_of (page_on self.old place.page).slots }
+        requires values { IsTrue keeps_values ↔ KeepsValues self.old place row.now }
         ensures { (horizon : ℕ)
             → AnswersUpdate self.old self.new own.old own.new place row.now horizon result }
     {
@@ -51,11 +63,10 @@ impl HeapState {
         if needs_freeze(&self.statuses, own) {
             return Err(WriteFault::NeedsFreeze);
         }
-        let heap_only = self.keeps_values(place, row);
-        let reserved = self.reserve_ids_for(own, heap_only);
+        let reserved = self.reserve_ids_for(own, keeps_values);
         self.statuses.fact_window();
         match reserved {
-            Ok(()) => Ok(self.replace_on_page(own, place, row, heap_only)),
+            Ok(()) => Ok(self.replace_on_page(own, place, row, keeps_values)),
             Err(_) => Err(WriteFault::NoMemory),
         }
     }
@@ -65,10 +76,18 @@ impl HeapState {
         ensures { IsTrue result ↔ KeepsValues self.now place row.now }
     {
         match self.pages.page(place.page) {
-            Some(page) => match page.row(place.slot) {
-                Some(old) => self.indexes.same_values(&old, row),
-                None => true,
-            },
+            Some(page) => self.has_values_of(page, place.slot, row),
+            None => true,
+        }
+    }
+
+    /// Whether in each index in use the row has the value that the version in this slot of a page has.
+    fn has_values_of(&self, page: &Page, slot: u16, row: &Row) -> bool
+        ensures { IsTrue result
+            ↔ IfSome (row_at page.now.slots slot) (λ old. SameValues self.now.indexes old row.now) }
+    {
+        match page.row(slot) {
+            Some(old) => self.indexes.same_values(&old, row),
             None => true,
         }
     }

@@ -1,9 +1,10 @@
 //! A session writes another row of a key that has one.
 
-ghost use Rattle.std.specs.Prelude.{◌≤◌, ◌<◌, Some};
+ghost use Rattle.std.specs.Prelude.{◌≤◌, ◌<◌, ◌↔◌, IsTrue, Some};
 ghost use Rattle.tuple_header.specs.Version.{rounded_size_of};
 ghost use Rattle.page_slots.specs.Slots.{room_of};
 ghost use Rattle.heap_write.specs.Heap.{page_on};
+ghost use Rattle.heap_write.specs.Writes.{KeepsValues};
 ghost use Rattle.calls.specs.declared.step.Step.{Step};
 ghost use Rattle.session_steps.specs.Exact.{ExactUpdate, AnswersStep};
 ghost use Rattle.session_steps.specs.Replies.{reply_to};
@@ -20,16 +21,26 @@ use xid_circle::Tid;
 impl SessionEngine {
     /// Updates the version at a place to the row, which has room on its page and which nothing keeps the session from writing,
     /// under the id of its newest level. Nothing is pruned, so the sessions aren't looked at for a horizon.
-    fn replace_on_page(&mut self, s: u8, place: Tid, row: &Row) -> Result<Ack, Refusal>
+    fn replace_on_page(
+        &mut self,
+        s: u8,
+        place: Tid,
+        row: &Row,
+        keeps_values: bool,
+    ) -> Result<Ack, Refusal>
         requires may { MayWriteKey self.old s row.now.key (Some place) }
         requires room { rounded_size_of row.now ≤ room_of (page_on self.old.heap place.page).slots }
+        requires values { IsTrue keeps_values ↔ KeepsValues self.old.heap place row.now }
         ensures follows { FollowsUpdate self.old s row.now (reply_to result) self.new }
         ensures exact { ExactUpdate self.old s row.now (reply_to result) self.new }
     {
         let session = self.sessions.open_mut(s);
         // an id of its levels is one of its own ids
         session.own.fact_prefixes();
-        write_answer(self.heap.update_on_page(&mut session.own, place, row))
+        write_answer(
+            self.heap
+                .update_on_page(&mut session.own, place, row, keeps_values),
+        )
     }
 
     /// As [`SessionEngine::replace_on_page`], but where the row has no room on the page: that is pruned at the horizon first.
@@ -61,10 +72,9 @@ impl SessionEngine {
         match self.check_update(session, row.key) {
             Ok((place, near)) => {
                 self.expect_entry(near);
-                if self.heap.has_room(place.page, &written) {
-                    self.replace_on_page(s, place, &written)
-                } else {
-                    self.replace_on_full_page(s, place, &written)
+                match self.heap.fits_beside(place, &written) {
+                    Some(keeps_values) => self.replace_on_page(s, place, &written, keeps_values),
+                    None => self.replace_on_full_page(s, place, &written),
                 }
             }
             Err(refusal) => self.refuse(s, refusal),

@@ -131,10 +131,9 @@ pub fn update(
     if !is_known(heap, own) || !is_there(heap, place) {
         return NOT_CALLED;
     }
-    if heap.has_room(place.page, &row) {
-        heap.update_on_page(own, place, &row)
-    } else {
-        heap.update_full_page(own, place, &row, Xid(horizon))
+    match heap.fits_beside(place, &row) {
+        Some(keeps_values) => heap.update_on_page(own, place, &row, keeps_values),
+        None => heap.update_full_page(own, place, &row, Xid(horizon)),
     }
 }
 

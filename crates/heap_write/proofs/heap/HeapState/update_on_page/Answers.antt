@@ -34,7 +34,7 @@ replace_on_page-requires-clause-heap_only c =
     let h1 = c.reserve_ids_for-reserved.new.self in
     let keeps = c.reserve_ids_for-reserved.ensures.keeps in
     let slots = kept-slots h h1 c.args.place.page keeps in
-    let says = c.keeps_values-heap_only.ensures in
+    let says = c.requires.values in
     (λ yes. values-kept h h1 c.args.place c.args.row.now slots keeps.entries (says.0 yes), λ kept. says.1 (values-back h h1 c.args.place c.args.row.now slots keeps.entries kept))
 
 pub returns-in-Ok : goal.returns-in-Ok
@@ -56,7 +56,7 @@ returns-in-Err c = λ horizon.
     let own = c.args.own.now in
     let reserved = c.reserve_ids_for-reserved in
     let may = is-replaceable c.args.own.now c.args.place c.needs_freeze.result c.self.view_is c.requires.newest c.needs_freeze.ensures c.if-needs_freeze.false c.requires.there in
-    let needs = on_page-needs h h own c.args.place c.args.row.now horizon c.keeps_values-heap_only.result (has_room c.requires.room refl) c.requires.room
-    c.keeps_values-heap_only.ensures c.in-Err.ensures.needs in
+    let needs = on_page-needs h h own c.args.place c.args.row.now horizon c.args.keeps_values (has_room c.requires.room refl) c.requires.room
+    c.requires.values c.in-Err.ensures.needs in
     answers-memory h reserved.new.self own reserved.new.own c.args.place c.args.row.now horizon may.free needs reserved.ensures.keeps reserved.ensures.own
     (subst (λ (h : HeapView). IsWindow h.statuses) c.self-2.view_is c.fact_window-2.ensures)

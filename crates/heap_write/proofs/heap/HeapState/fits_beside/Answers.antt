@@ -2,7 +2,7 @@ use Rattle.std.proofs.Common.{◌≡◌, refl, arith, subst, sym}
 use Rattle.page_slots.specs.Slots.{room_of}
 use Rattle.heap_write.specs.Heap.{HeapView, page_on}
 use Rattle.heap_write.proofs.PageLemmas.{room-none}
-use Rattle.heap_write.proofs.heap.HeapState.has_room.Goals as goal
+use Rattle.heap_write.proofs.heap.HeapState.fits_beside.Goals as goal
 
 pub returns-in-None : goal.returns-in-None
 returns-in-None c =
