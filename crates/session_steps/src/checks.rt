@@ -61,7 +61,9 @@ impl SessionEngine {
             (λ refusal. ConflictsWrite self.now session.now key refusal) }
     {
         let mut place = None;
-        let (check, near) = self.heap.check_write(key, &self.reader(session, &mut place));
+        let (check, near) = self
+            .heap
+            .check_write(key, &self.reader(session, &mut place));
         if let Some(_) = check.newer_commit {
             return (check.place, Err(Refusal::Conflict));
         }

@@ -288,13 +288,7 @@ impl Run {
     }
 
     // The session leaves a row of the key, as it finds one or none.
-    fn put(
-        &mut self,
-        alloc: Global,
-        counts: &mut Counts,
-        s: u8,
-        key: u64,
-    ) -> Result<(), Failure> {
+    fn put(&mut self, alloc: Global, counts: &mut Counts, s: u8, key: u64) -> Result<(), Failure> {
         let reads = matches!(self.pair.standing(s, key), Standing::Reads);
         self.do_step(alloc, counts, put_of(alloc, s, key, reads))
     }
