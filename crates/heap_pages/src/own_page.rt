@@ -1,7 +1,9 @@
 //! A page of the table in memory of its own.
 
 ghost use Rattle.std.specs.Prelude.{◌≡◌};
-ghost use Rattle.std.specs.Fn.{FnOnceTakesAtMut, FnOnceReturnsAtMut};
+ghost use Rattle.std.specs.Borrow.{Lends, sem};
+ghost use Rattle.page_slots.specs.contracts.page.Page.{the_row as page_row};
+ghost use Rattle.heap_pages.specs.contracts.own_page.OwnPage.{the_row};
 
 use page_slots::Page;
 use std::marker::Model;
@@ -34,21 +36,12 @@ impl OwnPage {
         &self.0
     }
 
-    /// Changes the page as `change` does, and answers what that answers.
+    /// The page, to be changed where it stands.
     #[inline(always)]
-    pub(crate) fn edit<R, F: FnOnce(&mut Page) -> R>(&mut self, change: F) -> R
-        requires { FnOnceTakesAtMut F.FnOnce change self.old }
-        ensures { FnOnceReturnsAtMut F.FnOnce change self.old result self.new }
+    pub(crate) fn page_mut(&mut self) -> &mut Page
+        ensures* follows { sem 𝓛 (Lends the_row page_row self.entry result (λ w. w)) }
+        ensures value { result.now ≡ self.old }
     {
-        let page: &mut Page = &mut self.0;
-        change(page)
-    }
-
-    /// Sets whether all versions are visible to all.
-    #[inline(always)]
-    pub(crate) fn set_flag(&mut self, flag: bool)
-        ensures { self.new ≡ record self.old { flag = flag } }
-    {
-        self.0.set_flag(flag);
+        &mut self.0
     }
 }

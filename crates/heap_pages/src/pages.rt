@@ -101,9 +101,9 @@ impl Pages {
             → FnOnceTakesAtMut F.FnOnce change page }
         ensures edits { Edits F.FnOnce change self.old self.new number result }
     {
-        let own = &mut self.pages[number as usize];
-        let result = own.edit(change);
-        self.free.note(number, free_byte(own.page()));
+        let page = self.pages[number as usize].page_mut();
+        let result = change(page);
+        self.free.note(number, free_byte(page));
         result
     }
 
@@ -115,10 +115,10 @@ impl Pages {
             → FnOnceTakesAtMut F.FnOnce change (record page { flag = false }) }
         ensures writes { WritesOn F.FnOnce change self.old self.new number result }
     {
-        let target = &mut self.pages[number as usize];
+        let target = self.pages[number as usize].page_mut();
         target.set_flag(false);
-        let result = target.edit(change);
-        self.free.note(number, free_byte(target.page()));
+        let result = change(target);
+        self.free.note(number, free_byte(target));
         self.marks.note(number, Mark::Nothing);
         result
     }
@@ -167,7 +167,9 @@ impl Pages {
         requires { number < length self.old.pages }
         ensures { NotesMark self.old self.new number mark }
     {
-        self.pages[number as usize].set_flag(mark.is_visible());
+        self.pages[number as usize]
+            .page_mut()
+            .set_flag(mark.is_visible());
         self.marks.note(number, mark);
     }
 

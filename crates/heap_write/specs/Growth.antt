@@ -29,9 +29,9 @@ abbrev pub page_in : List PageView → ℕ → PageView
 page_in pages n = slice_index_or pages n unused_page
 
 -- all pages are as they were, and what is noted of them, though there may be memory for more
-pub record SamePages (pages pages' : PagesView) : Type 0 where
-  pub pages : pages'.pages ≡ pages.pages
-  pub marks : pages'.marks ≡ pages.marks
+pub record SamePages (p p' : PagesView) : Type 0 where
+  pub pages : p'.pages ≡ p.pages
+  pub marks : p'.marks ≡ p.marks
 
 -- Where a root is to go.
 

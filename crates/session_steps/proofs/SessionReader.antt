@@ -1,4 +1,4 @@
--- What is so of a reader that is lent for a session is so of the session.
+-- What is so of a reader of a session is so of the session.
 use Rattle.std.proofs.Common.{◌≡◌, ℕ, Option, pos, subst}
 use Rattle.xid_circle.specs.declared.Tid.{Tid}
 use Rattle.xid_circle.specs.declared.Xid.{Xid}

@@ -16,7 +16,7 @@ use Rattle.refinement.specs.Visible.{ReaderSees, HasMissed}
 use Rattle.session_steps.specs.declared.session.Session.{Session}
 use Rattle.session_steps.specs.declared.session.SessionIsolation.{SessionIsolation}
 use Rattle.session_steps.specs.declared.session.SessionIsolation.TheVariants.{BySnapshot, ByStatement}
-use Rattle.session_steps.specs.State.{State, session_at, seen, isolation_seen, kept_by, lent_to, statement_snapshot, cursor_snapshot, keeping, IsByStatement}
+use Rattle.session_steps.specs.State.{State, session_at, seen, isolation_seen, kept_by, statement_snapshot, cursor_snapshot, keeping, IsByStatement}
 use Rattle.session_steps.proofs.Owns.{reader-at}
 
 -- what a statement of the session sees of the ids, and what its cursor does
@@ -92,22 +92,14 @@ pub kept-after : (i : SessionIsolation) (taken : Option Snap) (snap : Snap) → 
 kept-after (BySnapshot s) taken snap is = inl is
 kept-after (ByStatement old) taken snap is = inr is
 
--- the cursor of who keeps a snapshot reads by it, and else as a statement does
+-- the cursor of who keeps a snapshot reads by it, and else by one that lists nobody
 
 pub kept-cursor : (w : Window) (i : SessionIsolation) (snap : Snap) → kept_by i ≡ Some snap → cursor_snapshot w i ≡ snap
 kept-cursor w (BySnapshot s) snap is = same_Some s snap is
 kept-cursor w (ByStatement (Some s)) snap is = same_Some s snap is
 kept-cursor w (ByStatement None) snap is = absurd (none-some snap is)
 
-pub bare-cursor : (w : Window) (i : SessionIsolation) → kept_by i ≡ None → cursor_snapshot w i ≡ statement_snapshot w i
+pub bare-cursor : (w : Window) (i : SessionIsolation) → kept_by i ≡ None → cursor_snapshot w i ≡ empty_at (next_id w)
 bare-cursor w (BySnapshot s) none = absurd (none-some s (sym none))
 bare-cursor w (ByStatement (Some s)) none = absurd (none-some s (sym none))
 bare-cursor w (ByStatement None) none = refl
-
--- a statement that is lent a snapshot reads by it
-pub lent-statement : (w : Window) (i : SessionIsolation) (snap : Snap) → lent_to w i ≡ Some snap → statement_snapshot w i ≡ snap
-lent-statement w (BySnapshot s) snap is = absurd (none-some snap is)
-lent-statement w (ByStatement k) snap is = same_Some (empty_at (next_id w)) snap is
-
-pub lent-needed : (w : Window) (i : SessionIsolation) (kept : Option Snap) → i ≡ ByStatement kept → lent_to w i ≡ None → ⊥
-lent-needed w i kept is none = none-some (empty_at (next_id w)) (sym none ∙ ap (lent_to w) is)

@@ -57,13 +57,8 @@ abbrev pub kept_by : SessionIsolation → Option Snap
 kept_by (BySnapshot snap) = Some snap
 kept_by (ByStatement kept) = kept
 
--- what a statement is lent, if it does not read by the snapshot of the session's beginning: the snapshot that lists nobody, at the
--- next id. It counts each id that has committed (`ListingNobodyCountsCommitted`)
-abbrev pub lent_to : Window → SessionIsolation → Option Snap
-lent_to w (BySnapshot snap) = None
-lent_to w (ByStatement kept) = Some (empty_at (next_id w))
-
--- the snapshot by which a statement reads
+-- the snapshot by which a statement reads: that of the session's beginning, or the one that lists nobody, at the next id. This counts
+-- each id that has committed (`ListingNobodyCountsCommitted`)
 abbrev pub statement_snapshot : Window → SessionIsolation → Snap
 statement_snapshot w (BySnapshot snap) = snap
 statement_snapshot w (ByStatement kept) = empty_at (next_id w)

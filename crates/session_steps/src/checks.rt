@@ -60,8 +60,10 @@ impl SessionEngine {
         ensures write_conflict { MatchResult result.1 (λ _. IsUncontested self.now session.now key)
             (λ refusal. ConflictsWrite self.now session.now key refusal) }
     {
-        let lent = self.lend(session);
-        let (check, near) = self.heap.check_write(key, &self.reader(session, &lent));
+        let mut place = None;
+        let (check, near) = self
+            .heap
+            .check_write(key, &self.reader(session, &mut place));
         if let Some(_) = check.newer_commit {
             return (check.place, Err(Refusal::Conflict));
         }

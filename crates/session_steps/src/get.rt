@@ -18,8 +18,8 @@ impl SessionEngine {
     {
         match self.ready(s) {
             Ok(session) => {
-                let lent = self.lend(session);
-                put_found(self.heap.row(key, &self.reader(session, &lent)), reply)
+                let mut place = None;
+                put_found(self.heap.row(key, &self.reader(session, &mut place)), reply)
             }
             Err(refusal) => *reply = Reply::Refused(refusal),
         }

@@ -86,8 +86,8 @@ impl SessionEngine {
         ensures refused { OnErr result
             (MeetsSome (session_sight self.now session.now) cursor) }
     {
-        let lent = self.lend(session);
-        let reader = self.cursor_reader(session, &lent);
+        let mut place = None;
+        let reader = self.cursor_reader(session, &mut place);
         take_next(self.alloc, &self.heap, &reader, cursor, n)
     }
 
@@ -97,10 +97,10 @@ impl SessionEngine {
         ensures { PutsNext (session_sight self.now session.now) cursor places.old
             result.0 result.1 places.new }
     {
-        let lent = self.lend(session);
+        let mut place = None;
         put_next(
             &self.heap,
-            &self.cursor_reader(session, &lent),
+            &self.cursor_reader(session, &mut place),
             cursor,
             places,
         )

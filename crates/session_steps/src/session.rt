@@ -1,8 +1,9 @@
 //! An open session, and how it reads.
 
 ghost use Rattle.std.specs.Prelude.{◌≡◌, option_copied};
-ghost use Rattle.snapshot.specs.Snap.{earliest};
-ghost use Rattle.session_steps.specs.State.{kept_by, kept_xmin, keeping, lent_to, statement_snapshot, cursor_snapshot};
+ghost use Rattle.commit_status.specs.Window.{next_id};
+ghost use Rattle.snapshot.specs.Snap.{earliest, empty_at};
+ghost use Rattle.session_steps.specs.State.{kept_by, kept_xmin, keeping, statement_snapshot, cursor_snapshot};
 ghost use Rattle.session_steps.specs.Takes.{ReadsBy};
 
 use crate::engine::SessionEngine;
@@ -63,19 +64,6 @@ pub struct Session {
 }
 
 impl SessionEngine {
-    /// The snapshot that a statement of the session is lent, if it does not read by the session's own: it lists nobody, at the next
-    /// id, so who reads by it counts all that has committed. It takes no memory.
-    pub(crate) fn lend(&self, session: &Session) -> Option<Snapshot>
-        ensures { result ≡ lent_to self.now.heap.statuses session.now.isolation }
-    {
-        match &session.isolation {
-            SessionIsolation::BySnapshot(_) => None,
-            SessionIsolation::ByStatement(_) => {
-                Some(Snapshot::empty(self.alloc, self.heap.statuses().next()))
-            }
-        }
-    }
-
     /// The session as it reads by this snapshot.
     fn reader_by<'a>(&'a self, session: &'a Session, snapshot: &'a Snapshot) -> Reader<'a>
         ensures { ReadsBy self.now session.now snapshot.now result }
@@ -87,39 +75,67 @@ impl SessionEngine {
         }
     }
 
-    /// The session as a statement of it reads: by its own snapshot, or by the one that it is lent. By this alone each of its
-    /// statements sees what it sees.
-    pub(crate) fn reader<'a>(
-        &'a self,
+    /// A snapshot for one statement, put in this place. It lists nobody, at the next id, so who reads by it counts all that has
+    /// committed. It takes no memory. It is not inlined, so that a session by snapshot has no work with it.
+    #[inline(never)]
+    fn put_snapshot<'a>(&self, place: &'a mut Option<Snapshot>) -> &'a Snapshot
+        ensures { result.now ≡ empty_at (next_id self.now.heap.statuses) }
+    {
+        place.insert(Snapshot::empty(self.alloc, self.heap.statuses().next()))
+    }
+
+    /// The snapshot by which a statement of the session reads: its own, or one that is put in the place.
+    fn statement_snapshot<'a>(
+        &self,
         session: &'a Session,
-        lent: &'a Option<Snapshot>,
-    ) -> Reader<'a>
-        requires { lent.now ≡ lent_to self.now.heap.statuses session.now.isolation }
-        ensures { ReadsBy self.now session.now
-            (statement_snapshot self.now.heap.statuses session.now.isolation) result }
+        place: &'a mut Option<Snapshot>,
+    ) -> &'a Snapshot
+        ensures { result.now ≡ statement_snapshot self.now.heap.statuses session.now.isolation }
     {
         match &session.isolation {
-            SessionIsolation::BySnapshot(snapshot) => self.reader_by(session, snapshot),
-            SessionIsolation::ByStatement(_) => match lent {
-                Some(snapshot) => self.reader_by(session, snapshot),
-                None => unreachable!(),
-            },
+            SessionIsolation::BySnapshot(snapshot) => snapshot,
+            SessionIsolation::ByStatement(_) => self.put_snapshot(place),
         }
     }
 
-    /// The session as its cursor reads: by the snapshot that it keeps.
+    /// That by which its cursor reads: the one that the session keeps, or else one that is put in the place.
+    fn cursor_snapshot<'a>(
+        &self,
+        session: &'a Session,
+        place: &'a mut Option<Snapshot>,
+    ) -> &'a Snapshot
+        ensures { result.now ≡ cursor_snapshot self.now.heap.statuses session.now.isolation }
+    {
+        match session.isolation.lasting_snapshot() {
+            Some(snapshot) => snapshot,
+            None => self.put_snapshot(place),
+        }
+    }
+
+    /// The session as a statement of it reads; the place is for a snapshot of the statement's own. By this alone each of its statements
+    /// sees what it sees.
+    pub(crate) fn reader<'a>(
+        &'a self,
+        session: &'a Session,
+        place: &'a mut Option<Snapshot>,
+    ) -> Reader<'a>
+        ensures { ReadsBy self.now session.now
+            (statement_snapshot self.now.heap.statuses session.now.isolation) result }
+    {
+        let snapshot = self.statement_snapshot(session, place);
+        self.reader_by(session, snapshot)
+    }
+
+    /// The session as its cursor reads.
     pub(crate) fn cursor_reader<'a>(
         &'a self,
         session: &'a Session,
-        lent: &'a Option<Snapshot>,
+        place: &'a mut Option<Snapshot>,
     ) -> Reader<'a>
-        requires { lent.now ≡ lent_to self.now.heap.statuses session.now.isolation }
         ensures { ReadsBy self.now session.now
             (cursor_snapshot self.now.heap.statuses session.now.isolation) result }
     {
-        match session.isolation.lasting_snapshot() {
-            Some(snapshot) => self.reader_by(session, snapshot),
-            None => self.reader(session, lent),
-        }
+        let snapshot = self.cursor_snapshot(session, place);
+        self.reader_by(session, snapshot)
     }
 }

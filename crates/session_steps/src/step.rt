@@ -56,7 +56,7 @@ impl SessionEngine {
             (λ refusal. BarsOpen (world_sessions w) s refusal) }
     {
         let session = self.open_session(s)?;
-        let lent = self.lend(session);
-        Ok(copy_of(self.heap.row(key, &self.reader(session, &lent))))
+        let mut place = None;
+        Ok(copy_of(self.heap.row(key, &self.reader(session, &mut place))))
     }
 }

@@ -1,6 +1,6 @@
 //! The next rows of a scan, in a list.
 
-ghost use Rattle.std.specs.Prelude.{◌≡◌, ◌++◌, ◌∷◌, [], IfOk, OnOk, OnErr};
+ghost use Rattle.std.specs.Prelude.{◌≡◌, ◌++◌, ◌∷◌, [], length, IfOk, OnOk, OnErr};
 ghost use Rattle.table_scans.specs.declared.progress.Scan.TheVariants.{Index, Heap};
 ghost use Rattle.table_scans.specs.Scans.{sight_of};
 ghost use Rattle.table_scans.specs.Takes.{MeetsSome, TakesRows, TakesAll, TakesNextPage, TakesNext};
@@ -18,7 +18,9 @@ use xid_circle::Tid;
 const AT_ONCE: usize = 128;
 
 /// A row with an empty body, to be written over: it has over a kilobyte, and is made where it stays.
-pub fn no_row() -> Row {
+pub fn no_row() -> Row
+    ensures { length result.body.items ≡ 0 }
+{
     Row {
         key: 0,
         cols: [0; 4],

@@ -66,6 +66,9 @@ const CUT: usize = 41;
 // How many engines have to pass the turn.
 const MANY: u64 = 1000;
 
+// How many versions prunings have to take before they are dead.
+const MANY_CUTS: u64 = 300;
+
 /// Counts of all steps, of all kinds, and of the views that were compared.
 #[derive(Drop)]
 pub(crate) struct Counts {
@@ -230,6 +233,9 @@ impl Counts {
         let passed = self.counts[PASSED];
         if passed < MANY || passed < self.counts[NEAR] {
             return Some(NAMES[PASSED]);
+        }
+        if self.counts[CUT] < MANY_CUTS {
+            return Some(NAMES[CUT]);
         }
         None
     }

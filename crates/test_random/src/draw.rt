@@ -121,6 +121,21 @@ pub(crate) fn write_of(alloc: Global, s: u8, key: u64, reads: bool) -> Step {
     }
 }
 
+/// A write of the key that leaves a row of it, with an empty body: it updates the row, or inserts one. No column changes from one such
+/// write to the next.
+pub(crate) fn put_of(alloc: Global, s: u8, key: u64, reads: bool) -> Step {
+    let row = RowIn {
+        key,
+        cols: [0; 4],
+        body: Vec::new(alloc),
+    };
+    if reads {
+        Step::Update(s, row)
+    } else {
+        Step::Insert(s, row)
+    }
+}
+
 // A bound of a cursor: a key, or a number that is none.
 fn draw_bound(generator: &mut Generator) -> i128 {
     match generator.below(8) {
@@ -202,8 +217,8 @@ fn draw_with_cursor(
     }
 }
 
-// A session begins: one in two reads by one snapshot, the other by statements.
-fn draw_begin(generator: &mut Generator, s: u8) -> Step {
+/// A session begins: one in two reads by one snapshot, the other by statements.
+pub(crate) fn draw_begin(generator: &mut Generator, s: u8) -> Step {
     if generator.below(2) == 0 {
         Step::Begin(s)
     } else {

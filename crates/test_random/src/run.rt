@@ -3,8 +3,8 @@
 use crate::bodies::Bodies;
 use crate::counts::Counts;
 use crate::draw::{
-    KEYS, draw_key, draw_key_of_few, draw_session, draw_step, draw_step_in_levels, draw_vacuum,
-    write_of,
+    KEYS, draw_begin, draw_key, draw_key_of_few, draw_session, draw_step, draw_step_in_levels,
+    draw_vacuum, put_of, write_of,
 };
 use crate::generator::Generator;
 use crate::passage::{HALF, Passage};
@@ -47,6 +47,11 @@ fn is_nested(run: u64) -> bool {
 // Whether the ids of the run begin shortly before the end of the circle or its half, and few may be given before old ones are frozen.
 fn is_turning(run: u64) -> bool {
     run % 11 < 4 && !is_nested(run)
+}
+
+// Whether the run goes on with writes under early ids, when its table has been cleared.
+fn has_early_ids(run: u64) -> bool {
+    run % 8 == 5 && !is_turning(run)
 }
 
 fn first_xid_of(run: u64) -> u32 {
@@ -282,6 +287,47 @@ impl Run {
         self.do_step(alloc, counts, Step::Commit(0))
     }
 
+    // The session leaves a row of the key, as it finds one or none.
+    fn put(&mut self, alloc: Global, counts: &mut Counts, s: u8, key: u64) -> Result<(), Failure> {
+        let reads = matches!(self.pair.standing(s, key), Standing::Reads);
+        self.do_step(alloc, counts, put_of(alloc, s, key, reads))
+    }
+
+    fn prune_all(&mut self, alloc: Global, counts: &mut Counts) -> Result<(), Failure> {
+        for number in 0..settings_of(self.number).max_pages {
+            self.do_step(alloc, counts, Step::Prune(number))?;
+        }
+        Ok(())
+    }
+
+    // An early id deletes a version that a later one made. Session 0, by statement, takes its id by a write of another key. Session 2 takes the
+    // next, and holds the horizon back to it. Session 1 updates the row and commits; then session 0 does. So the version between is
+    // dead, the one before it is not yet, and a pruning takes both. No session is open before and after.
+    fn write_under_early_id(
+        &mut self,
+        alloc: Global,
+        counts: &mut Counts,
+        generator: &mut Generator,
+    ) -> Result<(), Failure> {
+        let place = generator.below(12) as usize;
+        let key = KEYS[place];
+        self.do_step(alloc, counts, Step::Begin(0))?;
+        self.put(alloc, counts, 0, key)?;
+        self.do_step(alloc, counts, Step::Commit(0))?;
+        self.do_step(alloc, counts, Step::BeginReadCommitted(0))?;
+        self.do_step(alloc, counts, draw_begin(generator, 1))?;
+        self.do_step(alloc, counts, Step::BeginReadCommitted(2))?;
+        self.put(alloc, counts, 0, KEYS[(place + 1) % 12])?;
+        self.put(alloc, counts, 2, KEYS[(place + 2) % 12])?;
+        self.put(alloc, counts, 1, key)?;
+        self.do_step(alloc, counts, Step::Commit(1))?;
+        self.put(alloc, counts, 0, key)?;
+        self.do_step(alloc, counts, Step::Commit(0))?;
+        self.prune_all(alloc, counts)?;
+        self.compare(&[2])?;
+        self.do_step(alloc, counts, Step::Abort(2))
+    }
+
     // Takes ids until they have passed the turn, and vacuums where no more are given. No session is open before and after.
     fn pass_turn(&mut self, alloc: Global, counts: &mut Counts) -> Result<(), Failure> {
         for i in 0..MOST_TRANSACTIONS {
@@ -328,6 +374,9 @@ pub(crate) fn do_run(
     run.count_pages(counts);
     run.end_all(alloc, counts)?;
     run.clear(alloc, counts)?;
+    if has_early_ids(number) {
+        run.write_under_early_id(alloc, counts, &mut Generator::new(number))?;
+    }
     if is_turning(number) {
         run.pass_turn(alloc, counts)?;
         counts.add_turning(run.passage.is_whole());
