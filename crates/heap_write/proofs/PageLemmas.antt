@@ -1,5 +1,5 @@
 -- The pages of a table by their numbers, and what keeps them.
-use Rattle.std.proofs.Common.{◌≡◌, ◌≢◌, ◌↔◌, tt, IfSome, Option, ℕ, zero, suc, ◌<◌, inl, inr, List, [], length, map, set, Some, None, slice_get, sym, ap, subst, refl, ◌∙◌}
+use Rattle.std.proofs.Common.{◌≡◌, ◌≢◌, ℕ, zero, suc, ◌<◌, inl, inr, List, [], length, map, set, Some, None, slice_get, sym, ap, subst, refl, ◌∙◌}
 use Rattle.std.proofs.lemmas.Bool.{cases_lt, true≢false}
 use Rattle.std.proofs.lemmas.Option.{slice_get-get_or, slice_get_within, get_or_from_slice_get, same_Some}
 use Rattle.std.proofs.lemmas.List.{get_or_past, get_or-set_same, get_or-set_other, set-get_or}
@@ -7,7 +7,7 @@ use Rattle.xid_circle.specs.declared.Tid.{Tid}
 use Rattle.page_slots.specs.View.{PageView}
 use Rattle.heap_pages.specs.View.{PagesView, with_page}
 use Rattle.page_slots.specs.Slots.{IsNormalAt, row_at, room_of}
-use Rattle.table_indexes.specs.Indexes.{SameEntries, SameValues}
+use Rattle.table_indexes.specs.Indexes.{SameEntries}
 use Rattle.table_indexes.proofs.Columns.{entries-then}
 use Rattle.table_indexes.proofs.IndexLemmas.{same-entries}
 use Rattle.heap_write.specs.Heap.{HeapView, unused_page, slots_of, SameIds, Keeps}
@@ -46,26 +46,6 @@ no-row (suc i) old = λ e. cc
 pub keeps-nothing : (h : HeapView) (place : Tid) (row : Row) → slice_get h.pages.pages place.page ≡ None → KeepsValues h place row
 keeps-nothing h place row none old at =
     absurd (no-row place.slot old (ap (λ (p : PageView). row_at p.slots place.slot) (sym (page-none h.pages.pages place.page none)) ∙ at))
-
--- A row has the values of the version in a slot of a page, if one is there.
-
-module _ (P : Row → Type 0) where
-
-  if-each : (o : Option Row) → IfSome o P → (old : Row) → o ≡ Some old → P old
-  if-each None h old at = absurd (let e : None ≡ Some old = at in cc)
-  if-each (Some x) h old at = subst P (same_Some x old at) h
-
-  each-if : (o : Option Row) → ((old : Row) → o ≡ Some old → P old) → IfSome o P
-  each-if None each = tt
-  each-if (Some x) each = each x refl
-
-pub keeps-row : (h : HeapView) (place : Tid) (row : Row) (page : PageView) → slice_get h.pages.pages place.page ≡ Some page
-    → IfSome (row_at page.slots place.slot) (λ old. SameValues h.indexes old row) ↔ KeepsValues h place row
-keeps-row h place row page at =
-    let on = page-at h.pages.pages place.page page at in
-    let P : Row → Type 0 = λ old. SameValues h.indexes old row in
-    (λ has. subst (λ (p : PageView). (old : Row) → row_at p.slots place.slot ≡ Some old → P old) (sym on) (if-each P (row_at page.slots place.slot) has),
-      λ keeps. each-if P (row_at page.slots place.slot) (subst (λ (p : PageView). (old : Row) → row_at p.slots place.slot ≡ Some old → P old) on keeps))
 
 pub there-within : (h : HeapView) (place : Tid) → VersionIsThere h place → place.page < length h.pages.pages
 there-within h place there =
