@@ -1,8 +1,9 @@
-use Rattle.std.proofs.Common.{◌∙◌, ◌≤◌, Some, sym, subst}
+use Rattle.std.proofs.Common.{◌∙◌, ◌≤◌, ◌↔◌, IsTrue, Some, sym, subst}
 use Rattle.std.proofs.lemmas.Option.{none-some}
 use Rattle.tuple_header.specs.Version.{rounded_size_of}
 use Rattle.page_slots.specs.Slots.{room_of}
 use Rattle.heap_write.specs.Heap.{page_on}
+use Rattle.heap_write.specs.Writes.{KeepsValues}
 use Rattle.heap_write.specs.Refusals.{VersionIsThere}
 use Rattle.session_steps.specs.State.{State, horizon_of}
 use Rattle.session_steps.specs.Tests.{MayWriteKey}
@@ -32,6 +33,11 @@ pub update_on_page-requires-clause-room : goal.update_on_page-requires-clause-ro
 update_on_page-requires-clause-room c =
     let Room : State → Type 0 = λ st. rounded_size_of c.args.row.now ≤ room_of (page_on st.heap c.args.place.page).slots in
     subst Room (sym c.self.view_is) c.requires.room
+
+pub update_on_page-requires-clause-values : goal.update_on_page-requires-clause-values
+update_on_page-requires-clause-values c =
+    let Keeps : State → Type 0 = λ st. IsTrue c.args.keeps_values ↔ KeepsValues st.heap c.args.place c.args.row.now in
+    subst Keeps (sym c.self.view_is) c.requires.values
 
 pub invariant_of-self : goal.invariant_of-self
 invariant_of-self c =

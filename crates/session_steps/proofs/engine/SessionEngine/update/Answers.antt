@@ -25,8 +25,8 @@ returns-in_err-fill_row c = rw (handed-on c.from_residual-in_err-fill_row.result
   exact = search rules;
 })
 
-pub returns-then-has_room : goal.returns-then-has_room
-returns-then-has_room c =
+pub returns-in-Some : goal.returns-in-Some
+returns-in-Some c =
     let filled = c.in_ok-fill_row.ensures.filled in
     subst (λ (st : State). AnswersStep st (step.Update c.args.s c.args.row) (reply_to c.replace_on_page.result) c.replace_on_page.new.self) c.expect_entry.ensures (record {
       follows = c.replace_on_page.ensures.follows c.args.row filled.0 filled.1;
