@@ -92,9 +92,18 @@ static BAD_PAGES: [(Part, usize, &str); 8] = [
 
 fn put(bytes: &mut [u8], part: Part) {
     for (i, byte) in part.bytes.iter().enumerate() {
-        if let Some(place) = bytes.get_mut(part.at + i) {
+        if let Some(place) = bytes.get_mut(part.at.wrapping_add(i)) {
             *place = *byte;
         }
+    }
+}
+
+// So many of the bytes, or all.
+fn first(bytes: &[u8], size: usize) -> &[u8] {
+    if size <= bytes.len() {
+        &bytes[..size]
+    } else {
+        bytes
     }
 }
 
@@ -110,7 +119,7 @@ fn page_of_one_row(alloc: Global) -> Result<Vec<u8>, AllocError> {
 #[test]
 fn one_row(rt: HostRuntime) -> Result<(), Fail> {
     let bytes = page_of_one_row(rt.alloc())?;
-    let mut reader = &bytes[..8192];
+    let mut reader = first(bytes.as_slice(), 8192);
     let mut text: Vec<u8> = Vec::new(rt.alloc());
     let (ended, _) = inspect_script(rt.alloc(), &mut reader, &mut text);
     let wanted = b"page change 1 visible 0 slots 1 room 8088\n1 normal 3 0 1 8120 66 0006 0800\n";
@@ -131,7 +140,7 @@ fn check_refused(alloc: Global, part: Part, size: usize, words: &str) -> Result<
         },
     );
     put(bytes.as_mut_slice(), part);
-    let mut reader = &bytes[..size];
+    let mut reader = first(bytes.as_slice(), size);
     let mut text: Vec<u8> = Vec::new(alloc);
     let (ended, _) = inspect_script(alloc, &mut reader, &mut text);
     let told = match ended {
