@@ -3,6 +3,7 @@ use Rattle.std.specs.Prelude.{◌≡◌, ◌⊎◌, ◌<◌, ◌≤◌, ℕ, Lis
 use Rattle.xid_circle.specs.Numbers.{PageNo}
 use Rattle.page_slots.specs.View.{PageView}
 use Rattle.page_slots.specs.Reading.{page_of}
+use Rattle.page_slots.specs.Faults.{AreSoundRedirects, page_fault}
 use Rattle.page_layout.specs.declared.sizes.TheConstants.{PAGE_BYTES}
 use Rattle.page_layout.specs.declared.faults.PageFault.{PageFault}
 use Rattle.page_layout.specs.declared.faults.PageFault.TheVariants.{Length, Header, Bounds, BadPointer, BadTuple, BadRedirect, Overlap}
@@ -42,9 +43,10 @@ abbrev pub slot_of_finding : Option PageFault → ℕ
 slot_of_finding None = 0
 slot_of_finding (Some fault) = slot_of_page_fault fault
 
--- the first bytes are those of the page, and those behind them are as they were
+-- the first bytes are those of the page, with no fault where each redirect leads to a heap-only version; those behind are as they were
 pub record AreBytesOf (page : PageView) (old new : List ℕ) : Type 0 where
   pub reads : page_of (take PAGE_BYTES new) ≡ page
+  pub accepted : AreSoundRedirects page.slots → page_fault (take PAGE_BYTES new) ≡ None
   pub rest : drop PAGE_BYTES new ≡ drop PAGE_BYTES old
 
 -- C's places have the bytes of the page, if there is one and they are enough, and are else as they were; the status says which
