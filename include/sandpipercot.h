@@ -11,9 +11,9 @@
  * from the forked child of a process with threads, or from within malloc, realloc or free. Two handles are independent.
  *
  * MEMORY comes from the program's malloc, realloc and free. Where that is refused, the call says SANDPIPER_NO_MEMORY and has changed
- * nothing; it may be repeated. sandpiper_get, _rollback_to, _release, _commit, _abort, _prune, _close, _open_heap, _open_by_key,
- * _open_index, _next, _close_cursor, _slot_at, _page_at, _page_bytes, _check_page, _state, _version, _vacuum_begin, _vacuum_step and
- * _vacuum_cancel ask for none.
+ * nothing; it may be repeated. sandpiper_get, _rollback_to, _release, _commit, _abort, _prune, _close, _next, _close_cursor,
+ * _slot_at, _page_at, _page_bytes, _check_page, _state, _version, _vacuum_begin, _vacuum_step and _vacuum_cancel ask for none.
+ * Nor do _open_heap, _open_by_key and _open_index, unless the session reads by statement and more than 8 ids are in progress.
  *
  * STATUSES. Each call returns one of those below. From 16 on something was refused. Whatever the status is, also where nobody reads
  * it, the table is whole and usable. A refused call leaves everything as it was, but for two: after SANDPIPER_CONFLICT the
@@ -94,6 +94,8 @@ enum sandpiper_status {
     SANDPIPER_NO_SUCH_SESSION = 33,   /* the session's number is over 63 */
     SANDPIPER_VACUUM_RUNNING = 34,    /* a vacuum is running already */
     SANDPIPER_NO_VACUUM = 35,         /* no vacuum is running */
+    SANDPIPER_INDEX_TOO_NEW = 36,     /* the index was made while the session was open by snapshot */
+    SANDPIPER_INDEX_BUSY = 37,        /* an index can't be made while an open session has written */
     SANDPIPER_NO_ENGINE = 48,         /* the handle has no table */
     SANDPIPER_HAS_ENGINE = 49,        /* sandpiper_open: the handle has a table already */
     SANDPIPER_NO_PLACE = 50,          /* sandpiper_next, _page_bytes: there is no place for a row, or for a page */
@@ -155,6 +157,11 @@ uint32_t sandpiper_close_cursor(struct sandpiper *table, uint8_t session);
  * comes with the next call; of an index they are fewer only where no more are left. END: nothing is left, and *count is 0. After a
  * refusal *count is 0 too; NO_PLACE says that `capacity` is 0. Rows that were handed out are the caller's: no call ends them. */
 uint32_t sandpiper_next(struct sandpiper *table, uint8_t session, struct sandpiper_row *rows, size_t capacity, size_t *count);
+
+/* Makes the index of a column, from 0 to 3, beside the sessions: index column + 1. DONE also where it is there. It is refused while a
+ * vacuum runs (VACUUM_RUNNING), and while an open session has written, also where that was rolled back to a savepoint (INDEX_BUSY).
+ * A session that sandpiper_begin has opened before opens no cursor by it (INDEX_TOO_NEW). */
+uint32_t sandpiper_create_index(struct sandpiper *table, uint8_t column);
 
 /* Takes from a page, counted from 0, the versions that no session can see any more. */
 uint32_t sandpiper_prune(struct sandpiper *table, uint32_t page);
@@ -282,6 +289,8 @@ static inline const char *sandpiper_words(uint32_t status) {
     case SANDPIPER_NO_SUCH_SESSION: return "the session's number is over 63";
     case SANDPIPER_VACUUM_RUNNING: return "a vacuum is running already";
     case SANDPIPER_NO_VACUUM: return "no vacuum is running";
+    case SANDPIPER_INDEX_TOO_NEW: return "the index was made while the session was open by snapshot";
+    case SANDPIPER_INDEX_BUSY: return "an index can't be made while an open session has written";
     case SANDPIPER_NO_ENGINE: return "the handle has no table";
     case SANDPIPER_HAS_ENGINE: return "the handle has a table already";
     case SANDPIPER_NO_PLACE: return "there is no place for a row, or for a page";

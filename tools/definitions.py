@@ -128,9 +128,13 @@ def counted(known, words):
 
 
 def table(known, words):
-    """The rows of the table that is printed, and of docs/trust.md."""
+    """The rows of the table that is printed, and of docs/trust.md: a row more for each ten modules of a crate."""
     rows = list(counted(known, words))
-    yield from (f"| `{crate}` | {lines} | {', '.join(f'`{m}`' for m in modules)} |" for crate, lines, modules in rows)
+    for crate, lines, modules in rows:
+        begin = f"| `{crate}` | {lines} |"
+        for at in range(0, len(modules), 10):
+            yield f"{begin} {', '.join(f'`{module}`' for module in modules[at:at + 10])} |"
+            begin = "| | |"
     yield f"| all | {sum(lines for _, lines, _ in rows):,} | |"
 
 

@@ -82,6 +82,7 @@ ARGUMENTS: Dict[str, List[Any]] = {
     "open_index": [POINTER, SESSION, c_uint8, c_int64, c_int64],
     "next": [POINTER, SESSION, POINTER, c_size_t, POINTER],
     "close_cursor": [POINTER, SESSION],
+    "create_index": [POINTER, c_uint8],
     "prune": [POINTER, c_uint32],
     "vacuum_begin": [POINTER, c_bool],
     "vacuum_step": [POINTER, POINTER],

@@ -164,7 +164,7 @@ class Session:
 
     def by_column(self, column: int, low: int = -(1 << 63), high: int = (1 << 63) - 1, batch: int = 64) -> Cursor:
         """The same by the values of a column, 0 to 3, that has an index, and by key where values are equal. Refusals: CursorOpen,
-        NoSuchIndex, BadBounds."""
+        NoSuchIndex, IndexTooNew, BadBounds."""
         if not 0 <= column < COLUMNS:
             raise NoSuchIndex(f"there is no column {column}: they are 0 to {COLUMNS - 1}")
         return Cursor(self, batch, "open_index", column + 1, fits_signed(low), fits_signed(high))

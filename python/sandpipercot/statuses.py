@@ -37,6 +37,8 @@ class Status(enum.IntEnum):
     NO_SUCH_SESSION = 33
     VACUUM_RUNNING = 34
     NO_VACUUM = 35
+    INDEX_TOO_NEW = 36
+    INDEX_BUSY = 37
     NO_ENGINE = 48
     HAS_ENGINE = 49
     NO_PLACE = 50
@@ -182,6 +184,18 @@ class NoVacuum(Refused):
     """no vacuum is running"""
 
     status = Status.NO_VACUUM
+
+
+class IndexTooNew(Refused):
+    """the index was made while the session was open by snapshot"""
+
+    status = Status.INDEX_TOO_NEW
+
+
+class IndexBusy(Refused):
+    """an index can't be made while an open session has written"""
+
+    status = Status.INDEX_BUSY
 
 
 class NoEngine(Refused):

@@ -152,6 +152,11 @@ class Table:
         self._sessions.add(number)
         return Session(self, number)
 
+    def create_index(self, column: int) -> None:
+        """Makes the index of a column, from 0 to 3, which is index column + 1; nothing is done where it is there. A session that was
+        open by snapshot opens no cursor by it. Refusals: NoSuchIndex, VacuumRunning, IndexBusy, NoMemory."""
+        self._call("create_index", fits(column, 8))
+
     def prune(self, page: int) -> None:
         """Takes from a page, counted from 0, the versions that no session can see any more. Refusal: NoSuchPage."""
         self._call("prune", fits(page, 32))

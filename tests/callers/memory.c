@@ -60,13 +60,13 @@ static void change_in_savepoints(void) {
     CHECK(sandpiper_commit(&t, 1) == SANDPIPER_COMMITTED);
 }
 
-/* Each key has the row that it is to have. */
-static void check_rows(void) {
+/* Each key has the row that it is to have, by the index of this number. */
+static void check_rows(uint8_t index) {
     static struct sandpiper_row rows[16];
     size_t count, all = 0;
     uint32_t status;
     DOES(sandpiper_begin(&t, 2));
-    CHECK(sandpiper_open_index(&t, 2, 1, INT64_MIN, INT64_MAX) == SANDPIPER_DONE);
+    CHECK(sandpiper_open_index(&t, 2, index, INT64_MIN, INT64_MAX) == SANDPIPER_DONE);
     for (; (status = sandpiper_next(&t, 2, rows, 16, &count)) == SANDPIPER_ROWS; all += count)
         for (size_t i = 0; i < count; i++) {
             const struct sandpiper_row *place = rows + i;
@@ -117,9 +117,11 @@ static int run(void) {
     }
     write_in_many_sessions();
     change_in_savepoints();
-    check_rows();
+    check_rows(1);
+    DOES(sandpiper_create_index(&t, 1));
+    check_rows(2);
     ask_for_none();
-    check_rows();
+    check_rows(1);
     CHECK(sandpiper_close(&t) == SANDPIPER_DONE);
     counts = false;
     return times_refused;

@@ -21,7 +21,7 @@ static void check_closed(void) {
     CHECK(sandpiper_open_by_key(&t, 0, 0, 1) == SANDPIPER_NO_ENGINE && sandpiper_open_index(&t, 0, 0, 0, 1) == SANDPIPER_NO_ENGINE);
     CHECK(sandpiper_next(&t, 0, place, 1, &count) == SANDPIPER_NO_ENGINE && count == 0 && place->key == 77);
     CHECK(sandpiper_close_cursor(&t, 0) == SANDPIPER_NO_ENGINE);
-    CHECK(sandpiper_prune(&t, 0) == SANDPIPER_NO_ENGINE);
+    CHECK(sandpiper_prune(&t, 0) == SANDPIPER_NO_ENGINE && sandpiper_create_index(&t, 0) == SANDPIPER_NO_ENGINE);
     CHECK(sandpiper_vacuum_begin(&t, true) == SANDPIPER_NO_ENGINE && sandpiper_vacuum_cancel(&t) == SANDPIPER_NO_ENGINE);
     CHECK(sandpiper_vacuum_step(&t, &piece) == SANDPIPER_NO_ENGINE && piece.kind == 77);
     CHECK(sandpiper_slot_at(&t, 0, 1, &slot) == SANDPIPER_NO_ROW && slot.kind == 77);
@@ -110,6 +110,7 @@ static void call_at_random(int calls) {
         case 15: sandpiper_vacuum_begin(&t, below(2)); break;
         case 16:
             if (below(64) == 0) sandpiper_vacuum_cancel(&t);
+            if (below(64) == 0) sandpiper_create_index(&t, (uint8_t)below(6));
             break;
         case 17:
         case 18: sandpiper_vacuum_step(&t, &piece); break;

@@ -40,6 +40,11 @@ static uint32_t bad_bounds(void) { return sandpiper_open_by_key(&t, 0, 2, 1); }
 static uint32_t no_such_page(void) { return sandpiper_prune(&t, 1); }
 static uint32_t no_such_index(void) { return sandpiper_open_index(&t, 0, 1, 0, 0); }
 static uint32_t no_such_session(void) { return sandpiper_begin(&t, SANDPIPER_SESSIONS); }
+static uint32_t index_too_new(void) {
+    CHECK(sandpiper_create_index(&t, 0) == SANDPIPER_DONE);
+    return sandpiper_open_index(&t, 0, 1, 0, 0);
+}
+static uint32_t index_busy(void) { return sandpiper_delete(&t, 0, 1), sandpiper_create_index(&t, 0); }
 static uint32_t no_vacuum(void) { return sandpiper_vacuum_cancel(&t); }
 static uint32_t vacuum_running(void) { return sandpiper_vacuum_begin(&t, false), sandpiper_vacuum_begin(&t, true); }
 static uint32_t worked(void) { return sandpiper_vacuum_begin(&t, false), sandpiper_vacuum_step(&t, &piece); }
@@ -112,7 +117,7 @@ static const struct {
     CASE(NO_CURSOR, no_cursor), CASE(TOO_DEEP, too_deep), CASE(NO_SAVEPOINT, no_savepoint), CASE(TOO_LARGE, too_large),
     CASE(NO_ROOM, no_room), CASE(NEEDS_FREEZE, needs_freeze), CASE(BAD_BOUNDS, bad_bounds), CASE(NO_MEMORY, no_memory),
     CASE(NO_SUCH_PAGE, no_such_page), CASE(NO_SUCH_INDEX, no_such_index), CASE(NO_SUCH_SESSION, no_such_session),
-    CASE(VACUUM_RUNNING, vacuum_running), CASE(NO_VACUUM, no_vacuum),
+    CASE(VACUUM_RUNNING, vacuum_running), CASE(NO_VACUUM, no_vacuum), CASE(INDEX_TOO_NEW, index_too_new), CASE(INDEX_BUSY, index_busy),
     CASE(NO_ENGINE, no_engine), CASE(HAS_ENGINE, has_engine), CASE(NO_PLACE, no_place), CASE(BAD_MAX_PAGES, bad_max_pages),
     CASE(BAD_STOP_AGE, bad_stop_age), CASE(BAD_FREEZE_MIN_AGE, bad_freeze_min_age), CASE(BAD_FIRST_XID, bad_first_xid), CASE(BAD_DEAD_LIMIT, bad_dead_limit),
     CASE(BUSY, busy),

@@ -281,6 +281,26 @@ class TableTest(unittest.TestCase):
         self.assertEqual(list(self.table.slots(1)), [])
         self.assertRaises(sp.NoSuchPage, self.table.prune, 1)
 
+    def test_an_index_is_made_in_use(self) -> None:
+        before, by_statement = self.table.begin(), self.table.begin(read_committed=True)
+        with self.table.begin() as session:
+            session.update(Row(3, (30, 7, 0, 0), b"second"))
+            self.assertRaises(sp.IndexBusy, self.table.create_index, 1)
+        self.table.vacuum_begin()
+        self.assertRaises(sp.VacuumRunning, self.table.create_index, 1)
+        self.table.create_index(0)
+        self.table.vacuum_cancel()
+        self.assertRaises(sp.NoSuchIndex, self.table.create_index, 4)
+        self.assertRaises(sp.NoSuchIndex, lambda: list(before.by_column(1)))
+        self.table.create_index(1)
+        self.assertRaises(sp.IndexTooNew, lambda: list(before.by_column(1)))
+        self.assertEqual(before.get(3), row(3, 30, b"first"))
+        self.assertEqual([it.key for it in by_statement.by_column(1, 1, 9)], [3])
+        with self.table.begin() as session:
+            self.assertEqual([it.key for it in session.by_column(1)], [1, 2, 4, 5, 6, 7, 8, 9, 10, 3])
+        before.abort()
+        by_statement.abort()
+
     def test_a_vacuum_frees_slots(self) -> None:
         with self.table.begin() as session:
             session.delete(4)

@@ -3,7 +3,7 @@ use Rattle.std.specs.Prelude.{ℕ, Bool, true, false, Option, Some, None}
 use Rattle.calls.specs.declared.step.Step.{Step}
 use Rattle.calls.specs.declared.step.Step.TheVariants as step
 
--- whose step it is; cleaning is nobody's
+-- whose step it is; cleaning is nobody's, and so is the making of an index
 abbrev pub session_of : Step → Option ℕ
 session_of (step.Begin s) = Some s
 session_of (step.BeginReadCommitted s) = Some s
@@ -24,6 +24,7 @@ session_of (step.Prune p) = None
 session_of (step.VacuumBegin mode) = None
 session_of step.VacuumStep = None
 session_of step.VacuumCancel = None
+session_of (step.CreateIndex c) = None
 
 -- whether it is a vacuum's
 abbrev pub is_vacuum_step : Step → Bool

@@ -50,6 +50,10 @@ pub enum Refusal {
     NoSuchSession,
     /// The lower bound is over the upper.
     BadBounds,
+    /// The index was made while the session was open by snapshot.
+    IndexTooNew,
+    /// An open session has an id.
+    IndexBusy,
 }
 
 /// The reply to a step.

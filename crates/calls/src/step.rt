@@ -74,6 +74,8 @@ pub enum Step {
     VacuumStep,
     /// Drops the vacuum. What it did stays.
     VacuumCancel,
+    /// Makes the index of a column, from 0 to 3, unless it is there.
+    CreateIndex(u8),
 }
 
 /// An equal body. An empty one takes no memory.
@@ -138,6 +140,7 @@ impl Step {
             Step::VacuumBegin(mode) => Ok(Step::VacuumBegin(*mode)),
             Step::VacuumStep => Ok(Step::VacuumStep),
             Step::VacuumCancel => Ok(Step::VacuumCancel),
+            Step::CreateIndex(column) => Ok(Step::CreateIndex(*column)),
         }
     }
 }

@@ -13,3 +13,5 @@ pub mod HintLemmas
 pub mod Plans
 pub mod Replacing
 pub mod Visited
+pub mod CurrentLemmas
+pub mod ListLemmas

@@ -18,7 +18,7 @@ use Rattle.freeze.specs.DeadSlots.{ListsDead}
 use Rattle.index_nodes.specs.declared.entry.Entry.{Entry}
 use Rattle.root_index.specs.declared.progress.Progress.{Progress}
 use Rattle.root_index.specs.Pieces.{RemovesPiece}
-use Rattle.table_indexes.specs.Indexes.{entries_at, since_at, entries_in, IsInUse}
+use Rattle.table_indexes.specs.Indexes.{entries_at, since_at, since_after, entries_in, IsInUse}
 use Rattle.heap_write.specs.Heap.{HeapView}
 use Rattle.heap_write.specs.Writes.{Prunes}
 
@@ -92,7 +92,9 @@ pub record FreesAt (h h' : HeapView) (p : ℕ) (numbers : List ℕ) : Type 0 whe
 
 -- Ids.
 
--- ids before the cutoff are forgotten, and nothing else changes
+-- ids before the cutoff are forgotten, an index that was exact from an earlier one on is exact from the cutoff on, and nothing else changes
 pub record ForgetsBefore (h h' : HeapView) (cutoff : ℕ) : Type 0 where
-  pub is : h' ≡ record h { statuses = h'.statuses }
+  pub is : h' ≡ record h { statuses = h'.statuses; indexes = h'.indexes }
   pub truncates : Truncates h.statuses h'.statuses cutoff
+  pub entries : (n : ℕ) → entries_at h'.indexes n ≡ entries_at h.indexes n
+  pub since : (n : ℕ) → since_at h'.indexes n ≡ since_after cutoff (since_at h.indexes n)

@@ -5,3 +5,5 @@ pub mod Growth
 pub mod Steps
 pub mod Cleaning
 pub mod Hints
+pub mod Making
+pub mod Listing

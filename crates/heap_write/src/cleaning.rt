@@ -100,13 +100,14 @@ impl HeapState {
         self.indexes.fact_few();
     }
 
-    /// Forgets the ids before this one, which is remembered or the next. Turns are counted from the oldest id, so what is known of
-    /// pages ends: but not where nothing is forgotten.
+    /// Forgets the ids before this one, which is remembered or the next. An index that was exact from an earlier one on is exact from
+    /// this one on. Turns are counted from the oldest id, so what is known of pages ends: but not where nothing is forgotten.
     pub fn forget(&mut self, x: Xid)
         requires { IsUpToNext self.old.statuses x.0 }
         ensures forgets { ForgetsBefore self.old self.new x.0 }
         ensures window { IsWindow self.new.statuses }
     {
+        self.indexes.forget(x);
         self.statuses.fact_window();
         if x.0 == self.statuses.frozen_below().0 {
             return;

@@ -12,6 +12,9 @@
 //!
 //! A vacuum prunes, freezes and notes pages, removes entries and makes dead slots unused (`specs/Cleaning.antt`). Whether and when
 //! that is safe is no matter of these calls: `sound_vacuum` says so.
+//!
+//! An index by a column can be made while the table is in use (`specs/Making.antt`). It has the current rows alone, and is exact from
+//! the next id on.
 #![tactic(auto)]
 
 mod cleaning;
@@ -22,6 +25,7 @@ mod hints;
 mod ids;
 mod insert;
 mod lookup;
+mod making;
 mod pruning;
 mod target;
 mod update;

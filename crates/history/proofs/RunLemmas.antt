@@ -1,6 +1,6 @@
 -- What every run keeps.
-use Rattle.std.proofs.Common.{◌≡◌, ◌≢◌, ℕ, ◌<◌, ◌≤◌, List, [], ◌∷◌, ◌++◌, length, Bool, Option, Some, None, refl, sym, ap, ◌∙◌, subst, arith, ◌⊎◌, inl, inr, length-append, append_assoc}
-use Rattle.std.specs.Prelude.{IsSome, Contains}
+use Rattle.std.proofs.Common.{◌≡◌, ◌≢◌, ℕ, suc, ◌<◌, ◌≤◌, List, [], ◌∷◌, ◌++◌, length, Bool, true, false, cond, nat_eq, Option, Some, None, refl, sym, ap, ◌∙◌, subst, arith, ◌⊎◌, inl, inr, length-append, append_assoc}
+use Rattle.std.specs.Prelude.{IsSome, Contains, if◌then◌else◌}
 use Rattle.std.specs.Option.{option_map}
 use Rattle.std.proofs.lemmas.Bool.{cases_eq, cases_lt}
 use Rattle.std.proofs.lemmas.Option.{slice_get_within, same_Some, none-some}
@@ -8,10 +8,10 @@ use Rattle.std.proofs.lemmas.List.{append-nil}
 use Rattle.std.proofs.lemmas.List.Elements.{Contains-push_cases, Contains-append_left}
 use Rattle.tuple_header.specs.declared.version.Row.{Row}
 use Rattle.history.specs.History.{Write, Transaction, written, reading, IsLate}
-use Rattle.history.specs.World.{World, Isolation, by_snapshot, by_statement, OpenSession, beginning, joined, own_write, start_by, start_now, view, Holds, MayWrite}
-use Rattle.history.specs.Moves.{put, change, new_session, add_write, with_write, as_failed, with_savepoint, empty_newest, to_savepoint, without_savepoint, without_cursor, aborted, transaction_of, appended, committed_by}
-use Rattle.history.specs.Events.{Happens, passes, begins, begins_by_statement, inserts, updates, deletes, conflicts, waits, deadlocks, saves, rolls_back_to, releases, commits, aborts, opens_index, opens_heap, opens_keys, takes, takes_keys, closes, StepsReach, stays, goes_on}
-use Rattle.history.specs.Laws.{FirstCommitterWins, HeldInTime, HeldOnce, Grows, IsBySnapshot, KeepsView, NeverLate}
+use Rattle.history.specs.World.{World, Isolation, by_snapshot, by_statement, OpenSession, beginning, joined, own_write, start_by, start_now, view, Holds, MayIndex, MayWrite}
+use Rattle.history.specs.Moves.{put, change, free_to_scan, new_session, is_repeatable_read, is_open_by_snapshot, with_made_index, with_index_on, add_write, with_write, as_failed, with_savepoint, empty_newest, to_savepoint, without_savepoint, without_cursor, aborted, transaction_of, appended, committed_by}
+use Rattle.history.specs.Events.{Happens, passes, begins, begins_by_statement, inserts, updates, deletes, conflicts, waits, deadlocks, saves, rolls_back_to, releases, commits, aborts, opens_index, opens_heap, opens_keys, takes, takes_keys, closes, StepsReach, stays, goes_on, makes_index}
+use Rattle.history.specs.Laws.{FirstCommitterWins, HeldInTime, HeldOnce, Grows, IsBySnapshot, KeepsView, NeverLate, NeverTooNew, KeepsIndexes}
 use Rattle.history.proofs.Places.{slice_get-push_cases}
 use Rattle.history.proofs.HistoryLemmas.{at_same, at_other, joined-add_write, joined-join_newest, IsLate-push_cases, IsLate-now, reading-append_history, among-written, written-among, fewer-written}
 
@@ -21,11 +21,13 @@ pub record Lawful (w : World) : Type 0 where
   pub in_time : HeldInTime w
   pub once : HeldOnce w
   pub first : FirstCommitterWins w.history
+  pub scans : NeverTooNew w
 
--- the session s may be m: what it has written is in time, and no other holds it
+-- the session s may be m: what it has written is in time, and no other holds it; by statement no index is too new for it
 pub record MayBe (w : World) (s : ℕ) (m : OpenSession) : Type 0 where
   pub in_time : (write : Write) → Contains (joined m.levels) write → ¬ IsLate w.history write.start write.key
   pub unheld : (key o : ℕ) → IsSome (own_write m key) → o ≢ s → ¬ Holds w o key
+  pub scans : (index : ℕ) → m.isolation ≡ by_statement → w.too_new s index ≡ false
 
 pub Lawful-beginning : (columns : List Bool) → Lawful (beginning columns)
 Lawful-beginning columns = record {
@@ -33,6 +35,7 @@ Lawful-beginning columns = record {
   in_time = λ s m write at among. absurd (none-some m at);
   once = λ s o key holds held. absurd (let at = holds.1 in cc);
   first = λ m n a b at. absurd (none-some at.0 at.1);
+  scans = λ s index m at is. refl;
 }
 
 -- the sessions after one has become something else
@@ -66,6 +69,10 @@ Lawful-put w s m h began may = record {
     ]
   ];
   first = h.first;
+  scans = λ t index n at is. elim (cases_at t n at) [
+    | inl other ↦ h.scans t index n other.1 is
+    | inr same ↦ subst (λ t. w.too_new t index ≡ false) (sym same.0) (may.scans index (ap (λ (n : OpenSession). n.isolation) (sym same.1) ∙ is))
+  ];
 }
   where
     cases_at : (t : ℕ) (n : OpenSession) → (put w s (Some m)).session t ≡ Some n → ((t ≢ s) × (w.session t ≡ Some n)) ⊎ ((t ≡ s) × (n ≡ m))
@@ -81,17 +88,19 @@ Lawful-idle w s h = record {
   in_time = λ t n write at among. h.in_time t n write (session-ended w s t n at).1 among;
   once = λ t o key holds held. h.once t o key (holds.0, (session-ended w s t holds.0 holds.1).1, holds.2) (held.0, (session-ended w s o held.0 held.1).1, held.2);
   first = h.first;
+  scans = λ t index n at is. h.scans t index n (session-ended w s t n at).1 is;
 }
 
 -- nobody waits for it
 pub Lawful-aborted : (w : World) (s : ℕ) → Lawful w → Lawful (aborted w s)
-Lawful-aborted w s h = let ended = Lawful-idle w s h in record { began = ended.began; in_time = ended.in_time; once = ended.once; first = ended.first }
+Lawful-aborted w s h = let ended = Lawful-idle w s h in record { began = ended.began; in_time = ended.in_time; once = ended.once; first = ended.first; scans = ended.scans }
 
 -- a session may be what it is
 pub may_be : (w : World) (s : ℕ) (m : OpenSession) → Lawful w → w.session s ≡ Some m → MayBe w s m
 may_be w s m h at = record {
   in_time = λ write among. h.in_time s m write at among;
   unheld = λ key o wrote ne held. ne (h.once o s key held (m, at, wrote));
+  scans = λ index is. h.scans s index m at is;
 }
 
 -- a session changes, and has no more writes than before
@@ -103,6 +112,7 @@ Lawful-change w s f m h at same fewer =
     (Lawful-put w s (f m) h (subst (λ isolation. start_by isolation w.history ≤ length w.history) (sym same) (h.began s m at)) (record {
       in_time = λ write among. may.in_time write (fewer write among);
       unheld = λ key o wrote. may.unheld key o (fewer-written (joined (f m).levels) (joined m.levels) fewer key wrote);
+      scans = λ index is. may.scans index (sym same ∙ is);
     }))
 
 -- it has one write more
@@ -110,7 +120,7 @@ pub Lawful-write : (w : World) (s key : ℕ) (row : Option Row) (m : OpenSession
     → Lawful (change w s (with_write w.history key row))
 Lawful-write w s key row m h may =
     subst (λ n. Lawful (put w s n)) (sym (ap (option_map (with_write w.history key row)) at))
-    (Lawful-put w s (with_write w.history key row m) h (h.began s m at) (record { in_time = in_time; unheld = unheld }))
+    (Lawful-put w s (with_write w.history key row m) h (h.began s m at) (record { in_time = in_time; unheld = unheld; scans = (may_be w s m h at).scans }))
   where
     at : w.session s ≡ Some m
     at = may.writer.ready.there
@@ -149,6 +159,7 @@ Lawful-commit w s m h at = subst (λ n. Lawful (record (aborted w s) { history =
   ];
   once = ended.once;
   first = first;
+  scans = ended.scans;
 })
   where
     ended : Lawful (aborted w s)
@@ -175,52 +186,113 @@ pub fewer-empty_newest : (levels : List (List Write)) (write : Write) → Contai
 fewer-empty_newest [] write among = among
 fewer-empty_newest (level ∷ older) write among = Contains-append_left (joined older) level write (subst (λ ws. Contains ws write) (append-nil (joined older)) among)
 
+-- fewer indexes are too new
+free-scans : (w : World) (s t index : ℕ) → w.too_new t index ≡ false → (free_to_scan w s).too_new t index ≡ false
+free-scans w s t index may = elim (cases_eq t s) [
+  | inl same ↦ subst (λ t. cond (nat_eq t s) false (w.too_new t index) ≡ false) (sym same) (at_same s false (w.too_new s index))
+  | inr ne ↦ at_other t s false (w.too_new t index) ne ∙ may
+]
+
+Lawful-free : (w : World) (s : ℕ) → Lawful w → Lawful (free_to_scan w s)
+Lawful-free w s h = record {
+  began = h.began;
+  in_time = h.in_time;
+  once = h.once;
+  first = h.first;
+  scans = λ t index m at is. free-scans w s t index (h.scans t index m at is);
+}
+
 -- a session that begins holds nothing
-Lawful-new : (w : World) (s : ℕ) (isolation : Isolation) → Lawful w → start_by isolation w.history ≤ length w.history → Lawful (put w s (Some (new_session isolation)))
-Lawful-new w s isolation h began = Lawful-put w s (new_session isolation) h began (record {
-  in_time = λ write among. absurd (let lt = among.1 in omega arith);
-  unheld = λ key o wrote. cc;
-})
+Lawful-new : (w : World) (s : ℕ) (isolation : Isolation) → Lawful w → start_by isolation w.history ≤ length w.history
+    → Lawful (free_to_scan (put w s (Some (new_session isolation))) s)
+Lawful-new w s isolation h began =
+    let free = Lawful-put (free_to_scan w s) s (new_session isolation) (Lawful-free w s h) began (record {
+      in_time = λ write among. absurd (let lt = among.1 in omega arith);
+      unheld = λ key o wrote. cc;
+      scans = λ index is. at_same s false (w.too_new s index);
+    }) in
+    record { began = free.began; in_time = free.in_time; once = free.once; first = free.first; scans = free.scans }
 
 pub Lawful-step : {w : World} {s : ℕ} {after : World} → Happens w s after → Lawful w → Lawful after
-Lawful-step passes h = record { began = h.began; in_time = h.in_time; once = h.once; first = h.first }
+Lawful-step passes h = record { began = h.began; in_time = h.in_time; once = h.once; first = h.first; scans = h.scans }
 Lawful-step {w} {s} (begins within idle) h = Lawful-new w s (by_snapshot (length w.history)) h (omega arith)
 Lawful-step {w} {s} (begins_by_statement within idle) h = Lawful-new w s by_statement h (omega arith)
 Lawful-step {w} {s} (inserts row m may absent) h = Lawful-write w s row.key (Some row) m h may
 Lawful-step {w} {s} (updates row m may there) h = Lawful-write w s row.key (Some row) m h may
 Lawful-step {w} {s} (deletes key m may there) h = Lawful-write w s key None m h may
 Lawful-step {w} {s} (conflicts key m writer late) h = Lawful-change w s as_failed m h writer.ready.there refl (λ write among. among)
-Lawful-step (waits key o m blocked free) h = record { began = h.began; in_time = h.in_time; once = h.once; first = h.first }
+Lawful-step (waits key o m blocked free) h = record { began = h.began; in_time = h.in_time; once = h.once; first = h.first; scans = h.scans }
 Lawful-step {w} {s} (deadlocks key o m blocked ring) h = Lawful-change w s as_failed m h blocked.writer.ready.there refl (λ write among. among)
 Lawful-step {w} {s} (saves m writer room) h =
     Lawful-change w s with_savepoint m h writer.ready.there refl (λ write among. subst (λ ws. Contains ws write) (append-nil (joined m.levels)) among)
 Lawful-step {w} {s} (rolls_back_to m is_open bare saved) h =
     let back = Lawful-change w s to_savepoint m h is_open refl (fewer-empty_newest m.levels) in
-    record { began = back.began; in_time = back.in_time; once = back.once; first = back.first }
+    record { began = back.began; in_time = back.in_time; once = back.once; first = back.first; scans = back.scans }
 Lawful-step {w} {s} (releases m writer saved) h =
     Lawful-change w s without_savepoint m h writer.ready.there refl (λ write among. subst (λ ws. Contains ws write) (joined-join_newest m.levels) among)
 Lawful-step {w} {s} (commits m ready) h = Lawful-commit w s m h ready.there
 Lawful-step {w} {s} (aborts m is_open) h = Lawful-aborted w s h
-Lawful-step {w} {s} (opens_index index low high m writer there order) h = Lawful-change w s _ m h writer.ready.there refl (λ write among. among)
+Lawful-step {w} {s} (opens_index index low high m writer may order) h = Lawful-change w s _ m h writer.ready.there refl (λ write among. among)
 Lawful-step {w} {s} (opens_heap m writer) h = Lawful-change w s _ m h writer.ready.there refl (λ write among. among)
 Lawful-step {w} {s} (opens_keys low high m writer order) h = Lawful-change w s _ m h writer.ready.there refl (λ write among. among)
 Lawful-step {w} {s} (takes n rows m c ready there part) h = Lawful-change w s _ m h ready.there refl (λ write among. among)
 Lawful-step {w} {s} (takes_keys n keys m c ready there part) h = Lawful-change w s _ m h ready.there refl (λ write among. among)
 Lawful-step {w} {s} (closes m ready there) h = Lawful-change w s without_cursor m h ready.there refl (λ write among. among)
 
+-- an index that is made is too new for no session by statement
+is_open_by_snapshot-not : (session : Option OpenSession) (m : OpenSession) → session ≡ Some m → m.isolation ≡ by_statement → is_open_by_snapshot session ≡ false
+is_open_by_snapshot-not session m at is = ap is_open_by_snapshot at ∙ ap is_repeatable_read is
+
+Lawful-made_index : (w : World) (index : ℕ) → Lawful w → Lawful (with_made_index w index)
+Lawful-made_index w index h = record {
+  began = h.began;
+  in_time = h.in_time;
+  once = h.once;
+  first = h.first;
+  scans = λ s i m at is. elim (cases_eq i index) [
+    | inl same ↦ subst (λ i. cond (nat_eq i index) (is_open_by_snapshot (w.session s)) (w.too_new s i) ≡ false) (sym same)
+        (at_same index (is_open_by_snapshot (w.session s)) (w.too_new s index) ∙ is_open_by_snapshot-not (w.session s) m at is)
+    | inr ne ↦ at_other i index (is_open_by_snapshot (w.session s)) (w.too_new s i) ne ∙ h.scans s i m at is
+  ];
+}
+
 -- every run keeps them
 pub Lawful-run : {from after : World} → StepsReach from after → Lawful from → Lawful after
 Lawful-run stays h = h
 Lawful-run (goes_on before after s run step) h = Lawful-step step (Lawful-run run h)
+Lawful-run (makes_index before index run absent none) h = Lawful-made_index before index (Lawful-run run h)
 
--- no step changes which indexes there are
-indexes-step : {w : World} {s : ℕ} {after : World} → Happens w s after → after.has_index ≡ w.has_index
+-- no session's step changes which indexes there are
+pub indexes-step : {w : World} {s : ℕ} {after : World} → Happens w s after → after.has_index ≡ w.has_index
 indexes-step passes = refl
 indexes-step {w} _ = refl
 
-pub indexes-run : {from after : World} → StepsReach from after → after.has_index ≡ from.has_index
-indexes-run stays = refl
-indexes-run (goes_on before after s run step) = indexes-step step ∙ indexes-run run
+-- nor makes one too new
+pub scans-step : {w : World} {s : ℕ} {after : World} → Happens w s after → (t index : ℕ) → w.too_new t index ≡ false → after.too_new t index ≡ false
+scans-step {w} {s} (begins within idle) t index may = free-scans w s t index may
+scans-step {w} {s} (begins_by_statement within idle) t index may = free-scans w s t index may
+scans-step passes t index may = may
+scans-step {w} _ t index may = may
+
+-- and a making adds one
+KeepsIndexes-made : (w : World) (index : ℕ) → KeepsIndexes w (with_made_index w index)
+KeepsIndexes-made w index i has = elim (cases_eq i index) [
+  | inl same ↦ subst (λ i. cond (nat_eq i index) true (w.has_index i) ≡ true) (sym same) (at_same index true (w.has_index index))
+  | inr ne ↦ at_other i index true (w.has_index i) ne ∙ has
+]
+
+pub indexes-run : {from after : World} → StepsReach from after → KeepsIndexes from after
+indexes-run stays index has = has
+indexes-run (goes_on before after s run step) index has = ap (λ (there : ℕ → Bool). there index) (indexes-step step) ∙ indexes-run run index has
+indexes-run (makes_index before made run absent none) index has = KeepsIndexes-made before made index (indexes-run run index has)
+
+-- a run goes on by the making of a column's index
+pub makes_on : (from w : World) (c : ℕ) → StepsReach from w → MayIndex w c → StepsReach from (with_index_on w c)
+makes_on from w c run may = by (w.has_index (suc c)) refl
+  where
+    by : (has : Bool) → w.has_index (suc c) ≡ has → StepsReach from (if has then w else with_made_index w (suc c))
+    by true is = run
+    by false is = makes_index w (suc c) run is (may.1 is)
 
 -- each step leaves what has committed as it is
 pub Grows-step : {w : World} {s : ℕ} {after : World} → Happens w s after → Grows w after
@@ -232,6 +304,7 @@ Grows-run {from} stays = ([], sym (append-nil from.history))
 Grows-run {from} (goes_on before after s run step) =
     let first = Grows-run run in let then_ = Grows-step step in
     (first.0 ++ then_.0, then_.1 ∙ (ap (λ ts. ts ++ then_.0) first.1 ∙ append_assoc from.history first.0 then_.0))
+Grows-run (makes_index before index run absent none) = Grows-run run
 
 -- a step of another leaves the session as it is
 pub same_session : {w : World} {o : ℕ} {after : World} (s : ℕ) → Happens w o after → s ≢ o → after.session s ≡ w.session s

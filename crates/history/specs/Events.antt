@@ -1,10 +1,10 @@
 -- What may happen in a world, step by step, and what comes of it.
-use Rattle.std.specs.Prelude.{◌≡◌, ℕ, ◌<◌, ◌≤◌, List, length, Some, None, IsSome, true, ℤ, ◌≤ℤ◌}
+use Rattle.std.specs.Prelude.{◌≡◌, ℕ, ◌<◌, ◌≤◌, List, length, Some, None, IsSome, false, ℤ, ◌≤ℤ◌}
 use Rattle.tuple_header.specs.declared.version.Row.{Row}
 use Rattle.history.specs.History.{IsLate}
-use Rattle.history.specs.World.{World, OpenSession, Cursor, start_now, view, ClosesRing, IsReady, IsWriter, MayWrite, IsBlocked}
+use Rattle.history.specs.World.{World, OpenSession, Cursor, start_now, view, NoKeyIsHeld, ClosesRing, MayScan, IsReady, IsWriter, MayWrite, IsBlocked}
 use Rattle.history.specs.Cursors.{HandsOutPart, HandsOutKeys, keys_of}
-use Rattle.history.specs.Moves.{stepped, change, begun, begun_by_statement, with_row, without_row, as_failed, blocked_by, with_savepoint, rolled_back_to, without_savepoint, aborted, committed_by, with_index_cursor, with_heap_cursor, with_keys_cursor, with_taken, without_cursor}
+use Rattle.history.specs.Moves.{stepped, change, begun, begun_by_statement, with_row, without_row, as_failed, blocked_by, with_savepoint, rolled_back_to, without_savepoint, aborted, committed_by, with_index_cursor, with_heap_cursor, with_keys_cursor, with_taken, without_cursor, with_made_index}
 use Rattle.calls.specs.declared.step.TheConstants.{MOST_SESSIONS}
 
 -- a step of the session s leads from the world w to another. A step that reads, or that is refused and leaves the
@@ -24,14 +24,16 @@ pub data Happens (w : World) (s : ℕ) : World → Type 0 where
   releases : (m : OpenSession) → IsWriter w s m → 1 < length m.levels → Happens w s (change w s without_savepoint)
   commits : (m : OpenSession) → IsReady w s m → Happens w s (committed_by w s)
   aborts : (m : OpenSession) → w.session s ≡ Some m → Happens w s (aborted w s)
-  opens_index : (index : ℕ) (low high : ℤ) (m : OpenSession) → IsWriter w s m → w.has_index index ≡ true → low ≤ℤ high → Happens w s (change w s (with_index_cursor w.history index low high))
+  opens_index : (index : ℕ) (low high : ℤ) (m : OpenSession) → IsWriter w s m → MayScan w s index → low ≤ℤ high → Happens w s (change w s (with_index_cursor w.history index low high))
   opens_heap : (m : OpenSession) → IsWriter w s m → Happens w s (change w s (with_heap_cursor w.history))
   opens_keys : (low high : ℤ) (m : OpenSession) → IsWriter w s m → low ≤ℤ high → Happens w s (change w s (with_keys_cursor w.history low high))
   takes : (n : ℕ) (rows : List Row) (m : OpenSession) (c : Cursor) → IsReady w s m → m.cursor ≡ Some c → HandsOutPart c.order n c.rest rows → Happens w s (change w s (with_taken (keys_of rows)))
   takes_keys : (n : ℕ) (keys : List ℕ) (m : OpenSession) (c : Cursor) → IsReady w s m → m.cursor ≡ Some c → HandsOutKeys c.order n c.rest keys → Happens w s (change w s (with_taken keys))
   closes : (m : OpenSession) → IsReady w s m → IsSome m.cursor → Happens w s (change w s without_cursor)
 
--- steps of any sessions, one after another, lead from the one world to the other
+-- steps of any sessions, one after another, lead from the one world to the other. Between them indexes may be made, which is no
+-- session's step: one that is not there, while no open session holds a key
 pub data StepsReach (from : World) : World → Type 0 where
   stays : StepsReach from from
   goes_on : (before after : World) (s : ℕ) → StepsReach from before → Happens before s after → StepsReach from after
+  makes_index : (before : World) (index : ℕ) → StepsReach from before → before.has_index index ≡ false → NoKeyIsHeld before → StepsReach from (with_made_index before index)

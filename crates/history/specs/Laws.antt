@@ -1,5 +1,5 @@
 -- Laws of every run.
-use Rattle.std.specs.Prelude.{◌≡◌, ℕ, ◌<◌, List, ◌++◌, Some, slice_get, Contains, ◌⊎◌}
+use Rattle.std.specs.Prelude.{◌≡◌, ℕ, ◌<◌, List, ◌++◌, Some, true, false, slice_get, Contains, ◌⊎◌}
 use Rattle.history.specs.History.{Write, Transaction, IsLate}
 use Rattle.history.specs.World.{World, by_snapshot, by_statement, OpenSession, joined, start_now, view, Holds}
 
@@ -38,3 +38,11 @@ KeepsView s before after = (after.session s ≡ before.session s)
 -- for a session that reads by statement no key is ever late
 abbrev pub NeverLate : World → Type 0
 NeverLate w = (s : ℕ) (m : OpenSession) (key : ℕ) → w.session s ≡ Some m → m.isolation ≡ by_statement → ¬ IsLate w.history (start_now w.history m) key
+
+-- no index is ever too new for a session that reads by statement
+abbrev pub NeverTooNew : World → Type 0
+NeverTooNew w = (s index : ℕ) (m : OpenSession) → w.session s ≡ Some m → m.isolation ≡ by_statement → w.too_new s index ≡ false
+
+-- an index that is there stays
+abbrev pub KeepsIndexes : World → World → Type 0
+KeepsIndexes before after = (index : ℕ) → before.has_index index ≡ true → after.has_index index ≡ true

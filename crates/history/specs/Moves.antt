@@ -1,6 +1,6 @@
 -- What each kind of step makes of the world. The kinds are those of the manual's section on transactions: BEGIN, the
 -- writes, SAVEPOINT, ROLLBACK TO, RELEASE, COMMIT, ROLLBACK, and the calls of a cursor.
-use Rattle.std.specs.Prelude.{ℕ, ◌==◌, not, if◌then◌else◌, List, [], ◌∷◌, ◌++◌, length, Option, Some, None, true, false, ℤ}
+use Rattle.std.specs.Prelude.{ℕ, suc, ◌==◌, not, if◌then◌else◌, List, [], ◌∷◌, ◌++◌, length, Option, Some, None, Bool, true, false, ℤ}
 use Rattle.std.specs.Option.{option_map}
 use Rattle.tuple_header.specs.declared.version.Row.{Row}
 use Rattle.history.specs.History.{Write, Transaction}
@@ -27,13 +27,38 @@ awaited_no_more w s = record w { waits_for = λ t. kept_where (λ o. not (o == s
 abbrev pub new_session : Isolation → OpenSession
 new_session isolation = record { isolation = isolation; levels = [] ∷ []; failed = false; cursor = None }
 
+-- no index is too new for the session
+abbrev pub free_to_scan : World → ℕ → World
+free_to_scan w s = record w { too_new = λ t index. if t == s then false else w.too_new t index }
+
 -- a session begins, and reads what has committed until now
 abbrev pub begun : World → ℕ → World
-begun w s = put w s (Some (new_session (by_snapshot (length w.history))))
+begun w s = free_to_scan (put w s (Some (new_session (by_snapshot (length w.history))))) s
 
 -- a session begins, each of whose statements reads what has committed until then
 abbrev pub begun_by_statement : World → ℕ → World
-begun_by_statement w s = put w s (Some (new_session by_statement))
+begun_by_statement w s = free_to_scan (put w s (Some (new_session by_statement))) s
+
+-- Repeatable Read, and not Read Committed
+abbrev pub is_repeatable_read : Isolation → Bool
+is_repeatable_read (by_snapshot start) = true
+is_repeatable_read by_statement = false
+
+-- the session is open, and reads by snapshot
+abbrev pub is_open_by_snapshot : Option OpenSession → Bool
+is_open_by_snapshot None = false
+is_open_by_snapshot (Some m) = is_repeatable_read m.isolation
+
+-- an index is made: it is there, and too new for each session that is open by snapshot
+abbrev pub with_made_index : World → ℕ → World
+with_made_index w index = record w {
+  has_index = λ i. if i == index then true else w.has_index i;
+  too_new = λ s i. if i == index then is_open_by_snapshot (w.session s) else w.too_new s i;
+}
+
+-- that of the column is, unless it is there
+abbrev pub with_index_on : World → (column : ℕ) → World
+with_index_on w c = if w.has_index (suc c) then w else with_made_index w (suc c)
 
 -- a write joins the newest level
 abbrev pub add_write : Write → List (List Write) → List (List Write)

@@ -1,5 +1,5 @@
 -- The history and the sessions that are open on it.
-use Rattle.std.specs.Prelude.{◌≡◌, ◌≢◌, ℕ, List, [], ◌∷◌, ◌++◌, length, Option, Some, None, Bool, true, false, IsSome, slice_index_or}
+use Rattle.std.specs.Prelude.{◌≡◌, ◌≢◌, ℕ, suc, ◌<◌, List, [], ◌∷◌, ◌++◌, length, Option, Some, None, Bool, true, false, IsSome, slice_index_or}
 use Rattle.xid_circle.specs.Numbers.{SessionNo, Key}
 use Rattle.xid_circle.specs.Following.{ReachesIn}
 use Rattle.tuple_header.specs.declared.version.Row.{Row}
@@ -32,12 +32,15 @@ pub record OpenSession : Type 0 where
   pub failed : Bool
   pub cursor : Option Cursor
 
--- all that has committed, the sessions that are open, for whom each waits, and which indexes there are
+-- all that has committed, the sessions that are open, for whom each waits, which indexes there are, and which of them are too new
+-- for a session: it was open by snapshot when the index was made. An index leads to the rows that were current when it was made, and
+-- not to older ones, which such a session may read still (indcheckxmin in the source)
 pub record World : Type 0 where
   pub history : List Transaction
   pub session : ℕ → Option OpenSession
   pub waits_for : ℕ → Option ℕ
   pub has_index : ℕ → Bool
+  pub too_new : (session index : ℕ) → Bool
 
 -- the sessions, as far as what bars one from a step looks at them
 abbrev pub world_sessions : World → SessionLooks OpenSession Cursor
@@ -49,7 +52,7 @@ is_indexed columns index = slice_index_or (true ∷ columns) index false
 
 -- nothing has committed, no session is open, and these columns are indexed
 abbrev pub beginning : List Bool → World
-beginning columns = record { history = []; session = λ _. None; waits_for = λ _. None; has_index = is_indexed columns }
+beginning columns = record { history = []; session = λ _. None; waits_for = λ _. None; has_index = is_indexed columns; too_new = λ _ _. false }
 
 -- what the levels say together, the oldest write first
 abbrev pub joined : List (List Write) → List Write
@@ -77,9 +80,25 @@ view history m key = reading history (start_now history m) (joined m.levels) key
 abbrev pub Holds : World → ℕ → ℕ → Type 0
 Holds w s key = (m : OpenSession) × (w.session s ≡ Some m) × IsSome (own_write m key)
 
+-- nobody does: what was written has committed, or was taken back
+abbrev pub NoKeyIsHeld : World → Type 0
+NoKeyIsHeld w = (s key : ℕ) → ¬ Holds w s key
+
+-- there is no index of the column, and may be one
+abbrev pub LacksIndex : World → (column : ℕ) → Type 0
+LacksIndex w c = (c < 4) × (w.has_index (suc c) ≡ false)
+
+-- the index of the column may be made, or is there
+abbrev pub MayIndex : World → (column : ℕ) → Type 0
+MayIndex w c = (c < 4) × (w.has_index (suc c) ≡ false → NoKeyIsHeld w)
+
 -- were s to wait for o, the waits, followed from o, would close a ring ("Deadlocks" in the manual's section on explicit locking)
 abbrev pub ClosesRing : (waits : SessionNo → Option SessionNo) → SessionNo → SessionNo → Type 0
 ClosesRing waits s o = (i : ℕ) × ReachesIn waits i o s
+
+-- the index is there, and not too new for the session
+abbrev pub MayScan : World → (session index : ℕ) → Type 0
+MayScan w s index = (w.has_index index ≡ true) × (w.too_new s index ≡ false)
 
 -- the session is open and has not failed
 pub record IsReady (w : World) (s : ℕ) (m : OpenSession) : Type 0 where

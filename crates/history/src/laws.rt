@@ -4,7 +4,7 @@
 ghost use Rattle.std.specs.Prelude.{ℕ, ◌≢◌, List, Bool};
 ghost use Rattle.history.specs.World.{World, beginning};
 ghost use Rattle.history.specs.Events.{Happens, StepsReach};
-ghost use Rattle.history.specs.Laws.{FirstCommitterWins, Grows, HeldInTime, HeldOnce, KeepsView, NeverLate};
+ghost use Rattle.history.specs.Laws.{FirstCommitterWins, Grows, HeldInTime, HeldOnce, KeepsIndexes, KeepsView, NeverLate, NeverTooNew};
 
 /// The first committer wins: of two transactions that wrote one key, the second to commit wrote it by a snapshot that was taken
 /// after the first had committed (Berenson et al. 1995, snapshot isolation).
@@ -40,4 +40,15 @@ pub fn views_stay()
 /// A write by statement never meets a later commit: there is no Conflict.
 pub fn no_write_by_statement_is_late()
     ensures { (w : World) → NeverLate w }
+{}
+
+/// An index that is there stays.
+pub fn indexes_stay()
+    ensures { (columns : List Bool) (w : World) (after : World) → StepsReach (beginning columns) w
+        → StepsReach w after → KeepsIndexes w after }
+{}
+
+/// No index is ever too new for a session that reads by statement.
+pub fn no_index_is_too_new_by_statement()
+    ensures { (columns : List Bool) (w : World) → StepsReach (beginning columns) w → NeverTooNew w }
 {}

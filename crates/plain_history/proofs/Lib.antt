@@ -1,6 +1,7 @@
 pub mod Rings
 pub mod Lists
+pub mod MakingLemmas
 pub mod Sessions
 pub mod Late
 pub mod Worlds
-pub mod Ordered
+pub mod Keys

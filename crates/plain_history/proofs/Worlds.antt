@@ -1,36 +1,34 @@
 -- What a change of the lists makes of the world.
-use Rattle.std.proofs.Common.{◌≡◌, ℕ, ◌<◌, ◌≤◌, List, [], ◌∷◌, length, set, Option, Some, None, Bool, true, false, cond, nat_eq, refl, sym, ap, ◌∙◌, subst, arith, inl, inr, get_or, take, drop, max}
-use Rattle.std.specs.Prelude.{zero, suc, Result, Ok, Err, OnErr, IfOk, IsTrue}
+use Rattle.std.proofs.Common.{◌≡◌, ℕ, ◌<◌, List, [], ◌∷◌, length, set, Option, Some, None, Bool, false, cond, nat_eq, refl, sym, ap, ◌∙◌, subst, inl, inr, get_or, replicate}
+use Rattle.std.specs.Prelude.{zero, suc, Result, Ok, Err, OnErr, IfOk}
 use mathlib.Core.Path.{fun_ext}
 use Rattle.std.specs.Option.{option_map, option_flatten}
 use Rattle.std.proofs.lemmas.Bool.{cases_eq}
-use Rattle.std.proofs.lemmas.Option.{none-some, same_Some}
+use Rattle.std.proofs.lemmas.Option.{same_Some}
+use Rattle.std.proofs.lemmas.List.{get_or-set_same, get_or-set_other}
 use Rattle.std.proofs.lemmas.Result.{on_err_weaker}
 use Rattle.plain_history.specs.declared.plain.PlainSession.{PlainSession}
 use Rattle.history.specs.History.{Transaction}
-use Rattle.history.specs.World.{OpenSession, World, is_indexed, Cursor, Order}
-use Rattle.history.specs.Moves.{stepped, put, change, blocked_by, aborted, transaction_of, appended, committed_by, past, with_taken}
-use Rattle.tuple_header.specs.declared.version.Row.{Row}
-use Rattle.plain_history.specs.declared.cursor.PlainOrder.{PlainOrder}
-use Rattle.plain_history.specs.declared.cursor.PlainOrder.TheVariants.{Index, Heap, Keys}
-use Rattle.plain_history.specs.declared.refusal.Handed.{Handed}
-use Rattle.plain_history.specs.declared.refusal.Handed.TheVariants.{Rows, Keys as HandedKeys, End}
+use Rattle.history.specs.World.{OpenSession, World, is_indexed, Cursor}
+use Rattle.history.specs.Moves.{stepped, put, change, free_to_scan, blocked_by, aborted, transaction_of, appended, committed_by, past, with_taken}
+use Rattle.plain_cursor.specs.declared.cursor.Handed.{Handed}
+use Rattle.plain_cursor.specs.declared.cursor.Handed.TheVariants.{Rows, Keys as HandedKeys, End}
 use Rattle.history.specs.Cursors.{keys_of, HandsOutPart, HandsOutKeys, IsOver}
-use Rattle.plain_history.specs.Order.{KeptCursor, IsInOrder, index_of, row_of_key}
-use Rattle.plain_history.proofs.Ordered.{row_in-head, row_in-drop, next_rows}
-use Rattle.plain_history.specs.Answers.{with_transaction, Hands, HandsFrom, HandsOn, HasLeft}
-use Rattle.plain_history.specs.Plain.{Plain, open_of, plain_order_of, cursor_of, session_in, wait_in, world_of}
+use Rattle.plain_cursor.specs.Order.{KeptCursor}
+use Rattle.plain_cursor.specs.Hands.{cursor_of, Hands}
+use Rattle.plain_history.specs.Answers.{with_transaction, HandsFrom, HandsOn, HasLeft}
+use Rattle.plain_history.specs.Plain.{Plain, open_of, session_in, wait_in, too_new_in, world_of}
 use Rattle.history.proofs.Places.{slice_get-set_same, slice_get-set_other}
 use Rattle.plain_history.proofs.Sessions.{session_in-read}
 use Rattle.history.proofs.HistoryLemmas.{at_same, at_other}
 
-abbrev world : (ℕ → Bool) → List Transaction → (ℕ → Option OpenSession) → (ℕ → Option ℕ) → World
-world indexes history session waits = record { history = history; session = session; waits_for = waits; has_index = indexes }
+abbrev world : Plain → (ℕ → Option OpenSession) → (ℕ → Option ℕ) → World
+world p session waits = record { history = p.history; session = session; waits_for = waits; has_index = is_indexed p.indexed; too_new = too_new_in p.too_new }
 
 same_world : (p : Plain) (sessions sessions' : ℕ → Option OpenSession) (waits waits' : ℕ → Option ℕ) → ((s : ℕ) → sessions s ≡ sessions' s) → ((s : ℕ) → waits s ≡ waits' s)
-    → world (is_indexed p.indexed) p.history sessions waits ≡ world (is_indexed p.indexed) p.history sessions' waits'
+    → world p sessions waits ≡ world p sessions' waits'
 same_world p sessions sessions' waits waits' same same' =
-    ap (λ f. world (is_indexed p.indexed) p.history f waits) (fun_ext same) ∙ ap (world (is_indexed p.indexed) p.history sessions') (fun_ext same')
+    ap (λ f. world p f waits) (fun_ext same) ∙ ap (world p sessions') (fun_ext same')
 
 -- one place of the lists
 session_in-set : (sessions : List (Option PlainSession)) (s : ℕ) (x : Option PlainSession) → s < length sessions → (t : ℕ)
@@ -99,6 +97,25 @@ get_or_twice [] i d = refl
 get_or_twice (x ∷ xs) zero d = refl
 get_or_twice (x ∷ xs) (suc i) d = get_or_twice xs i d
 
+-- a place of the marks, and an index of it
+pub too_new_in-set : (marks : List (List Bool)) (s : ℕ) (row : List Bool) → s < length marks → (t index : ℕ)
+    → too_new_in (set marks s row) t index ≡ cond (nat_eq t s) (get_or row index false) (too_new_in marks t index)
+too_new_in-set marks s row within t index = elim (cases_eq t s) [
+  | inl same ↦ subst (λ u. too_new_in (set marks s row) u index ≡ cond (nat_eq u s) (get_or row index false) (too_new_in marks u index)) (sym same)
+      (ap (λ r. get_or r index false) (get_or-set_same marks s row [] within) ∙ sym (at_same s (get_or row index false) (too_new_in marks s index)))
+  | inr ne ↦ ap (λ r. get_or r index false) (get_or-set_other marks s t row [] ne) ∙ sym (at_other t s (get_or row index false) (too_new_in marks t index) ne)
+]
+
+-- no index is too new for a session that begins
+pub none_marked : (n index : ℕ) → get_or (replicate n false) index false ≡ false
+none_marked zero index = refl
+none_marked (suc n) zero = refl
+none_marked (suc n) (suc index) = none_marked n index
+
+pub world-free : (p : Plain) (s n : ℕ) → s < length p.too_new → world_of (record p { too_new = set p.too_new s (replicate n false) }) ≡ free_to_scan (world_of p) s
+world-free p s n within = ap (λ marks. record (world_of p) { too_new = marks })
+    (fun_ext (λ t. fun_ext (λ index. too_new_in-set p.too_new s (replicate n false) within t index ∙ ap (λ b. cond (nat_eq t s) b (too_new_in p.too_new t index)) (none_marked n index))))
+
 -- a transaction joins the history, and its session ends
 pub commits_so : (w mid after : World) (s : ℕ) (t : Transaction) (m : OpenSession) → w.session s ≡ Some m → t ≡ transaction_of m
     → mid ≡ with_transaction w t → after ≡ aborted mid s → after ≡ committed_by w s
@@ -106,47 +123,6 @@ commits_so w mid after s t m at is appends ends =
     ends ∙ (ap (λ v. aborted v s) (appends ∙ ap (with_transaction w) is) ∙ ap (λ n. record (aborted w s) { history = appended w.history n }) (sym at))
 
 -- What a cursor hands out.
-
-pub not_empty : {A : Type 0} (xs : List A) (answer : Bool) → (xs ≡ [] → IsTrue answer) → answer ≡ false → 0 < length xs
-not_empty [] answer says isnt = let yes : answer ≡ true = says refl in absurd (let never : false ≡ true = sym isnt ∙ yes in cc)
-not_empty (x ∷ xs) answer says isnt = omega arith
-
-abbrev kept : Order → (ℕ → Option Row) → Cursor
-kept order rest = record { order = order; rest = rest }
-
-moves_past : (index n : ℕ) (order : Order) (rows : List Row) → IsInOrder index rows → kept order (row_of_key (drop n rows)) ≡ past (keys_of (take n rows)) (kept order (row_of_key rows))
-moves_past index n order rows in_order = ap (kept order) (fun_ext (row_in-drop index n rows in_order))
-
-moved : (order order' : PlainOrder) (rest rest' : List Row) (count : ℕ) → IsInOrder (index_of order) rest → order' ≡ order → rest' ≡ drop count rest
-    → cursor_of (record { order = order'; rest = rest' }) ≡ past (keys_of (take count rest)) (cursor_of (record { order = order; rest = rest }))
-moved order order' rest rest' count in_order same is =
-    ap (λ o. kept (plain_order_of o) (row_of_key rest')) same ∙ (ap (λ l. kept (plain_order_of order) (row_of_key l)) is ∙ moves_past (index_of order) count (plain_order_of order) rest in_order)
-
-hands_out : (order : PlainOrder) (rest : List Row) (n count : ℕ) → (order ≡ Keys → ⊥) → IsInOrder (index_of order) rest → 0 < length rest → count ≡ max 1 n
-    → HandsOutPart (plain_order_of order) n (row_of_key rest) (take count rest)
-hands_out (Index index) rest n count isnt in_order some is = next_rows index n count rest in_order some is
-hands_out Heap rest n count isnt in_order some is = (next_rows 0 n count rest in_order some is).part
-hands_out Keys rest n count isnt in_order some is = absurd (isnt refl)
-
-hands_out_keys : (order : PlainOrder) (rest : List Row) (n count : ℕ) → order ≡ Keys → IsInOrder (index_of order) rest → 0 < length rest → count ≡ max 1 n
-    → HandsOutKeys (plain_order_of order) n (row_of_key rest) (keys_of (take count rest))
-hands_out_keys (Index index) rest n count is_keys in_order some is = absurd (cc)
-hands_out_keys Heap rest n count is_keys in_order some is = absurd (cc)
-hands_out_keys Keys rest n count is_keys in_order some is = (take count rest, next_rows 0 n count rest in_order some is, refl)
-
-pub hands-rows : (old new : KeptCursor) (n count : ℕ) (rows : List Row) → (old.order ≡ Keys → ⊥) → IsInOrder (index_of old.order) old.rest → 0 < length old.rest → count ≡ max 1 n
-    → rows ≡ take count old.rest → (new.order ≡ old.order) × (new.rest ≡ drop count old.rest)
-    → HandsOutPart (plain_order_of old.order) n (row_of_key old.rest) rows × (cursor_of new ≡ past (keys_of rows) (cursor_of old))
-hands-rows old new n count rows isnt in_order some is rows_are rest_is =
-    subst (λ l. HandsOutPart (plain_order_of old.order) n (row_of_key old.rest) l × (cursor_of new ≡ past (keys_of l) (cursor_of old))) (sym rows_are)
-    (hands_out old.order old.rest n count isnt in_order some is, moved old.order new.order old.rest new.rest count in_order rest_is.0 rest_is.1)
-
-pub hands-keys : (old new : KeptCursor) (n count : ℕ) (keys : List ℕ) → old.order ≡ Keys → IsInOrder (index_of old.order) old.rest → 0 < length old.rest → count ≡ max 1 n
-    → keys ≡ keys_of (take count old.rest) → (new.order ≡ old.order) × (new.rest ≡ drop count old.rest)
-    → HandsOutKeys (plain_order_of old.order) n (row_of_key old.rest) keys × (cursor_of new ≡ past keys (cursor_of old))
-hands-keys old new n count keys is_keys in_order some is keys_are rest_is =
-    subst (λ l. HandsOutKeys (plain_order_of old.order) n (row_of_key old.rest) l × (cursor_of new ≡ past l (cursor_of old))) (sym keys_are)
-    (hands_out_keys old.order old.rest n count is_keys in_order some is, moved old.order new.order old.rest new.rest count in_order rest_is.0 rest_is.1)
 
 -- and what the world is then
 pub hands_on : (p q : Plain) (s : ℕ) (x y : Option PlainSession) (n : ℕ) (handed : Handed) → p ≡ q → s < length p.sessions → s < length p.waits → x ≡ get_or p.sessions s x
@@ -164,19 +140,6 @@ hands_on p q s x y n End seen within within' is hands m at = (
   λ c there. hands.0 m c (sym (session_in-read p.sessions s x within is) ∙ (ap (λ (r : Plain). session_in r.sessions s) seen ∙ at)) there,
   stays_so p q s x y seen within within' is hands.1,
 )
-
--- something is left for a cursor where a row is
-some_left : (old : KeptCursor) → 0 < length old.rest → ¬ IsOver (cursor_of old).rest
-some_left old some over = by old.rest some over
-  where
-    by : (rest : List Row) → 0 < length rest → ¬ IsOver (row_of_key rest)
-    by [] some over = let no : 1 ≤ 0 = omega (arith, some) in omega (arith, no)
-    by (row ∷ rest) some over = none-some row (sym (over row.key) ∙ row_in-head row rest row.key refl)
-
-pub left_on : {A E : Type 0} (old : KeptCursor) (answer : Bool) (r : Result A E) → (old.rest ≡ [] → IsTrue answer) → answer ≡ false
-    → OnErr r (¬ IsOver (cursor_of old).rest)
-left_on old answer (Ok x) says isnt = tt
-left_on old answer (Err e) says isnt = some_left old (not_empty old.rest answer says isnt)
 
 -- What the session's cursor hands out is what the session does.
 

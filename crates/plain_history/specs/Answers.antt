@@ -12,15 +12,16 @@ use Rattle.calls.specs.declared.step.TheConstants.{MOST_SESSIONS}
 use Rattle.plain_history.specs.declared.refusal.Outcome.{Outcome}
 use Rattle.plain_history.specs.declared.refusal.Outcome.TheVariants.{Committed, RolledBack}
 use Rattle.history.specs.History.{Transaction, IsLate}
-use Rattle.history.specs.World.{World, world_sessions, OpenSession, Cursor, start_now, view, ClosesRing, IsReady, IsWriter, MayWrite, IsBlocked}
-use Rattle.history.specs.Moves.{stepped, change, as_failed, blocked_by, opened, past, with_taken, transaction_of, aborted, committed_by}
-use Rattle.plain_history.specs.declared.cursor.PlainOrder.{PlainOrder}
-use Rattle.plain_history.specs.declared.cursor.Bounds.{Bounds}
-use Rattle.plain_history.specs.declared.refusal.Handed.{Handed}
-use Rattle.plain_history.specs.declared.refusal.Handed.TheVariants.{Rows, Keys, End}
+use Rattle.history.specs.World.{World, world_sessions, OpenSession, Cursor, start_now, view, Holds, LacksIndex, ClosesRing, MayScan, IsReady, IsWriter, MayWrite, IsBlocked}
+use Rattle.history.specs.Moves.{stepped, change, as_failed, blocked_by, opened, with_taken, transaction_of, aborted, committed_by}
+use Rattle.plain_cursor.specs.declared.order.PlainOrder.{PlainOrder}
+use Rattle.plain_cursor.specs.declared.order.Bounds.{Bounds}
+use Rattle.plain_cursor.specs.declared.cursor.Handed.{Handed}
+use Rattle.plain_cursor.specs.declared.cursor.Handed.TheVariants.{Rows, Keys, End}
 use Rattle.history.specs.Cursors.{HandsOutPart, HandsOutKeys, IsOver, keys_of}
-use Rattle.plain_history.specs.Order.{index_of, wanted}
-use Rattle.plain_history.specs.Plain.{open_of, plain_order_of}
+use Rattle.plain_cursor.specs.Order.{index_of, wanted}
+use Rattle.plain_cursor.specs.Hands.{plain_order_of}
+use Rattle.plain_history.specs.Plain.{open_of}
 
 -- the session, or nobody, changes as f says
 abbrev pub PlainBecomes : Option PlainSession → Option PlainSession → (OpenSession → OpenSession) → Type 0
@@ -88,8 +89,15 @@ RefusesBounds w s low high why = BarsFree (world_sessions w) s why
 
 abbrev pub RefusesIndex : World → ℕ → ℕ → ℤ → ℤ → Refusal → Type 0
 RefusesIndex w s index low high refusal.NoSuchIndex = (m : OpenSession) × IsWriter w s m × (w.has_index index ≡ false)
-RefusesIndex w s index low high refusal.BadBounds = (m : OpenSession) × IsWriter w s m × (w.has_index index ≡ true) × (high <ℤ low)
+RefusesIndex w s index low high refusal.IndexTooNew = (m : OpenSession) × IsWriter w s m × (w.has_index index ≡ true) × (w.too_new s index ≡ true)
+RefusesIndex w s index low high refusal.BadBounds = (m : OpenSession) × IsWriter w s m × MayScan w s index × (high <ℤ low)
 RefusesIndex w s index low high why = BarsFree (world_sessions w) s why
+
+-- why no index of the column is made: there is no such column, or an open session holds a key
+abbrev pub RefusesMaking : World → (column : ℕ) → Refusal → Type 0
+RefusesMaking w c refusal.NoSuchIndex = 4 ≤ c
+RefusesMaking w c refusal.IndexBusy = LacksIndex w c × ((s : ℕ) × (key : ℕ) × Holds w s key)
+RefusesMaking w c why = ⊥
 
 abbrev pub RefusesBegin : World → ℕ → Refusal → Type 0
 RefusesBegin w s refusal.NoSuchSession = MOST_SESSIONS ≤ s
@@ -143,19 +151,13 @@ abbrev pub MayOpenWithin : World → ℕ → ℤ → ℤ → Type 0
 MayOpenWithin w s low high = (m : OpenSession) × IsWriter w s m × (low ≤ℤ high)
 
 abbrev pub MayOpenIndex : World → ℕ → ℕ → ℤ → ℤ → Type 0
-MayOpenIndex w s index low high = (m : OpenSession) × IsWriter w s m × (w.has_index index ≡ true) × (low ≤ℤ high)
+MayOpenIndex w s index low high = (m : OpenSession) × IsWriter w s m × MayScan w s index × (low ≤ℤ high)
 
 abbrev pub HasPlainCursor : World → ℕ → Type 0
 HasPlainCursor w s = (m : OpenSession) × IsReady w s m × IsSome m.cursor
 
 abbrev pub with_plain_cursor : List Transaction → PlainOrder → Bounds → OpenSession → OpenSession
 with_plain_cursor history order bounds m = opened (plain_order_of order) (wanted bounds (index_of order) (view history m)) m
-
--- what the cursor hands out for n, and the cursor then
-abbrev pub Hands : Cursor → ℕ → Handed → Cursor → Type 0
-Hands c n (Rows rows) after = HandsOutPart c.order n c.rest rows.items × (after ≡ past (keys_of rows.items) c)
-Hands c n (Keys keys) after = HandsOutKeys c.order n c.rest keys.items × (after ≡ past keys.items c)
-Hands c n End after = IsOver c.rest × (after ≡ c)
 
 -- what the session's cursor hands out, and the session then
 abbrev pub HandsFrom : ℕ → Handed → Option OpenSession → Option OpenSession → Type 0

@@ -1,3 +1,3 @@
-pub mod Order
+pub mod Covers
 pub mod Plain
 pub mod Answers

@@ -3,7 +3,7 @@
 ghost use Rattle.history.specs.Cursors.{kept_where};
 ghost use Rattle.std.specs.Prelude.{◌==◌, map, not, ◌≡◌, OnOk, OnErr, Some, None};
 ghost use Rattle.std.specs.Option.{option_map};
-ghost use Rattle.history.specs.Moves.{stepped, put, change, as_failed, with_write, with_savepoint, to_savepoint, without_savepoint, blocked_by, awaited_no_more, without_cursor};
+ghost use Rattle.history.specs.Moves.{stepped, put, change, free_to_scan, as_failed, with_write, with_savepoint, to_savepoint, without_savepoint, blocked_by, awaited_no_more, without_cursor};
 ghost use Rattle.plain_history.specs.Plain.{IsRowOf, open_of, world_of};
 ghost use Rattle.plain_history.specs.Answers.{PlainBecomes, PlainStays, with_transaction};
 
@@ -103,6 +103,13 @@ impl PlainHistory {
     {
         self.waits[s as usize] = None;
         self.sessions[s as usize] = session;
+    }
+
+    /// No index is too new for the session.
+    pub(crate) fn may_scan_all(&mut self, s: u8)
+        ensures { world_of self.new ≡ free_to_scan (world_of self.old) s }
+    {
+        self.too_new[s as usize] = [false; 5];
     }
 
     pub(crate) fn fail(&mut self, s: u8)

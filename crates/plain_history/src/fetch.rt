@@ -8,10 +8,10 @@ ghost use Rattle.plain_history.specs.Plain.{open_of, world_of};
 ghost use Rattle.calls.specs.Bars.{BarsFree, BarsWithCursor};
 ghost use Rattle.plain_history.specs.Answers.{OrMemory, PlainBecomes, PlainStays, RefusesBounds, RefusesIndex, MayOpen, MayOpenWithin, MayOpenIndex, HasPlainCursor, HandsFrom, HandsOn, HandsBy, HasLeft, MayHandOut, with_plain_cursor};
 
-use crate::cursor::{Bounds, PlainCursor, PlainOrder, rows_of};
 use crate::plain::{PlainHistory, PlainLevel, PlainSession};
-use crate::refusal::Handed;
+use crate::rows::rows_of;
 use calls::Refusal;
+use plain_cursor::{Bounds, Handed, PlainCursor, PlainOrder};
 use std::alloc::{AllocError, Global};
 
 fn set_cursor(
@@ -27,7 +27,7 @@ fn set_cursor(
 {
     if let Some(session) = session {
         let rest = rows_of(alloc, history, session, order.index(), bounds)?;
-        session.cursor = Some(PlainCursor { order, rest });
+        session.cursor = Some(PlainCursor::new(order, rest));
     }
     Ok(())
 }
@@ -82,6 +82,8 @@ impl PlainHistory {
             Ok(_) => {
                 if !self.has_index(index) {
                     Err(Refusal::NoSuchIndex)
+                } else if self.is_too_new(s, index) {
+                    Err(Refusal::IndexTooNew)
                 } else if high < low {
                     Err(Refusal::BadBounds)
                 } else {
@@ -124,7 +126,7 @@ impl PlainHistory {
 
     /// Opens a cursor over the rows whose value in the index lies from low to high, in order of value and key. Index 0
     /// orders by the key, index c + 1 by column c. Refusals in order: NoSuchSession, NotOpen, Failed, CursorOpen, NoSuchIndex,
-    /// BadBounds, NoMemory.
+    /// IndexTooNew, BadBounds, NoMemory.
     pub fn open_index(&mut self, s: u8, index: u8, low: i128, high: i128) -> Result<(), Refusal>
         ensures done { OnOk result
             (MayOpenIndex (world_of self.old) s index low high

@@ -4,13 +4,13 @@
 
 mod change;
 mod check;
-mod cursor;
 mod fetch;
 mod lookup;
+mod making;
 mod plain;
 mod refusal;
+mod rows;
 mod steps;
 
-pub use cursor::{Bounds, PlainCursor, PlainOrder};
 pub use plain::{PlainHistory, PlainIsolation, PlainLevel, PlainSession, PlainWrite};
-pub use refusal::{Handed, Outcome, Refused};
+pub use refusal::{Outcome, Refused};

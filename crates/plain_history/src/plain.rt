@@ -5,7 +5,7 @@ ghost use Rattle.history.specs.World.{beginning};
 ghost use Rattle.history.specs.Moves.{without_savepoint};
 ghost use Rattle.plain_history.specs.Plain.{open_of, world_of};
 
-use crate::cursor::PlainCursor;
+use plain_cursor::PlainCursor;
 use std::alloc::{AllocError, Global};
 use std::marker::Model;
 use tuple_header::Row;
@@ -73,6 +73,8 @@ pub struct PlainHistory {
     pub(crate) sessions: Vec<Option<PlainSession>>,
     pub(crate) waits: Vec<Option<u8>>,
     pub(crate) indexed: [bool; 4],
+    // For each place, by the number of an index, whether it is too new for the session there.
+    pub(crate) too_new: Vec<[bool; 5]>,
 }
 
 impl Model for PlainHistory {
@@ -86,9 +88,11 @@ impl Model for PlainHistory {
       sessions = p.sessions.items;
       waits = p.waits.items;
       indexed = p.indexed;
+      too_new = p.too_new.items;
     } };
 
-    ghost invariant = { λ p. HasAllPlaces (length p.sessions.items) (length p.waits.items) };
+    ghost invariant = { λ p.
+        HasAllPlaces (length p.sessions.items) (length p.waits.items) (length p.too_new.items) };
 }
 
 impl PlainLevel {
@@ -152,12 +156,17 @@ impl PlainHistory {
         for _ in 0..256usize {
             waits.push(None)?;
         }
+        let mut too_new = Vec::new(alloc);
+        for _ in 0..256usize {
+            too_new.push([false; 5])?;
+        }
         Ok(PlainHistory {
             alloc,
             history: Vec::new(alloc),
             sessions,
             waits,
             indexed,
+            too_new,
         })
     }
 
@@ -170,6 +179,15 @@ impl PlainHistory {
         }
         match self.indexed.get(index as usize - 1) {
             Some(indexed) => *indexed,
+            None => false,
+        }
+    }
+    /// Whether the index is too new for the session: made while it was open by snapshot.
+    pub(crate) fn is_too_new(&self, s: u8, index: u8) -> bool
+        ensures { result ≡ (world_of self.now).too_new s index }
+    {
+        match self.too_new[s as usize].get(index as usize) {
+            Some(marked) => *marked,
             None => false,
         }
     }

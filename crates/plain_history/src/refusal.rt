@@ -1,7 +1,6 @@
 //! What a step of a session is answered, where it isn't a row.
 
 use calls::Refusal;
-use tuple_header::Row;
 
 /// Why a write was refused. After a conflict and a deadlock the session has failed; all others leave it as it was.
 #[derive(Clone, Copy, Debug, PartialEq, Eq)]
@@ -19,15 +18,4 @@ pub enum Outcome {
     Committed,
     /// It had failed, and what it wrote is dropped.
     RolledBack,
-}
-
-/// What a cursor hands out.
-#[derive(Debug, Drop, PartialEq, Eq)]
-pub enum Handed {
-    /// Rows, one at least.
-    Rows(Vec<Row>),
-    /// Of a cursor of keys, one at least.
-    Keys(Vec<u64>),
-    /// Nothing is left.
-    End,
 }

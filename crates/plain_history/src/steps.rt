@@ -3,7 +3,7 @@
 
 ghost use Rattle.std.specs.Prelude.{◌≡◌, OnOk, IfErr, IfOk, IsSome, Some};
 ghost use Rattle.history.specs.World.{world_sessions};
-ghost use Rattle.history.specs.Moves.{put, new_session, begun, begun_by_statement, change, with_row, without_row, with_savepoint, rolled_back_to, without_savepoint, aborted, stepped};
+ghost use Rattle.history.specs.Moves.{put, free_to_scan, new_session, begun, begun_by_statement, change, with_row, without_row, with_savepoint, rolled_back_to, without_savepoint, aborted, stepped};
 ghost use Rattle.plain_history.specs.Plain.{isolation_of, world_of};
 ghost use Rattle.calls.specs.Bars.{BarsOpen, BarsReady};
 ghost use Rattle.plain_history.specs.Answers.{after_refusal, OrMemory, OrWriteMemory, MayBegin, RefusesBegin, RefusesInsert, RefusesReplace, RefusesSave, RefusesRollBack, RefusesRelease, MayInsert, MayReplace, PlainReads, MaySave, MayRollBack, MayRelease, MayCommit, WouldCommit, EndsTransaction};
@@ -66,7 +66,8 @@ impl PlainHistory {
         ensures done { OnOk result
             (MayBegin (world_of self.old) s
             × (world_of self.new
-            ≡ put (world_of self.old) s (Some (new_session (isolation_of isolation))))) }
+            ≡ free_to_scan
+            (put (world_of self.old) s (Some (new_session (isolation_of isolation)))) s)) }
         ensures refused { IfErr result
             (λ why. RefusesBegin (world_of self.old) s why
             × (world_of self.new ≡ stepped (world_of self.old) s)) }
@@ -81,6 +82,7 @@ impl PlainHistory {
                     cursor: None,
                 };
                 self.put(s, Some(session));
+                self.may_scan_all(s);
                 Ok(())
             }
             Err(why) => {

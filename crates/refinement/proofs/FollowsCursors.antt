@@ -11,7 +11,7 @@ use Rattle.tuple_header.specs.Version.{Version}
 use Rattle.commit_status.specs.declared.status.Status.{Status}
 use Rattle.snapshot.specs.Snap.{Snap}
 use Rattle.history.specs.History.{Transaction}
-use Rattle.history.specs.World.{World, Isolation, by_snapshot, by_statement, OpenSession, Cursor, by_index, by_heap, joined, view, IsReady, world_sessions, start_now}
+use Rattle.history.specs.World.{World, Isolation, by_snapshot, by_statement, OpenSession, Cursor, by_index, by_heap, joined, view, MayScan, IsReady, world_sessions, start_now}
 use Rattle.history.specs.Cursors.{rows_within, keys_of}
 use Rattle.history.specs.Moves.{change, past, with_taken}
 use Rattle.calls.specs.declared.step.Step.{Step}
@@ -152,7 +152,7 @@ FollowsWhere P old step reply new = (w : World) → P w → HeapAgrees old w →
 
 pub Follows-open_index : (h : Heap) (s : ℕ) (e : SeenSession) (index : ℕ) (low high : ℤ) (isolation : SeenIsolation) (session' : ℕ → Option SeenSession)
     → OnlyIs h.session session' s (Some (with_cursor isolation (in_index index low high None) e)) → ((w : World) → HeapAgrees h w → OpensBy h e.isolation isolation)
-    → h.session s ≡ Some e → e.failed ≡ false → e.cursor ≡ None → low ≤ℤ high → FollowsWhere (λ w. w.has_index index ≡ true) h (step.OpenIndex s index low high) reply.Done (record h { session = session' })
+    → h.session s ≡ Some e → e.failed ≡ false → e.cursor ≡ None → low ≤ℤ high → FollowsWhere (λ w. MayScan w s index) h (step.OpenIndex s index low high) reply.Done (record h { session = session' })
 Follows-open_index h s e index low high isolation session' only by at sound bare order w there agrees = (
   ((agrees.opened s e at).0, writer h w s e at agrees sound bare, there, order),
   Agrees-cursor h w s e isolation (Some (in_index index low high None)) (λ m. Some (record { order = by_index index; rest = rows_within index low high (view w.history m) })) session' only at
@@ -171,7 +171,7 @@ Follows-open_heap h s e isolation session' only by at sound bare w agrees = (
 -- there is no memory for a list of the ids in progress
 
 pub Follows-open_index_no_memory : (h : Heap) (s : ℕ) (e : SeenSession) (index : ℕ) (low high : ℤ) → h.session s ≡ Some e → e.failed ≡ false → e.cursor ≡ None → low ≤ℤ high
-    → FollowsWhere (λ w. w.has_index index ≡ true) h (step.OpenIndex s index low high) (reply.Refused refusal.NoMemory) h
+    → FollowsWhere (λ w. MayScan w s index) h (step.OpenIndex s index low high) (reply.Refused refusal.NoMemory) h
 Follows-open_index_no_memory h s e index low high at sound bare order w there agrees = (((agrees.opened s e at).0, writer h w s e at agrees sound bare, there, order), Agrees-stepped h w s agrees)
 
 pub Follows-open_heap_no_memory : (h : Heap) (s : ℕ) (e : SeenSession) → h.session s ≡ Some e → e.failed ≡ false → e.cursor ≡ None → HeapFollows h (step.OpenHeap s) (reply.Refused refusal.NoMemory) h
@@ -182,8 +182,12 @@ pub Follows-no_such_index : (h : Heap) (s : ℕ) (e : SeenSession) (index : ℕ)
 Follows-no_such_index h s e index low high at sound bare w none agrees = (((agrees.opened s e at).0, writer h w s e at agrees sound bare, none), Agrees-stepped h w s agrees)
 
 pub Follows-bad_bounds : (h : Heap) (s : ℕ) (e : SeenSession) (index : ℕ) (low high : ℤ) → h.session s ≡ Some e → e.failed ≡ false → e.cursor ≡ None → high <ℤ low
-    → FollowsWhere (λ w. w.has_index index ≡ true) h (step.OpenIndex s index low high) (reply.Refused refusal.BadBounds) h
+    → FollowsWhere (λ w. MayScan w s index) h (step.OpenIndex s index low high) (reply.Refused refusal.BadBounds) h
 Follows-bad_bounds h s e index low high at sound bare order w there agrees = (((agrees.opened s e at).0, writer h w s e at agrees sound bare, there, order), Agrees-stepped h w s agrees)
+
+pub Follows-index_too_new : (h : Heap) (s : ℕ) (e : SeenSession) (index : ℕ) (low high : ℤ) → h.session s ≡ Some e → e.failed ≡ false → e.cursor ≡ None
+    → FollowsWhere (λ w. (w.has_index index ≡ true) × (w.too_new s index ≡ true)) h (step.OpenIndex s index low high) (reply.Refused refusal.IndexTooNew) h
+Follows-index_too_new h s e index low high at sound bare w young agrees = (((agrees.opened s e at).0, writer h w s e at agrees sound bare, young.0, young.1), Agrees-stepped h w s agrees)
 
 pub Follows-barred_open_index : (h : Heap) (s index : ℕ) (low high : ℤ) (r : Refusal) → BarsFree (seen_sessions h) s r → HeapFollows h (step.OpenIndex s index low high) (reply.Refused r) h
 Follows-barred_open_index h s index low high r is w agrees =

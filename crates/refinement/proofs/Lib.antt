@@ -28,5 +28,6 @@ pub mod GivenBelow
 pub mod FollowsWrites
 pub mod FollowsSavepoints
 pub mod FollowsCursors
+pub mod FollowsIndexes
 pub mod SettlingLemmas
 pub mod ForgettingLemmas

@@ -12,7 +12,7 @@ use Rattle.commit_status.specs.declared.status.Status.TheVariants.{InProgress, C
 use Rattle.snapshot.specs.Snap.{Snap}
 use Rattle.history.specs.History.{Write, Transaction, written, reading, IsLate}
 use Rattle.history.specs.World.{World, Isolation, by_snapshot, by_statement, OpenSession, joined, own_write, Holds, beginning, start_by, start_now}
-use Rattle.history.specs.Moves.{put, stepped, new_session as new_model, begun, begun_by_statement, with_row, as_failed, aborted}
+use Rattle.history.specs.Moves.{put, stepped, free_to_scan, new_session as new_model, begun, begun_by_statement, with_row, as_failed, aborted}
 use Rattle.history.specs.Cursors.{kept_where}
 use Rattle.std.specs.Prelude.{not, ◌==◌}
 use Rattle.history.proofs.HistoryLemmas.{at_same, at_other, joined-add_write}
@@ -74,6 +74,20 @@ pub own_traced : {status : ℕ → Option Status} {store : Tid → Option Versio
 own_traced {status} {store} {history} {sees} {cursor_sees} {start} {e} {m} h =
     levels_traced store e.own e.saved m.levels (nested_of status store history sees start e.own e.saved m.levels h.levels) h.level_traces
 
+-- whatever indexes there are, and for whomever they are too new
+pub Agrees-indexes : (h : Heap) (w : World) (had : ℕ → Bool) (too_new : ℕ → ℕ → Bool) → HeapAgrees h w → HeapAgrees h (record w { has_index = had; too_new = too_new })
+Agrees-indexes h w had too_new agrees = record {
+  opened = agrees.opened;
+  idle = agrees.idle;
+  waits = agrees.waits;
+  current = agrees.current;
+  made = agrees.made;
+  given = agrees.given;
+  owned = agrees.owned;
+  apart = agrees.apart;
+  alone = agrees.alone;
+}
+
 -- a session begins, by a snapshot that is taken now or by statement
 Agrees-opens : (h : Heap) (w : World) (s : ℕ) (isolation : SeenIsolation) (model : Isolation) (session' : ℕ → Option SeenSession)
     → OnlyIs h.session session' s (Some (new_session isolation)) → h.session s ≡ None → IsSameIsolation isolation model → start_by model w.history ≡ length w.history → IsFreshSnapshot h.status (StatementSees h isolation)
@@ -109,12 +123,14 @@ Agrees-opens h w s isolation model session' only idle same start fresh agrees = 
 pub Agrees-begin : (h : Heap) (w : World) (s : ℕ) (snapshot : Snap) (session' : ℕ → Option SeenSession)
     → OnlyIs h.session session' s (Some (new_session (seen_by_snapshot snapshot))) → h.session s ≡ None → IsFreshSnapshot h.status (h.sees snapshot)
     → HeapAgrees h w → HeapAgrees (record h { session = session' }) (begun w s)
-Agrees-begin h w s snapshot session' only idle fresh agrees = Agrees-opens h w s (seen_by_snapshot snapshot) (by_snapshot (length w.history)) session' only idle tt refl fresh agrees
+Agrees-begin h w s snapshot session' only idle fresh agrees = Agrees-indexes (record h { session = session' }) (put w s (Some (new_model (by_snapshot (length w.history))))) w.has_index (free_to_scan w s).too_new
+    (Agrees-opens h w s (seen_by_snapshot snapshot) (by_snapshot (length w.history)) session' only idle tt refl fresh agrees)
 
 pub Agrees-begin_by_statement : (h : Heap) (w : World) (s : ℕ) (session' : ℕ → Option SeenSession)
     → OnlyIs h.session session' s (Some (new_session (seen_by_statement None))) → h.session s ≡ None
     → HeapAgrees h w → HeapAgrees (record h { session = session' }) (begun_by_statement w s)
-Agrees-begin_by_statement h w s session' only idle agrees = Agrees-opens h w s (seen_by_statement None) by_statement session' only idle tt refl (committed-fresh h.status) agrees
+Agrees-begin_by_statement h w s session' only idle agrees = Agrees-indexes (record h { session = session' }) (put w s (Some (new_model by_statement))) w.has_index (free_to_scan w s).too_new
+    (Agrees-opens h w s (seen_by_statement None) by_statement session' only idle tt refl (committed-fresh h.status) agrees)
 
 -- one session alone changes: some of its ids may be rolled back, and it keeps only keys that it had
 pub Agrees-put : (h : Heap) (w : World) (s : ℕ) (e e' : SeenSession) (m m' : OpenSession) (status' : ℕ → Option Status) (sees' : Snap → ℕ → Type 0) (session' : ℕ → Option SeenSession)

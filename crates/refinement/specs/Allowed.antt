@@ -1,9 +1,9 @@
 -- Which replies the history allows to a step, and what the world is after each.
 use Rattle.std.specs.Prelude.{◌≡◌, ℕ, ◌-◌, ◌<◌, ◌≤◌, List, [], ◌∷◌, length, Option, Some, None, Bool, true, false, IsSome, ◌<ℤ◌, ◌≤ℤ◌}
 use Rattle.history.specs.History.{IsLate}
-use Rattle.history.specs.World.{World, OpenSession, Cursor, beginning, start_now, view, IsReady, IsWriter, MayWrite, IsBlocked, world_sessions}
+use Rattle.history.specs.World.{World, OpenSession, Cursor, beginning, start_now, view, LacksIndex, MayIndex, MayScan, IsReady, IsWriter, MayWrite, IsBlocked, world_sessions}
 use Rattle.history.specs.Cursors.{keys_of, IsOver, HandsOutPart}
-use Rattle.history.specs.Moves.{stepped, begun, begun_by_statement, change, with_row, without_row, as_failed, with_savepoint, rolled_back_to, without_savepoint, aborted, committed_by, with_index_cursor, with_heap_cursor, with_taken, without_cursor}
+use Rattle.history.specs.Moves.{stepped, begun, begun_by_statement, change, with_row, without_row, as_failed, with_savepoint, rolled_back_to, without_savepoint, aborted, committed_by, with_index_cursor, with_heap_cursor, with_taken, without_cursor, with_index_on}
 use Rattle.history.specs.Laws.{FirstCommitterWins, HeldInTime, HeldOnce}
 use Rattle.calls.specs.declared.step.Step.{Step}
 use Rattle.calls.specs.declared.step.Step.TheVariants as step
@@ -87,10 +87,11 @@ Allows w (step.Commit s) reply.RolledBack = (m : OpenSession) × IsOpen w s m ×
 Allows w (step.Commit s) (reply.Refused refusal) = BarsOpen (world_sessions w) s refusal
 Allows w (step.Abort s) reply.RolledBack = (m : OpenSession) × IsOpen w s m
 Allows w (step.Abort s) (reply.Refused refusal) = BarsOpen (world_sessions w) s refusal
-Allows w (step.OpenIndex s index low high) reply.Done = (m : OpenSession) × IsWriter w s m × (w.has_index index ≡ true) × (low ≤ℤ high)
+Allows w (step.OpenIndex s index low high) reply.Done = (m : OpenSession) × IsWriter w s m × MayScan w s index × (low ≤ℤ high)
 Allows w (step.OpenIndex s index low high) (reply.Refused refusal.NoSuchIndex) = (m : OpenSession) × IsWriter w s m × (w.has_index index ≡ false)
-Allows w (step.OpenIndex s index low high) (reply.Refused refusal.BadBounds) = (m : OpenSession) × IsWriter w s m × (w.has_index index ≡ true) × (high <ℤ low)
-Allows w (step.OpenIndex s index low high) (reply.Refused refusal.NoMemory) = (m : OpenSession) × IsWriter w s m × (w.has_index index ≡ true) × (low ≤ℤ high)
+Allows w (step.OpenIndex s index low high) (reply.Refused refusal.IndexTooNew) = (m : OpenSession) × IsWriter w s m × (w.has_index index ≡ true) × (w.too_new s index ≡ true)
+Allows w (step.OpenIndex s index low high) (reply.Refused refusal.BadBounds) = (m : OpenSession) × IsWriter w s m × MayScan w s index × (high <ℤ low)
+Allows w (step.OpenIndex s index low high) (reply.Refused refusal.NoMemory) = (m : OpenSession) × IsWriter w s m × MayScan w s index × (low ≤ℤ high)
 Allows w (step.OpenIndex s index low high) (reply.Refused refusal) = BarsFree (world_sessions w) s refusal
 Allows w (step.OpenHeap s) reply.Done = (m : OpenSession) × IsWriter w s m
 Allows w (step.OpenHeap s) (reply.Refused refusal.NoMemory) = (m : OpenSession) × IsWriter w s m
@@ -113,6 +114,11 @@ Allows w step.VacuumStep (reply.Refused refusal.NoVacuum) = Unit {0}
 Allows w step.VacuumStep (reply.Refused refusal.NoMemory) = Unit {0}
 Allows w step.VacuumCancel reply.Done = Unit {0}
 Allows w step.VacuumCancel (reply.Refused refusal.NoVacuum) = Unit {0}
+Allows w (step.CreateIndex c) reply.Done = MayIndex w c
+Allows w (step.CreateIndex c) (reply.Refused refusal.NoSuchIndex) = 3 < c
+Allows w (step.CreateIndex c) (reply.Refused refusal.VacuumRunning) = LacksIndex w c
+Allows w (step.CreateIndex c) (reply.Refused refusal.IndexBusy) = LacksIndex w c
+Allows w (step.CreateIndex c) (reply.Refused refusal.NoMemory) = LacksIndex w c
 Allows w step reply = ⊥
 
 -- a step that reads or is refused only ends the session's own wait
@@ -145,6 +151,7 @@ next w (step.OpenIndex s index low high) reply.Done = change w s (with_index_cur
 next w (step.OpenHeap s) reply.Done = change w s (with_heap_cursor w.history)
 next w (step.Next s n) (reply.Rows rows) = change w s (with_taken (keys_of rows.items))
 next w (step.Close s) reply.Done = change w s without_cursor
+next w (step.CreateIndex c) reply.Done = with_index_on w c
 next w step reply = passed w (session_of step)
 
 -- the history allows the replies to the steps, one after another

@@ -17,7 +17,8 @@ listed = status.Done ∷ status.Found ∷ status.NoRow ∷ status.Committed ∷ 
     ∷ status.Refused refusal.NoSavepoint ∷ status.Refused refusal.TooLarge ∷ status.Refused refusal.NoRoom
     ∷ status.Refused refusal.NeedsFreeze ∷ status.Refused refusal.BadBounds ∷ status.Refused refusal.NoMemory
     ∷ status.Refused refusal.NoSuchPage ∷ status.Refused refusal.NoSuchIndex ∷ status.Refused refusal.NoSuchSession
-    ∷ status.Refused refusal.VacuumRunning ∷ status.Refused refusal.NoVacuum
+    ∷ status.Refused refusal.VacuumRunning ∷ status.Refused refusal.NoVacuum ∷ status.Refused refusal.IndexTooNew
+    ∷ status.Refused refusal.IndexBusy
     ∷ status.NoEngine ∷ status.HasEngine ∷ status.NoPlace ∷ status.BadMaxPages ∷ status.BadStopAge ∷ status.BadFreezeMinAge
     ∷ status.BadFirstXid ∷ status.BadDeadLimit ∷ []
 

@@ -52,6 +52,8 @@ number_of_refusal refusal.NoSuchIndex = 32
 number_of_refusal refusal.NoSuchSession = 33
 number_of_refusal refusal.VacuumRunning = 34
 number_of_refusal refusal.NoVacuum = 35
+number_of_refusal refusal.IndexTooNew = 36
+number_of_refusal refusal.IndexBusy = 37
 -- the other session is in the lower byte
 number_of_refusal (refusal.Busy session) = 256 + session
 

@@ -73,6 +73,8 @@ fn of_refusal(refusal: Refusal) -> u32
         Refusal::NoSuchSession => 33,
         Refusal::VacuumRunning => 34,
         Refusal::NoVacuum => 35,
+        Refusal::IndexTooNew => 36,
+        Refusal::IndexBusy => 37,
         Refusal::Busy(session) => 256 + session as u32,
     }
 }

@@ -144,3 +144,11 @@ pub extern "C" fn sandpiper_prune(alloc: Global, table: &mut Sandpiper, page: u3
 {
     do_step(alloc, table, Step::Prune(page))
 }
+
+/// Makes the index of a column, from 0 to 3, unless it is there. Its number is one more than the column's.
+#[unsafe(no_mangle)]
+pub extern "C" fn sandpiper_create_index(alloc: Global, table: &mut Sandpiper, column: u8) -> u32
+    ensures { Does table.old (step.CreateIndex column) result table.new }
+{
+    do_step(alloc, table, Step::CreateIndex(column))
+}

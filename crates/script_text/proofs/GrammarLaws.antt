@@ -241,6 +241,9 @@ openindex_spelled = words_verb (codes "openindex") range_words_of (λ p. Do (ste
 prune_spelled : IsSpelled (codes "prune", λ rest. option_map (λ p. Do (step.Prune p)) (number_of 4294967295 rest))
 prune_spelled = number_verb (codes "prune") 4294967295 (λ p. Do (step.Prune p)) (omega arith) (λ p h. omega (arith, h)) (λ p. refl)
 
+createindex_spelled : IsSpelled (codes "createindex", λ rest. option_map (λ c. Do (step.CreateIndex c)) (number_of 255 rest))
+createindex_spelled = number_verb (codes "createindex") 255 (λ c. Do (step.CreateIndex c)) (omega arith) (λ c h. omega (arith, h)) (λ c. refl)
+
 page_spelled : IsSpelled (codes "page", λ rest. option_map (λ p. Page p) (number_of 4294967295 rest))
 page_spelled = number_verb (codes "page") 4294967295 (λ p. Page p) (omega arith) (λ p h. omega (arith, h)) (λ p. refl)
 
@@ -273,7 +276,7 @@ usual_spelled : AllByRecursion IsSpelled usual_verbs
 usual_spelled = (get_spelled, (session_verb (codes "begin") (λ s. Do (step.Begin s)) (λ s h. h) (λ s. refl), (session_verb (codes "beginrc") (λ s. Do (step.BeginReadCommitted s)) (λ s h. h) (λ s. refl), (session_verb (codes "commit") (λ s. Do (step.Commit s)) (λ s h. h) (λ s. refl), (insert_spelled, (update_spelled, (delete_spelled, (next_spelled, (session_verb (codes "abort") (λ s. Do (step.Abort s)) (λ s h. h) (λ s. refl), tt)))))))))
 
 other_spelled : AllByRecursion IsSpelled other_verbs
-other_spelled = (session_verb (codes "savepoint") (λ s. Do (step.Savepoint s)) (λ s h. h) (λ s. refl), (session_verb (codes "rollbackto") (λ s. Do (step.RollbackTo s)) (λ s h. h) (λ s. refl), (session_verb (codes "release") (λ s. Do (step.Release s)) (λ s h. h) (λ s. refl), (openindex_spelled, (session_verb (codes "openheap") (λ s. Do (step.OpenHeap s)) (λ s h. h) (λ s. refl), (session_verb (codes "close") (λ s. Do (step.Close s)) (λ s h. h) (λ s. refl), (prune_spelled, (vacuum_spelled, (page_spelled, (entries_spelled, tt))))))))))
+other_spelled = (session_verb (codes "savepoint") (λ s. Do (step.Savepoint s)) (λ s h. h) (λ s. refl), (session_verb (codes "rollbackto") (λ s. Do (step.RollbackTo s)) (λ s h. h) (λ s. refl), (session_verb (codes "release") (λ s. Do (step.Release s)) (λ s h. h) (λ s. refl), (openindex_spelled, (session_verb (codes "openheap") (λ s. Do (step.OpenHeap s)) (λ s h. h) (λ s. refl), (session_verb (codes "close") (λ s. Do (step.Close s)) (λ s h. h) (λ s. refl), (prune_spelled, (vacuum_spelled, (createindex_spelled, (page_spelled, (entries_spelled, tt)))))))))))
 
 All-append : (xs ys : Verbs) → AllByRecursion IsSpelled xs → AllByRecursion IsSpelled ys → AllByRecursion IsSpelled (xs ++ ys)
 All-append [] ys h k = k
@@ -398,6 +401,8 @@ line_at-spelling (Do (step.VacuumBegin mode.Normal)) h = with_verb (codes "vacuu
 line_at-spelling (Do (step.VacuumBegin mode.Aggressive)) h = with_verb (codes "vacuum") (codes "begin aggressive") _ (free_text 32 (codes "vacuum") refl) refl refl
 line_at-spelling (Do step.VacuumStep) h = with_verb (codes "vacuum") (codes "step") _ (free_text 32 (codes "vacuum") refl) refl refl
 line_at-spelling (Do step.VacuumCancel) h = with_verb (codes "vacuum") (codes "cancel") _ (free_text 32 (codes "vacuum") refl) refl refl
+line_at-spelling (Do (step.CreateIndex c)) h =
+    with_verb (codes "createindex") (decimal c) _ (free_text 32 (codes "createindex") refl) refl (ap (λ (o : Option ℕ). option_map (λ c. Do (step.CreateIndex c)) o) (number_of-decimal 255 c (omega arith) (omega arith)))
 line_at-spelling VacuumFinish h = with_verb (codes "vacuum") (codes "finish") _ (free_text 32 (codes "vacuum") refl) refl refl
 line_at-spelling Ids h = ids_line
 line_at-spelling (Page p) h =
@@ -480,6 +485,7 @@ Free-spelling (Do (step.VacuumBegin mode.Normal)) h = free_text 10 (codes "vacuu
 Free-spelling (Do (step.VacuumBegin mode.Aggressive)) h = free_text 10 (codes "vacuum begin aggressive") refl
 Free-spelling (Do step.VacuumStep) h = free_text 10 (codes "vacuum step") refl
 Free-spelling (Do step.VacuumCancel) h = free_text 10 (codes "vacuum cancel") refl
+Free-spelling (Do (step.CreateIndex c)) h = Free-append 10 (codes "createindex") (spaced (decimal c)) (free_text 10 (codes "createindex") refl) (one_free c (omega arith))
 Free-spelling VacuumFinish h = free_text 10 (codes "vacuum finish") refl
 Free-spelling Ids h = (refl, (refl, (refl, tt)))
 Free-spelling (Page p) h = Free-append 10 (codes "page") (spaced (decimal p)) (free_text 10 (codes "page") refl) (one_free p (omega arith))

@@ -37,8 +37,10 @@ refusal_text refusal.VacuumRunning = codes "17 VacuumRunning"
 refusal_text refusal.NoVacuum = codes "18 NoVacuum"
 refusal_text refusal.NoSuchPage = codes "19 NoSuchPage"
 refusal_text refusal.NoSuchIndex = codes "20 NoSuchIndex"
+refusal_text refusal.IndexTooNew = codes "22 IndexTooNew"
 refusal_text refusal.NoSuchSession = codes "23 NoSuchSession"
 refusal_text refusal.BadBounds = codes "24 BadBounds"
+refusal_text refusal.IndexBusy = codes "25 IndexBusy"
 
 -- words, and a number behind them
 unfoldable pub labelled : List ℕ → ℕ → List ℕ

@@ -95,6 +95,7 @@ step_text (step.Prune p) = codes "prune" ++ spaced (decimal p)
 step_text (step.VacuumBegin mode) = codes "vacuum begin" ++ spaced (mode_text mode)
 step_text step.VacuumStep = codes "vacuum step"
 step_text step.VacuumCancel = codes "vacuum cancel"
+step_text (step.CreateIndex c) = codes "createindex" ++ spaced (decimal c)
 
 -- any line but the first
 abbrev pub spelling : Line → List ℕ
@@ -138,6 +139,7 @@ StepFits (step.Prune p) = p < 2 ^ 32
 StepFits (step.VacuumBegin mode) = Unit {0}
 StepFits step.VacuumStep = Unit {0}
 StepFits step.VacuumCancel = Unit {0}
+StepFits (step.CreateIndex c) = c < 2 ^ 8
 
 -- and each number of a line
 abbrev pub LineFits : Line → Type 0

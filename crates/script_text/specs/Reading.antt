@@ -176,6 +176,7 @@ other_verbs =
     ∷ (codes "close", λ rest. option_map (λ s. Do (step.Close s)) (number_of 255 rest))
     ∷ (codes "prune", λ rest. option_map (λ p. Do (step.Prune p)) (number_of 4294967295 rest))
     ∷ (codes "vacuum", vacuum_line_of)
+    ∷ (codes "createindex", λ rest. option_map (λ c. Do (step.CreateIndex c)) (number_of 255 rest))
     ∷ (codes "page", λ rest. option_map (λ p. Page p) (number_of 4294967295 rest))
     ∷ (codes "entries", λ rest. option_map (λ i. Entries i) (number_of 255 rest))
     ∷ []

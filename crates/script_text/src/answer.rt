@@ -128,8 +128,10 @@ fn refusal(out: &mut Vec<u8>, refusal: Refusal) -> Result<(), RefusedGrowth>
         Refusal::NoVacuum => extend(out, b"18 NoVacuum"),
         Refusal::NoSuchPage => extend(out, b"19 NoSuchPage"),
         Refusal::NoSuchIndex => extend(out, b"20 NoSuchIndex"),
+        Refusal::IndexTooNew => extend(out, b"22 IndexTooNew"),
         Refusal::NoSuchSession => extend(out, b"23 NoSuchSession"),
         Refusal::BadBounds => extend(out, b"24 BadBounds"),
+        Refusal::IndexBusy => extend(out, b"25 IndexBusy"),
     }
 }
 

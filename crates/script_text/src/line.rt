@@ -94,7 +94,7 @@ fn range(text: &[u8]) -> Option<(u8, u8, i128, i128)>
     Some((s as u8, index as u8, low, high))
 }
 
-// A session or an index.
+// A session, an index or a column.
 fn number8(word: &[u8]) -> Option<u8>
     ensures { result ≡ number_of 255 word.now }
 {
@@ -148,6 +148,8 @@ fn other_line(word: &[u8], rest: &[u8]) -> Option<Line>
         page(rest).map(|p| Line::Do(Step::Prune(p)))
     } else if word == b"vacuum".as_slice() {
         vacuum_line(rest)
+    } else if word == b"createindex".as_slice() {
+        number8(rest).map(|c| Line::Do(Step::CreateIndex(c)))
     } else if word == b"page".as_slice() {
         page(rest).map(|p| Line::Page(p))
     } else if word == b"entries".as_slice() {

@@ -4,21 +4,21 @@ use Rattle.std.specs.Prelude.{MatchOption}
 use Rattle.xid_circle.specs.declared.Xid.{Xid}
 use Rattle.heap_write.specs.Heap.{HeapView}
 use Rattle.calls.specs.declared.vacuum.Mode.TheVariants.{Normal, Aggressive}
-use Rattle.session_steps.specs.State.{State}
+use Rattle.session_steps.specs.State.{State, is_answered_above}
 use Rattle.session_steps.specs.Vacuums.{VacuumWorks, Forgets}
 use Rattle.vacuum_passes.specs.View.{VacuumView}
 use Rattle.vacuum_passes.specs.Steps.{Steps}
 use Rattle.calls.specs.declared.step.Step.{Step}
 use Rattle.calls.specs.declared.step.Step.TheVariants as step
 use Rattle.calls.specs.declared.reply.Reply.{Reply}
-use Rattle.calls.specs.Steps.{is_vacuum_step}
 use Rattle.vacuum_engine.specs.State.{EngineView, vacuum_horizon}
 use Rattle.vacuum_engine.specs.Exact.{ExactBesideVacuum, EngineExact, DoesEnd}
 
-pub beside-exact : (old new : EngineView) (step : Step) (reply : Reply) → is_vacuum_step step ≡ false → ExactBesideVacuum old step reply new → EngineExact old step reply new
+pub beside-exact : (old new : EngineView) (step : Step) (reply : Reply) → is_answered_above step ≡ false → ExactBesideVacuum old step reply new → EngineExact old step reply new
 beside-exact old new (step.VacuumBegin mode) reply off exact = absurd (cc off)
 beside-exact old new step.VacuumStep reply off exact = absurd (cc off)
 beside-exact old new step.VacuumCancel reply off exact = absurd (cc off)
+beside-exact old new (step.CreateIndex c) reply off exact = absurd (cc off)
 beside-exact old new step reply off exact = exact
 
 -- Its end.

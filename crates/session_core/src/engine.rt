@@ -46,7 +46,11 @@ fn is_session(step: &Step) -> bool
     ensures { result ≡ is_session step.now }
 {
     match step {
-        Step::Prune(_) | Step::VacuumBegin(_) | Step::VacuumStep | Step::VacuumCancel => false,
+        Step::Prune(_)
+        | Step::VacuumBegin(_)
+        | Step::VacuumStep
+        | Step::VacuumCancel
+        | Step::CreateIndex(_) => false,
         _ => true,
     }
 }
@@ -91,6 +95,7 @@ impl Engine {
             Step::VacuumBegin(mode) => self.begin_vacuum(mode, reply),
             Step::VacuumStep => self.step_vacuum(reply),
             Step::VacuumCancel => self.cancel_vacuum(reply),
+            Step::CreateIndex(column) => self.create_index(column, reply),
             step => {
                 self.disturb(is_session(&step));
                 self.core.step_into(step, reply)
@@ -99,7 +104,7 @@ impl Engine {
     }
 
     /// Notes in the vacuum that is running, if one is, that a step came which is not its own, and whether it is a session's.
-    fn disturb(&mut self, session: bool)
+    pub(crate) fn disturb(&mut self, session: bool)
         ensures core { self.new.core ≡ self.old.core }
         ensures vacuum { self.new.vacuum ≡ option_map (disturbed session) self.old.vacuum }
     {
@@ -146,7 +151,7 @@ impl Engine {
     }
 
     /// The index of this number, if there is one: index 0 is the primary index, by key, and index `c + 1` is that of
-    /// column `c`, where the settings ask for it.
+    /// column `c`, where the settings ask for it or since it was made.
     pub fn index(&self, number: u8) -> Option<&RootIndex>
         ensures { option_copied result ≡ engine_index self.now.core number }
     {

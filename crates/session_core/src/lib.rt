@@ -8,6 +8,7 @@
 
 mod counts;
 mod engine;
+mod making;
 mod runs;
 mod vacuuming;
 

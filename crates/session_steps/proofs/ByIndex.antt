@@ -23,7 +23,7 @@ use Rattle.refinement.specs.Visible.{ReaderSees}
 use Rattle.refinement.specs.Agrees as relation
 use Rattle.refinement.proofs.Readers.{Levels-top}
 use Rattle.visibility.specs.Visible.{state_of}
-use Rattle.session_steps.proofs.InUse.{sees-all}
+use Rattle.session_steps.proofs.Scanning.{ScansBy, now-scans, statement-scans, scans-unexcused}
 use Rattle.session_steps.specs.State.{State, seen, statement_snapshot, reader_of, horizon_of}
 use Rattle.session_steps.specs.Agrees.{Agrees}
 use Rattle.session_steps.specs.declared.session.Session.{Session}
@@ -33,9 +33,9 @@ use Rattle.session_steps.proofs.Owns.{reader-is, now_taken, taken-fresh}
 use Rattle.session_steps.proofs.Statements.{statement_sight, cursor_sight, statement-sees}
 
 -- a reader whose own ids are in progress, and what it finds on the heap
-by-index : (st : State) (w : World) (n : ℕ) (s : Snap) (own : List ℕ) (row : ℕ → Option Row) → Agrees st w → IsInUse st.heap.indexes n → ((x : ℕ) → Contains own x → window.IsActive st.heap.statuses x)
+by-index : (st : State) (w : World) (n : ℕ) (s : Snap) (own : List ℕ) (row : ℕ → Option Row) → Agrees st w → IsInUse st.heap.indexes n → ((x : ℕ) → Contains own x → window.IsActive st.heap.statuses x) → ScansBy st.heap.statuses (since_at st.heap.indexes n) s
     → relation.Shows (seen st).version (ReaderSees (state_of st.heap.statuses) (λ x. Sees s st.heap.statuses x) own) row → FindsRows st.heap s own n row
-by-index st w n s own row agrees used active shows = record {
+by-index st w n s own row agrees used active by shows = record {
   sound = λ value k p t found. let h = (on-heap value k p t).1 found in
       (ap row (sym h.of_key) ∙ shows.sound p t h.there h.has, h.of_value);
   there = λ k r is.
@@ -53,7 +53,7 @@ by-index st w n s own row agrees used active shows = record {
     on-heap : (value : ℤ) (k : ℕ) (p : Tid) (t : Version)
         → IsOnHeap (value_in n) (slots_of st.heap) value k (λ t. visibility.IsVisible st.heap.statuses s own t.header) p t ↔ IsFound st.heap s own n value k p t
     on-heap value k p t = visible-found (value_in n) (since_at st.heap.indexes n) st.heap.statuses (horizon_of st) (slots_of st.heap) (entries_in st.heap.indexes n)
-        (index-sound st.heap (horizon_of st) agrees.sound.table n used) s own active (sees-all st agrees.sound n s own) value k p t
+        (index-sound st.heap (horizon_of st) agrees.sound.table n used) s own active (scans-unexcused st w agrees n s own by active) value k p t
 
 -- one that would begin now sees what is committed
 fresh : (st : State) (w : World) → Agrees st w → relation.Shows (seen st).version (ReaderSees (state_of st.heap.statuses) (λ x. Sees (now_taken st) st.heap.statuses x) []) (committed w.history (length w.history))
@@ -87,15 +87,15 @@ shows-by st i own row is shows = record {
 
 -- at each savepoint
 at-each : (st : State) (w : World) (n : ℕ) (i : SessionIsolation) (start : ℕ) (own : List ℕ) (saved : List (List ℕ)) (levels : List (List Write)) → Agrees st w → IsInUse st.heap.indexes n
-    → ((x : ℕ) → Contains own x → window.IsActive st.heap.statuses x)
+    → ((x : ℕ) → Contains own x → window.IsActive st.heap.statuses x) → ScansBy st.heap.statuses (since_at st.heap.indexes n) (statement_snapshot st.heap.statuses i)
     → relation.LevelsAgree (state_of st.heap.statuses) (seen st).version w.history (statement_sight st i) start own saved levels
     → FindsAtEach st.heap (statement_snapshot st.heap.statuses i) n w.history start saved levels
-at-each st w n i start own [] levels agrees used active h = tt
-at-each st w n i start own (before ∷ saved) [] agrees used active h = absurd h
-at-each st w n i start own (before ∷ saved) (since ∷ levels) agrees used active h = (
-  by-index st w n (statement_snapshot st.heap.statuses i) before (reading w.history start (joined levels)) agrees used (λ x mine. active x (h.1 x mine))
+at-each st w n i start own [] levels agrees used active by h = tt
+at-each st w n i start own (before ∷ saved) [] agrees used active by h = absurd h
+at-each st w n i start own (before ∷ saved) (since ∷ levels) agrees used active by h = (
+  by-index st w n (statement_snapshot st.heap.statuses i) before (reading w.history start (joined levels)) agrees used (λ x mine. active x (h.1 x mine)) by
       (shows-by st i before (reading w.history start (joined levels)) agrees.sound.window (Levels-top before saved levels h.2).rows),
-  at-each st w n i start before saved levels agrees used (λ x mine. active x (h.1 x mine)) h.2,
+  at-each st w n i start before saved levels agrees used (λ x mine. active x (h.1 x mine)) by h.2,
 )
 
 -- a session agrees with the history's, as an engine has it
@@ -103,11 +103,12 @@ abbrev SessionFound : State → World → Session → OpenSession → Type 0
 SessionFound st w e m = relation.SessionAgrees (state_of st.heap.statuses) (seen st).version w.history (statement_sight st e.isolation) (start_now w.history m) (cursor_sight st e.isolation) (reader_of e) m
 
 -- an open session
-levels-by-index : (st : State) (w : World) (n : ℕ) (s : ℕ) (e : Session) (m : OpenSession) → Agrees st w → IsInUse st.heap.indexes n → SessionFound st w e m → FindsLevels st.heap n w.history e m
-levels-by-index st w n s e m agrees used h = record {
-  now = by-index st w n (statement_snapshot st.heap.statuses e.isolation) e.own.ids (view w.history m) agrees used active
+levels-by-index : (st : State) (w : World) (n : ℕ) (s : ℕ) (e : Session) (m : OpenSession) → Agrees st w → IsInUse st.heap.indexes n → ScansBy st.heap.statuses (since_at st.heap.indexes n) (statement_snapshot st.heap.statuses e.isolation)
+    → SessionFound st w e m → FindsLevels st.heap n w.history e m
+levels-by-index st w n s e m agrees used by h = record {
+  now = by-index st w n (statement_snapshot st.heap.statuses e.isolation) e.own.ids (view w.history m) agrees used active by
       (shows-by st e.isolation e.own.ids (view w.history m) agrees.sound.window (Levels-top e.own.ids e.own.saved m.levels h.levels).rows);
-  saved = at-each st w n e.isolation (start_now w.history m) e.own.ids e.own.saved m.levels agrees used active h.levels;
+  saved = at-each st w n e.isolation (start_now w.history m) e.own.ids e.own.saved m.levels agrees used active by h.levels;
 }
   where
     active : (x : ℕ) → Contains e.own.ids x → window.IsActive st.heap.statuses x
@@ -115,9 +116,9 @@ levels-by-index st w n s e m agrees used h = record {
 
 pub views-by-index : ViewsByIndex
 views-by-index st w agrees n used = (
-  λ s e m at there.
+  λ s e m at there may.
       let open_ = agrees.found.opened s (reader_of e) (reader-is st s e at) in
       let is : open_.0 ≡ m = same_Some open_.0 m (sym open_.1 ∙ there) in
-      levels-by-index st w n s e m agrees used (subst (λ (n : OpenSession). SessionFound st w e n) is open_.2),
-  by-index st w n (now_taken st) [] (committed w.history (length w.history)) agrees used (λ x mine. absurd (Contains-none x mine)) (fresh st w agrees),
+      levels-by-index st w n s e m agrees used (statement-scans st w agrees n s e at (sym (agrees.scans s e at n) ∙ may.1)) (subst (λ (n : OpenSession). SessionFound st w e n) is open_.2),
+  by-index st w n (now_taken st) [] (committed w.history (length w.history)) agrees used (λ x mine. absurd (Contains-none x mine)) (now-scans st w agrees n) (fresh st w agrees),
 )

@@ -1,6 +1,9 @@
 -- A page is pruned, and no session can tell.
 use Rattle.visibility.proofs.Makers.{is-inserter, is-deleter, inserter-is, deleter-is, state-is, state-some, committed-from, active-to}
-use Rattle.session_steps.proofs.InUse.{still-in_use, agree}
+use Rattle.refinement.proofs.Runs.{unmade}
+use Rattle.sound_entries.specs.Since.{IsExactSince}
+use Rattle.table_indexes.specs.Indexes.{since_at}
+use Rattle.session_steps.proofs.InUse.{marks-stay, scans-still, agree}
 use Rattle.std.proofs.Common.{◌≡◌, ◌≢◌, ℕ, zero, suc, ◌≤◌, List, Option, Some, None, false, refl, sym, ap, ◌∙◌, subst, ◌⊎◌, inl, inr, arith}
 use Rattle.std.specs.Prelude.{Contains, IsSome}
 use Rattle.std.proofs.lemmas.Option.{same_Some, none-some}
@@ -10,7 +13,7 @@ use Rattle.tuple_header.specs.Version.{Version}
 use Rattle.page_slots.specs.declared.slot.Slot.{Slot}
 use Rattle.page_slots.specs.Slots.{version_at}
 use Rattle.commit_status.specs.declared.status.Status.TheVariants.{InProgress, Committed, Aborted}
-use Rattle.commit_status.specs.Window.{IsCommitted, IsAborted, place, next_id}
+use Rattle.commit_status.specs.Window.{Window, IsCommitted, IsAborted, place, next_id}
 use Rattle.commit_status.proofs.Places.{upto-place, is-from_some}
 use Rattle.commit_status.proofs.Giving.{finished-place}
 use Rattle.snapshot.specs.Snap.{Snap, Sees, earliest}
@@ -179,16 +182,16 @@ pruned st h p w prunes agrees =
     let f = theory.Follows-prune (seen st) p (version_in (slots_of h)) (removes-past st w (version_in (slots_of h)) p agrees (prunes-stand st.heap h p (horizon_of st) prunes)) w agrees.found in
     let statuses : h.statuses ≡ st.heap.statuses = ap (λ (g : HeapView). g.statuses) prunes.is in
     let limit : h.max_pages ≡ st.heap.max_pages = ap (λ (g : HeapView). g.max_pages) prunes.is in
-    agree agrees refl refl (subst (λ t. relation_agrees.HeapAgrees (seen_in (slots_of h) t st.sessions) w) (sym statuses) f.1) (record {
+    agree agrees stays.in_use (marks-stay st.sessions) (unmade refl refl) (subst (λ t. relation_agrees.HeapAgrees (seen_in (slots_of h) t st.sessions) w) (sym statuses) f.1) (record {
       count = agrees.sound.count;
       max_pages = limit ∙ agrees.sound.max_pages;
       stop_age = rw statuses agrees.sound.stop_age;
       window = rw statuses agrees.sound.window;
       sessions = rw statuses agrees.sound.sessions;
       tops = rw statuses agrees.sound.tops;
-      indexes = still-in_use st.heap.indexes h.indexes st.settings.indexed stays.in_use agrees.sound.indexes;
-      exact = λ n. stays.since n ∙ agrees.sound.exact n;
-      cursors = λ s e span at is. (stays.in_use span.index).0 (agrees.sound.cursors s e span at is);
+      by_key = (stays.in_use 0).0 agrees.sound.by_key;
+      since = λ n. subst (IsExactSince h.statuses) (sym (stays.since n)) (subst (λ t. IsExactSince t (since_at st.heap.indexes n)) (sym statuses) (agrees.sound.since n));
+      scans = λ s e at. scans-still st.heap.statuses h.statuses st.heap.indexes h.indexes (ap (λ (w : Window). w.first) statuses) stays.in_use stays.since e (agrees.sound.scans s e at);
       table = subst (λ t. SoundTable h (earliest (next_id t) (held_back st.sessions))) (sym statuses) stays.sound;
     })
 
@@ -202,4 +205,4 @@ Follows-prune st st' p cleans w agrees =
     same a h xs b ys e f = rw (e, f) refl
 
 pub Follows-no_such_page : (st : State) (p : ℕ) → Follows st (step.Prune p) (reply.Refused refusal.NoSuchPage) st
-Follows-no_such_page st p = Follows-same st (step.Prune p) (reply.Refused refusal.NoSuchPage) (theory.Follows-unpruned (seen st) p refusal.NoSuchPage (λ w. tt))
+Follows-no_such_page st p = Follows-same st (step.Prune p) (reply.Refused refusal.NoSuchPage) tt (theory.Follows-unpruned (seen st) p refusal.NoSuchPage (λ w. tt))

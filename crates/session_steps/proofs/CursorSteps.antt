@@ -11,9 +11,9 @@ use Rattle.std.proofs.lemmas.List.Elements.{Contains-append_cases}
 use Rattle.std.specs.Option.{option_map}
 use Rattle.commit_status.specs.Window.{IsUpToNext, turns}
 use Rattle.snapshot.specs.Snap.{Snap}
-use Rattle.history.specs.World.{World}
+use Rattle.history.specs.World.{World, MayScan}
 use Rattle.root_index.specs.View.{IndexView}
-use Rattle.table_indexes.specs.Indexes.{IndexesView, IsInUse, index_at}
+use Rattle.table_indexes.specs.Indexes.{IndexesView, IsInUse, index_at, since_at}
 use Rattle.calls.specs.declared.step.Step.TheVariants as step
 use Rattle.calls.specs.declared.reply.Reply.TheVariants as reply
 use Rattle.calls.specs.declared.reply.Refusal.{Refusal}
@@ -24,6 +24,7 @@ use Rattle.refinement.specs.Cursors.{heap_start}
 use Rattle.refinement.specs.Allowed.{Allows, next}
 use Rattle.refinement.proofs.Steps.{OnlyIs}
 use Rattle.refinement.proofs.FollowsCursors as cursors
+use Rattle.refinement.proofs.Runs.{unmade}
 use Rattle.session_steps.specs.declared.session.Session.{Session}
 use Rattle.session_steps.specs.declared.session.SessionIsolation.{SessionIsolation}
 use Rattle.session_steps.specs.declared.session.SessionIsolation.TheVariants.{BySnapshot, ByStatement}
@@ -31,9 +32,11 @@ use Rattle.session_steps.specs.Exact.{HasCursor, OpensCursor}
 use Rattle.table_scans.specs.declared.progress.Scan.{Scan}
 use Rattle.table_scans.specs.declared.progress.Scan.TheVariants.{Index, Heap}
 use Rattle.index_lookup.specs.declared.index_scan.IndexRange.{IndexRange}
-use Rattle.session_steps.specs.State.{State, session_at, put_session, map_session, with_cursor, with_kept, keeping, kept_by, kept_xmin, holds_back, horizon_of, IsByStatement, isolation_seen, seen, position_of, reader_of, engine_sessions}
+use Rattle.session_steps.specs.State.{State, session_at, put_session, map_session, with_cursor, with_kept, keeping, kept_by, kept_xmin, holds_back, horizon_of, IsByStatement, is_too_new, isolation_seen, seen, position_of, reader_of, engine_sessions}
 use Rattle.session_steps.specs.Agrees.{Agrees, Sound, SessionKeeps, Follows, KeepsAllTargets}
-use Rattle.session_steps.proofs.InUse.{GoesAlong, used-still, no-cursor, cursors-put, agree}
+use Rattle.session_steps.proofs.InUse.{GoesAlong, used-still, marks-put, no-cursor, scans-put, agree}
+use Rattle.session_steps.proofs.Scanning.{opened-scans}
+use Rattle.sound_entries.specs.Since.{MayScanSince}
 use Rattle.session_steps.proofs.OwnIdsLemmas.{open-within, open-set_cases}
 use Rattle.session_steps.proofs.StateLemmas.{only-set}
 use Rattle.session_steps.proofs.Owns.{reader-is, now_taken, taken-fresh, taken-within}
@@ -44,20 +47,20 @@ use Rattle.session_steps.proofs.Follows.{Follows-same, stays-so, free_by, bare_b
 
 pub Follows-barred_open_index : (st : State) (s index : ℕ) (low high : ℤ) (r : Refusal) → BarsFree (engine_sessions st) s r → Follows st (step.OpenIndex s index low high) (reply.Refused r) st
 Follows-barred_open_index st s index low high r is =
-    Follows-same st (step.OpenIndex s index low high) (reply.Refused r) (cursors.Follows-barred_open_index (seen st) s index low high r (free_by st s r is))
+    Follows-same st (step.OpenIndex s index low high) (reply.Refused r) tt (cursors.Follows-barred_open_index (seen st) s index low high r (free_by st s r is))
 
 pub Follows-barred_open_heap : (st : State) (s : ℕ) (r : Refusal) → BarsFree (engine_sessions st) s r → Follows st (step.OpenHeap s) (reply.Refused r) st
-Follows-barred_open_heap st s r is = Follows-same st (step.OpenHeap s) (reply.Refused r) (cursors.Follows-barred_open_heap (seen st) s r (free_by st s r is))
+Follows-barred_open_heap st s r is = Follows-same st (step.OpenHeap s) (reply.Refused r) tt (cursors.Follows-barred_open_heap (seen st) s r (free_by st s r is))
 
 pub Follows-bare_close : (st : State) (s : ℕ) (r : Refusal) → BarsWithCursor (engine_sessions st) s r → Follows st (step.Close s) (reply.Refused r) st
-Follows-bare_close st s r is = Follows-same st (step.Close s) (reply.Refused r) (cursors.Follows-bare_close (seen st) s r (bare_by st s r is))
+Follows-bare_close st s r is = Follows-same st (step.Close s) (reply.Refused r) tt (cursors.Follows-bare_close (seen st) s r (bare_by st s r is))
 
 -- An index that is not there is not in use.
 
-not-used : (n : ℕ) (indexes : IndexesView) → index_at indexes n ≡ None → ¬ IsInUse indexes n
+pub not-used : (n : ℕ) (indexes : IndexesView) → index_at indexes n ≡ None → ¬ IsInUse indexes n
 not-used n indexes none used = absurd (let e = ap (λ (o : Option IndexView). option_map (λ (i : IndexView). i.entries) o) none in let f = subst (λ (o : Option _). IsSome o) e used in cc)
 
-absent : (b : Bool) → ¬ (b ≡ true) → b ≡ false
+pub absent : (b : Bool) → ¬ (b ≡ true) → b ≡ false
 absent true not = absurd (not refl)
 absent false not = refl
 
@@ -65,26 +68,38 @@ pub Follows-no_such_index : (st : State) (s : ℕ) (e : Session) (index : ℕ) (
     → Follows st (step.OpenIndex s index low high) (reply.Refused refusal.NoSuchIndex) st
 Follows-no_such_index st s e index low high at sound bare none w agrees =
     let has = absent (w.has_index index) (λ has. not-used index st.heap.indexes none ((agrees.indexes index).1 has)) in
-    stays-so st w (step.OpenIndex s index low high) (reply.Refused refusal.NoSuchIndex) agrees
+    stays-so st w (step.OpenIndex s index low high) (reply.Refused refusal.NoSuchIndex) tt agrees
     (cursors.Follows-no_such_index (seen st) s (reader_of e) index low high (reader-is st s e at) sound (ap position_of bare) w has agrees.found)
 
-pub Follows-bad_bounds : (st : State) (s : ℕ) (e : Session) (index : ℕ) (low high : ℤ) → session_at st s ≡ Some e → e.failed ≡ false → e.cursor ≡ None → IsInUse st.heap.indexes index → high <ℤ low
+-- An index that was made while the session was open by snapshot.
+
+pub Follows-index_too_new : (st : State) (s : ℕ) (e : Session) (index : ℕ) (low high : ℤ) → session_at st s ≡ Some e → e.failed ≡ false → e.cursor ≡ None → IsInUse st.heap.indexes index → is_too_new e index ≡ true
+    → Follows st (step.OpenIndex s index low high) (reply.Refused refusal.IndexTooNew) st
+Follows-index_too_new st s e index low high at sound bare used mark w agrees =
+    stays-so st w (step.OpenIndex s index low high) (reply.Refused refusal.IndexTooNew) tt agrees
+    (cursors.Follows-index_too_new (seen st) s (reader_of e) index low high (reader-is st s e at) sound (ap position_of bare) w ((agrees.indexes index).0 used, agrees.scans s e at index ∙ mark) agrees.found)
+
+-- the history lets the session scan it
+may-scan : (st : State) (w : World) (s : ℕ) (e : Session) (index : ℕ) → session_at st s ≡ Some e → Agrees st w → IsInUse st.heap.indexes index → is_too_new e index ≡ false → MayScan w s index
+may-scan st w s e index at agrees used may = ((agrees.indexes index).0 used, agrees.scans s e at index ∙ may)
+
+pub Follows-bad_bounds : (st : State) (s : ℕ) (e : Session) (index : ℕ) (low high : ℤ) → session_at st s ≡ Some e → e.failed ≡ false → e.cursor ≡ None → IsInUse st.heap.indexes index → is_too_new e index ≡ false → high <ℤ low
     → Follows st (step.OpenIndex s index low high) (reply.Refused refusal.BadBounds) st
-Follows-bad_bounds st s e index low high at sound bare used order w agrees =
-    stays-so st w (step.OpenIndex s index low high) (reply.Refused refusal.BadBounds) agrees
-    (cursors.Follows-bad_bounds (seen st) s (reader_of e) index low high (reader-is st s e at) sound (ap position_of bare) order w ((agrees.indexes index).0 used) agrees.found)
+Follows-bad_bounds st s e index low high at sound bare used may order w agrees =
+    stays-so st w (step.OpenIndex s index low high) (reply.Refused refusal.BadBounds) tt agrees
+    (cursors.Follows-bad_bounds (seen st) s (reader_of e) index low high (reader-is st s e at) sound (ap position_of bare) order w (may-scan st w s e index at agrees used may) agrees.found)
 
 -- There is no memory for the snapshot that a cursor by statement keeps.
 
-pub Follows-open_index_no_memory : (st : State) (s : ℕ) (e : Session) (index : ℕ) (low high : ℤ) → session_at st s ≡ Some e → e.failed ≡ false → e.cursor ≡ None → IsInUse st.heap.indexes index → low ≤ℤ high
+pub Follows-open_index_no_memory : (st : State) (s : ℕ) (e : Session) (index : ℕ) (low high : ℤ) → session_at st s ≡ Some e → e.failed ≡ false → e.cursor ≡ None → IsInUse st.heap.indexes index → is_too_new e index ≡ false → low ≤ℤ high
     → Follows st (step.OpenIndex s index low high) (reply.Refused refusal.NoMemory) st
-Follows-open_index_no_memory st s e index low high at sound bare used order w agrees =
-    stays-so st w (step.OpenIndex s index low high) (reply.Refused refusal.NoMemory) agrees
-    (cursors.Follows-open_index_no_memory (seen st) s (reader_of e) index low high (reader-is st s e at) sound (ap position_of bare) order w ((agrees.indexes index).0 used) agrees.found)
+Follows-open_index_no_memory st s e index low high at sound bare used may order w agrees =
+    stays-so st w (step.OpenIndex s index low high) (reply.Refused refusal.NoMemory) tt agrees
+    (cursors.Follows-open_index_no_memory (seen st) s (reader_of e) index low high (reader-is st s e at) sound (ap position_of bare) order w (may-scan st w s e index at agrees used may) agrees.found)
 
 pub Follows-open_heap_no_memory : (st : State) (s : ℕ) (e : Session) → session_at st s ≡ Some e → e.failed ≡ false → e.cursor ≡ None → Follows st (step.OpenHeap s) (reply.Refused refusal.NoMemory) st
 Follows-open_heap_no_memory st s e at sound bare =
-    Follows-same st (step.OpenHeap s) (reply.Refused refusal.NoMemory) (cursors.Follows-open_heap_no_memory (seen st) s (reader_of e) (reader-is st s e at) sound (ap position_of bare))
+    Follows-same st (step.OpenHeap s) (reply.Refused refusal.NoMemory) tt (cursors.Follows-open_heap_no_memory (seen st) s (reader_of e) (reader-is st s e at) sound (ap position_of bare))
 
 -- A session's cursor moves, and nothing else changes.
 
@@ -98,8 +113,9 @@ module _ (st st' : State) (s : ℕ) (e : Session) (cursor : Scan) (at : session_
   pub only-cursor : OnlyIs (seen st).session (seen (put_session st s (Some (with_cursor (Some cursor) e)))).session s (Some (record (reader_of e) { cursor = position_of (Some cursor) }))
   only-cursor = let only = only-set st s (Some (with_cursor (Some cursor) e)) (open-within st.sessions s e at) in record { others = only.others; itself = only.itself }
 
-  pub sound-cursor : GoesAlong st.heap.indexes (Some cursor) → Sound st → Sound (put_session st s (Some (with_cursor (Some cursor) e)))
-  sound-cursor along sound = Sound-put st s e (with_cursor (Some cursor) e) at refl (keeps-cursor st e cursor (sound.sessions s e at)) along sound
+  pub sound-cursor : GoesAlong st.heap.statuses st.heap.indexes e.isolation (Some cursor) → Sound st → Sound (put_session st s (Some (with_cursor (Some cursor) e)))
+  sound-cursor along sound = Sound-put st s e (with_cursor (Some cursor) e) at refl (keeps-cursor st e cursor (sound.sessions s e at))
+      (record { by_snapshot = λ n snap reads may. (sound.scans s e at).by_snapshot n snap reads may; cursor = along }) sound
 
 -- A cursor is opened or closed: by statement the session keeps a snapshot for it, or none any more.
 
@@ -110,6 +126,11 @@ with_both cursor kept e = with_kept kept (with_cursor cursor e)
 for-both : (i : SessionIsolation) (cursor : Option Scan) (kept : Option Snap) → (IsSome kept → IsSome cursor) → IsByStatement (keeping kept i) → IsSome (kept_by (keeping kept i)) → IsSome cursor
 for-both (BySnapshot snap) cursor kept some by keeps = absurd by
 for-both (ByStatement old) cursor kept some by keeps = some keeps
+
+-- by snapshot it reads as before
+still-by_snapshot : (i : SessionIsolation) (kept : Option Snap) (snap : Snap) → keeping kept i ≡ BySnapshot snap → i ≡ BySnapshot snap
+still-by_snapshot (BySnapshot own) kept snap is = is
+still-by_snapshot (ByStatement old) kept snap is = absurd (cc)
 
 module _ (st : State) (w : World) (s : ℕ) (e : Session) (cursor : Option Scan) (kept : Option Snap) (at : session_at st s ≡ Some e) (agrees : Agrees st w) (fresh : (snap : Snap) → kept ≡ Some snap → snap ≡ now_taken st) where
   keeps-both : (IsSome kept → IsSome cursor) → SessionKeeps st.heap.statuses (with_both cursor kept e)
@@ -137,7 +158,7 @@ module _ (st : State) (w : World) (s : ℕ) (e : Session) (cursor : Option Scan)
       was : (z : ℕ) → Contains (holds_back e) z → IsUpToNext st.heap.statuses z × (turns st.heap.statuses.first (horizon_of st) ≤ turns st.heap.statuses.first z)
       was z back = (held-in st w agrees s e z at back, horizon-low st.heap.statuses st.sessions s e z agrees.sound.window (held-in st w agrees) at back)
 
-  pub sound-both : (IsSome kept → IsSome cursor) → GoesAlong st.heap.indexes cursor → Sound (put_session st s (Some (with_both cursor kept e)))
+  pub sound-both : (IsSome kept → IsSome cursor) → GoesAlong st.heap.statuses st.heap.indexes (keeping kept e.isolation) cursor → Sound (put_session st s (Some (with_both cursor kept e)))
   sound-both some along = record {
     count = length-set st.sessions s (Some (with_both cursor kept e)) ∙ agrees.sound.count;
     max_pages = agrees.sound.max_pages;
@@ -148,9 +169,12 @@ module _ (st : State) (w : World) (s : ℕ) (e : Session) (cursor : Option Scan)
       | inr other ↦ agrees.sound.sessions o f other.1
     ];
     tops = agrees.sound.tops;
-    indexes = agrees.sound.indexes;
-    exact = agrees.sound.exact;
-    cursors = cursors-put st.sessions st.heap.indexes st.heap.indexes s (with_both cursor kept e) (open-within st.sessions s e at) (used-still st.heap.indexes) along agrees.sound.cursors;
+    by_key = agrees.sound.by_key;
+    since = agrees.sound.since;
+    scans = scans-put st.heap.statuses st.heap.indexes st.sessions s (with_both cursor kept e) (open-within st.sessions s e at) (record {
+      by_snapshot = λ n snap reads may. (agrees.sound.scans s e at).by_snapshot n snap (still-by_snapshot e.isolation kept snap reads) may;
+      cursor = along;
+    }) agrees.sound.scans;
     table = later-sound st w st.heap s e (with_both cursor kept e) at agrees agrees.sound.window refl (omega arith) (λ y upto. upto) back-both agrees.sound.table;
   }
 
@@ -171,8 +195,13 @@ without-kept : (i : SessionIsolation) → isolation_seen (keeping None i) ≡ cu
 without-kept (BySnapshot snap) = refl
 without-kept (ByStatement old) = refl
 
-along-span : (indexes : IndexesView) (span : IndexRange) → IsInUse indexes span.index → GoesAlong indexes (Some (Index span))
-along-span indexes span used other is = let same : span ≡ other = cc in subst (λ (span : IndexRange). IsInUse indexes span.index) same used
+-- the cursor that is opened goes along an index that the session may scan
+along-span : (st : State) (w : World) (s : ℕ) (e : Session) (span : IndexRange) → Agrees st w → session_at st s ≡ Some e → IsInUse st.heap.indexes span.index → is_too_new e span.index ≡ false
+    → GoesAlong st.heap.statuses st.heap.indexes (keeping (Some (now_taken st)) e.isolation) (Some (Index span))
+along-span st w s e span agrees at used may other is =
+    let same : span ≡ other = cc in
+    subst (λ (span : IndexRange). IsInUse st.heap.indexes span.index × ((snap : Snap) → kept_by (keeping (Some (now_taken st)) e.isolation) ≡ Some snap → MayScanSince st.heap.statuses (since_at st.heap.indexes span.index) snap)) same
+    (used, opened-scans st w agrees span.index s e at may)
 
 -- what is taken now is kept
 taken-alone : (st : State) (snap : Snap) → Some (now_taken st) ≡ Some snap → snap ≡ now_taken st
@@ -185,34 +214,46 @@ opens-as st st' s e cursor kept at same is =
     put-both st st' s e (Some cursor) kept at is ∙ ap (λ (i : SessionIsolation). put_session st s (Some (record e { isolation = i; cursor = Some cursor }))) same
     ∙ sym (ap (λ o. put_session st s (map_session (with_both (Some cursor) (Some (now_taken st))) o)) at)
 
-pub Follows-opened_index : (st st' : State) (s : ℕ) (e : Session) (span : IndexRange) → session_at st s ≡ Some e → e.failed ≡ false → e.cursor ≡ None → span.low ≤ℤ span.high → span.last ≡ None → IsInUse st.heap.indexes span.index
+pub Follows-opened_index : (st st' : State) (s : ℕ) (e : Session) (span : IndexRange) → session_at st s ≡ Some e → e.failed ≡ false → e.cursor ≡ None → span.low ≤ℤ span.high → span.last ≡ None → IsInUse st.heap.indexes span.index → is_too_new e span.index ≡ false
     → OpensCursor st st' s (Index span) → Follows st (step.OpenIndex s span.index span.low span.high) reply.Done st'
-Follows-opened_index st st' s e span at sound bare order none used is w agrees =
+Follows-opened_index st st' s e span at sound bare order none used may is w agrees =
     let now = put_session st s (Some (with_both (Some (Index span)) (Some (now_taken st)) e)) in
     let position : position_of (Some (Index span)) ≡ Some (relation.in_index span.index span.low span.high None) = rw none refl in
     let isolation = isolation_seen (keeping (Some (now_taken st)) e.isolation) in
     let only = subst (λ p. OnlyIs (seen st).session (seen now).session s (Some (record (reader_of e) { isolation = isolation; cursor = p }))) position (only-both st s e (Some (Index span)) (Some (now_taken st)) at) in
     let f = cursors.Follows-open_index (seen st) s (reader_of e) span.index span.low span.high isolation (seen now).session only (λ w' found. opens-by st w e.isolation agrees)
-    (reader-is st s e at) sound (ap position_of bare) order w ((agrees.indexes span.index).0 used) agrees.found in
+    (reader-is st s e at) sound (ap position_of bare) order w (may-scan st w s e span.index at agrees used may) agrees.found in
     subst (λ st'. Allows w (step.OpenIndex s span.index span.low span.high) reply.Done × Agrees st' (next w (step.OpenIndex s span.index span.low span.high) reply.Done) × KeepsAllTargets st st')
-    (sym (put-both st st' s e (Some (Index span)) (Some (now_taken st)) at is))
-    (f.0, agree agrees refl refl f.1 (sound-both st w s e (Some (Index span)) (Some (now_taken st)) at agrees (taken-alone st) (λ some. refl) (along-span st.heap.indexes span used)), led-same st w agrees)
+    (sym (put-both st st' s e (Some (Index span)) (Some (now_taken st)) at is)) (
+      f.0,
+      agree agrees (used-still st.heap.indexes) (marks-put st.sessions s e (with_both (Some (Index span)) (Some (now_taken st)) e) at refl) (unmade refl refl) f.1
+          (sound-both st w s e (Some (Index span)) (Some (now_taken st)) at agrees (taken-alone st) (λ some. refl) (along-span st w s e span agrees at used may)),
+      led-same st w agrees,
+    )
 
 pub Follows-opened_heap : (st st' : State) (s : ℕ) (e : Session) → session_at st s ≡ Some e → e.failed ≡ false → e.cursor ≡ None → OpensCursor st st' s (Heap heap_start) → Follows st (step.OpenHeap s) reply.Done st'
 Follows-opened_heap st st' s e at sound bare is w agrees =
     let now = put_session st s (Some (with_both (Some (Heap heap_start)) (Some (now_taken st)) e)) in
     let f = cursors.Follows-open_heap (seen st) s (reader_of e) (isolation_seen (keeping (Some (now_taken st)) e.isolation)) (seen now).session (only-both st s e (Some (Heap heap_start)) (Some (now_taken st)) at)
     (λ w' found. opens-by st w e.isolation agrees) (reader-is st s e at) sound (ap position_of bare) w agrees.found in
-    subst (λ st'. Allows w (step.OpenHeap s) reply.Done × Agrees st' (next w (step.OpenHeap s) reply.Done) × KeepsAllTargets st st') (sym (put-both st st' s e (Some (Heap heap_start)) (Some (now_taken st)) at is))
-    (f.0, agree agrees refl refl f.1 (sound-both st w s e (Some (Heap heap_start)) (Some (now_taken st)) at agrees (taken-alone st) (λ some. refl) (λ span here. absurd (cc))), led-same st w agrees)
+    subst (λ st'. Allows w (step.OpenHeap s) reply.Done × Agrees st' (next w (step.OpenHeap s) reply.Done) × KeepsAllTargets st st') (sym (put-both st st' s e (Some (Heap heap_start)) (Some (now_taken st)) at is)) (
+      f.0,
+      agree agrees (used-still st.heap.indexes) (marks-put st.sessions s e (with_both (Some (Heap heap_start)) (Some (now_taken st)) e) at refl) (unmade refl refl) f.1
+          (sound-both st w s e (Some (Heap heap_start)) (Some (now_taken st)) at agrees (taken-alone st) (λ some. refl) (λ span here. absurd (cc))),
+      led-same st w agrees,
+    )
 
 pub Follows-closed_cursor : (st st' : State) (s : ℕ) (e : Session) → session_at st s ≡ Some e → e.failed ≡ false → IsSome e.cursor → HasCursor st st' s None None → Follows st (step.Close s) reply.Done st'
 Follows-closed_cursor st st' s e at sound some is w agrees =
     let now = put_session st s (Some (with_both None None e)) in
     let only = subst (λ i. OnlyIs (seen st).session (seen now).session s (Some (record (reader_of e) { isolation = i; cursor = None }))) (without-kept e.isolation) (only-both st s e None None at) in
     let f = cursors.Follows-close (seen st) s (reader_of e) (seen now).session only (reader-is st s e at) sound (some-position e.cursor some) w agrees.found in
-    subst (λ st'. Allows w (step.Close s) reply.Done × Agrees st' (next w (step.Close s) reply.Done) × KeepsAllTargets st st') (sym (put-both st st' s e None None at is))
-    (f.0, agree agrees refl refl f.1 (sound-both st w s e None None at agrees (λ snap none. absurd (none-some snap none)) (λ some. some) (no-cursor st.heap.indexes None refl)), led-same st w agrees)
+    subst (λ st'. Allows w (step.Close s) reply.Done × Agrees st' (next w (step.Close s) reply.Done) × KeepsAllTargets st st') (sym (put-both st st' s e None None at is)) (
+      f.0,
+      agree agrees (used-still st.heap.indexes) (marks-put st.sessions s e (with_both None None e) at refl) (unmade refl refl) f.1
+          (sound-both st w s e None None at agrees (λ snap none. absurd (none-some snap none)) (λ some. some) (no-cursor st.heap.statuses st.heap.indexes (keeping None e.isolation) None refl)),
+      led-same st w agrees,
+    )
 
 abbrev pub span-of : ℕ → ℤ → ℤ → IndexRange
 span-of index low high = record { index = index; low = low; high = high; last = None }

@@ -38,10 +38,13 @@ use Rattle.snapshot.proofs.Takes.{first-in}
 use Rattle.session_steps.specs.declared.session.Session.{Session}
 use Rattle.visibility.specs.Visible.{state_of}
 use Rattle.session_steps.specs.State.{State, session_at, seen, reader_of, holds_back, horizon_of}
-use Rattle.session_steps.specs.Agrees.{Agrees, Sound, SessionKeeps, KeepsAllTargets}
+use Rattle.session_steps.specs.Agrees.{Agrees, Sound, SessionKeeps, SessionScans, KeepsAllTargets}
+use Rattle.sound_entries.specs.Since.{IsExactSince}
+use Rattle.sound_entries.proofs.Since.{finishing-since}
 use Rattle.session_steps.specs.Changes.{Closes, RollsBack}
 use Rattle.calls.specs.declared.settings.Settings.{Settings}
-use Rattle.session_steps.proofs.InUse.{AreInUse, GoesAlong, still-in_use, same-cursor}
+use Rattle.session_steps.proofs.InUse.{scans-still, scans-as}
+use Rattle.table_indexes.specs.Indexes.{since_at}
 use Rattle.session_steps.proofs.OwnIdsLemmas.{open-within, open-set_cases}
 use Rattle.session_steps.proofs.Owns.{reader-is, reader-at}
 use Rattle.session_steps.proofs.Statements.{statement_sight}
@@ -242,9 +245,9 @@ module _ (st st' : State) (s : ℕ) (e : Session) (now : Option Session) (ids : 
     indexes = change.indexes;
   }
 
-  Sound-ended : ((f : Session) → now ≡ Some f → SessionKeeps st'.heap.statuses f) → ((f : Session) → now ≡ Some f → GoesAlong st.heap.indexes f.cursor) → (end ≡ Committed → (x : ℕ) → Contains ids x → Contains ids (top_of st.heap.statuses x))
+  Sound-ended : ((f : Session) → now ≡ Some f → SessionKeeps st'.heap.statuses f) → ((f : Session) → now ≡ Some f → SessionScans st.heap.statuses st.heap.indexes f) → (end ≡ Committed → (x : ℕ) → Contains ids x → Contains ids (top_of st.heap.statuses x))
       → StaysSoundTable st.heap st'.heap (horizon_of st) → Sound st'
-  Sound-ended keeps along with_tops stays = record {
+  Sound-ended keeps scans with_tops stays = record {
     count = ap length change.sessions ∙ (length-set st.sessions s now ∙ agrees.sound.count);
     max_pages = change.max_pages ∙ agrees.sound.max_pages ∙ ap (λ (g : Settings). g.max_pages) (sym change.settings);
     stop_age = change.finishes.stop_age ∙ agrees.sound.stop_age ∙ ap (λ (g : Settings). g.stop_age) (sym change.settings);
@@ -253,11 +256,11 @@ module _ (st st' : State) (s : ℕ) (e : Session) (now : Option Session) (ids : 
       | inl same ↦ keeps f same.1
       | inr other ↦ keeps-finish st.heap.statuses st'.heap.statuses ids end f change.finishes (agrees.sound.sessions o f other.1)
     ];
-    indexes = still-in_use st.heap.indexes st'.heap.indexes st'.settings.indexed stays.in_use (subst (λ (g : Settings). AreInUse st.heap.indexes g.indexed) (sym change.settings) agrees.sound.indexes);
-    exact = λ n. stays.since n ∙ agrees.sound.exact n;
-    cursors = λ o f span bt is. (stays.in_use span.index).0 (elim (still o f bt) [
-      | inl same ↦ along f same.1 span is
-      | inr other ↦ agrees.sound.cursors o f span other.1 is
+    by_key = (stays.in_use 0).0 agrees.sound.by_key;
+    since = λ n. subst (IsExactSince st'.heap.statuses) (sym (stays.since n)) (finishing-since st.heap.statuses st'.heap.statuses ids end (since_at st.heap.indexes n) ended change.finishes (agrees.sound.since n));
+    scans = λ o f bt. scans-still st.heap.statuses st'.heap.statuses st.heap.indexes st'.heap.indexes change.finishes.first stays.in_use stays.since f (elim (still o f bt) [
+      | inl same ↦ scans f same.1
+      | inr other ↦ agrees.sound.scans o f other.1
     ]);
     tops = finishes-well_topped st.heap.statuses st'.heap.statuses ids end ended change.finishes agrees.sound.window with_tops agrees.sound.tops;
     table = later-stays-sound st'.heap (horizon_of st) (horizon_of st') stays.sound change.window
@@ -301,7 +304,7 @@ rolls-back-sound st st' s before saved w back is agrees =
     let mine : (x : ℕ) → Contains back.back.since x → Contains e.own.ids x = λ x late. subst (λ xs. Contains xs x) (sym were) (Contains-append_right before back.back.since x late) in
     let stays = aborted-stays st.heap st'.heap (horizon_of st) back.back.since agrees.sound.table
     (table-finishes st st' s e (Some back.now) back.back.since Aborted (λ e. cc) back.at change less w agrees mine) (since-alone st w agrees s e before back.back.since saved back.at is were) in
-    (Sound-ended st st' s e (Some back.now) back.back.since Aborted (λ e. cc) back.at change less w agrees keeps along (λ done x among. absurd (cc)) stays, stays.led)
+    (Sound-ended st st' s e (Some back.now) back.back.since Aborted (λ e. cc) back.at change less w agrees keeps scans (λ done x among. absurd (cc)) stays, stays.led)
   where
     e : Session
     e = back.session
@@ -309,8 +312,9 @@ rolls-back-sound st st' s before saved w back is agrees =
     less : (f : Session) (y : ℕ) → Some back.now ≡ Some f → Contains (holds_back f) y → Contains (holds_back e) y
     less f y same among = fewer-back e back.now back.back.since y back.back.returns.isolation back.back.ids (subst (λ (g : Session). Contains (holds_back g) y) (sym (same_Some back.now f same)) among)
 
-    along : (f : Session) → Some back.now ≡ Some f → GoesAlong st.heap.indexes f.cursor
-    along f same = same-cursor st.sessions st.heap.indexes s e f back.at (ap (λ (g : Session). g.cursor) (sym (same_Some back.now f same)) ∙ back.back.returns.cursor) agrees.sound.cursors
+    scans : (f : Session) → Some back.now ≡ Some f → SessionScans st.heap.statuses st.heap.indexes f
+    scans f same = subst (SessionScans st.heap.statuses st.heap.indexes) (same_Some back.now f same)
+        (scans-as st.heap.statuses st.heap.indexes e back.now back.back.returns.isolation back.back.returns.cursor back.back.returns.too_new (agrees.sound.scans s e back.at))
 
     keeps : (f : Session) → Some back.now ≡ Some f → SessionKeeps st'.heap.statuses f
     keeps f same = subst (λ f. SessionKeeps st'.heap.statuses f) (same_Some back.now f same) (keeps-finish st.heap.statuses st'.heap.statuses back.back.since Aborted back.now back.back.finishes

@@ -1,5 +1,5 @@
 -- The reply to each step of the engine follows the history.
-use Rattle.std.proofs.Common.{◌≡◌, ℕ, zero, suc, ◌<◌, ◌≤◌, List, [], ◌∷◌, ◌++◌, length, set, Option, Some, None, true, false, refl, sym, ap, ◌∙◌, subst, ◌⊎◌, inl, inr, arith}
+use Rattle.std.proofs.Common.{◌≡◌, ℕ, zero, suc, ◌<◌, ◌≤◌, List, [], ◌∷◌, ◌++◌, length, set, Option, Some, None, Bool, true, false, refl, sym, ap, ◌∙◌, subst, ◌⊎◌, inl, inr, arith}
 use Rattle.std.proofs.Math.ListN.{length-set}
 use Rattle.std.specs.Prelude.{Contains, IsSome}
 use Rattle.std.specs.Option.{option_map}
@@ -15,6 +15,7 @@ use Rattle.index_lookup.specs.Pages.{version_in, slot_in}
 use Rattle.sound_entries.specs.Entries.{MayBeTarget, same_version, led_on, died}
 use Rattle.sound_entries.specs.Entries as entries
 use Rattle.index_lookup.specs.Pages as lists
+use Rattle.table_indexes.specs.Indexes.{since_at}
 use Rattle.table_integrity.specs.Table.{SoundTable}
 use Rattle.table_integrity.proofs.InUse.{used-by}
 use Rattle.table_integrity.proofs.Keeping.{later-stays-sound}
@@ -29,7 +30,7 @@ use Rattle.calls.specs.declared.reply.Reply.{Reply}
 use Rattle.calls.specs.declared.reply.Reply.TheVariants as reply
 use Rattle.calls.specs.declared.reply.Refusal.{Refusal}
 use Rattle.calls.specs.declared.reply.Refusal.TheVariants as refusal
-use Rattle.calls.specs.Writes.{WriteStep, step_of}
+use Rattle.calls.specs.Writes.{WriteStep, inserts, updates, deletes, step_of}
 use Rattle.calls.specs.Bars.{BarsOpen, BarsReady, BarsFree, BarsWithCursor}
 use Rattle.calls.proofs.BarsLemmas.{AreAlike, alike-open, alike-ready, alike-free, alike-with_cursor}
 use Rattle.refinement.specs.Heap as seen_heap
@@ -46,16 +47,20 @@ use Rattle.session_steps.specs.declared.session.Session.{Session}
 use Rattle.session_steps.specs.declared.session.SessionIsolation.{SessionIsolation}
 use Rattle.session_steps.specs.declared.session.SessionIsolation.TheVariants.{BySnapshot, ByStatement}
 use Rattle.visibility.specs.Visible.{state_of}
-use Rattle.session_steps.specs.State.{State, session_at, put_session, seen, position_of, reader_of, isolation_seen, kept_by, IsByStatement, failed_session, holds_back, held_back, horizon_of, engine_sessions}
+use Rattle.session_steps.specs.State.{State, session_at, put_session, seen, position_of, reader_of, isolation_seen, kept_by, IsByStatement, is_too_new, failed_session, holds_back, held_back, horizon_of, engine_sessions}
 use Rattle.session_steps.specs.Keeps.{open_at}
-use Rattle.session_steps.specs.Agrees.{Agrees, Sound, Follows, SessionKeeps, KeepsAllTargets}
+use Rattle.sound_entries.specs.Since.{MayScanSince}
+use Rattle.session_steps.specs.Agrees.{Agrees, Sound, Follows, SessionKeeps, SessionScans, KeepsAllTargets}
 use Rattle.table_scans.specs.declared.progress.Scan.{Scan}
 use Rattle.table_scans.specs.declared.progress.Scan.TheVariants.{Index, Heap}
 use Rattle.session_steps.specs.Changes.{Opens, Closes}
 use Rattle.session_steps.specs.Tests.{BarsBegin}
-use Rattle.refinement.proofs.Runs.{same_indexes}
+use Rattle.refinement.proofs.Runs.{MakesNoIndex, unmade, same_indexes}
+use Rattle.history.specs.Moves.{free_to_scan}
+use Rattle.history.proofs.HistoryLemmas.{at_same, at_other}
 use Rattle.refinement.specs.Heap.{seen_sessions}
-use Rattle.session_steps.proofs.InUse.{GoesAlong, used-still, no-cursor, cursors-put, agree}
+use Rattle.session_steps.proofs.InUse.{SameMarks, used-still, same-used, marks-stay, marks-close, no-cursor, scans-as, scans-put, agree}
+use Rattle.session_steps.proofs.Scanning.{now-scans}
 use Rattle.session_steps.proofs.OwnIdsLemmas.{open-within, open-set_cases}
 use Rattle.session_steps.proofs.StateLemmas.{only-set}
 use Rattle.session_steps.proofs.Windows.{Finishes-from, SameSight-finish, decided}
@@ -75,11 +80,17 @@ pub led-same : (st : State) (w : World) → Agrees st w → KeepsAllTargets st s
 led-same st w agrees n e there still = stays-led (slot_in (slots_of st.heap) e.tid) ((agrees.sound.table.indexes n (used-by st.heap.indexes n e there)).leads e there)
 
 -- a step that leaves the engine as it is
-pub stays-so : (st : State) (w : World) (step : Step) (r : Reply) → Agrees st w → Allows w step r × relation.HeapAgrees (seen st) (next w step r) → Allows w step r × Agrees st (next w step r) × KeepsAllTargets st st
-stays-so st w step r agrees f = (f.0, agree agrees refl (same_indexes w step r f.0) f.1 agrees.sound, led-same st w agrees)
+pub stays-so : (st : State) (w : World) (step : Step) (r : Reply) → MakesNoIndex step → Agrees st w → Allows w step r × relation.HeapAgrees (seen st) (next w step r) → Allows w step r × Agrees st (next w step r) × KeepsAllTargets st st
+stays-so st w step r none agrees f = (f.0, agree agrees (used-still st.heap.indexes) (marks-stay st.sessions) (same_indexes w step r none f.0) f.1 agrees.sound, led-same st w agrees)
 
-pub Follows-same : (st : State) (step : Step) (r : Reply) → finds.HeapFollows (seen st) step r (seen st) → Follows st step r st
-Follows-same st step r follows w agrees = stays-so st w step r agrees (follows w agrees.found)
+pub Follows-same : (st : State) (step : Step) (r : Reply) → MakesNoIndex step → finds.HeapFollows (seen st) step r (seen st) → Follows st step r st
+Follows-same st step r none follows w agrees = stays-so st w step r none agrees (follows w agrees.found)
+
+-- a write makes no index
+pub no_making : (s : ℕ) (write : WriteStep) → MakesNoIndex (step_of s write)
+no_making s (inserts row) = tt
+no_making s (updates row) = tt
+no_making s (deletes k) = tt
 
 -- Refusals.
 
@@ -110,28 +121,28 @@ pub bare_by : (st : State) (s : ℕ) (r : Refusal) → BarsWithCursor (engine_se
 bare_by st s r is = alike-with_cursor (alike st s) r is
 
 pub Follows-closed_commit : (st : State) (s : ℕ) (r : Refusal) → BarsOpen (engine_sessions st) s r → Follows st (step.Commit s) (reply.Refused r) st
-Follows-closed_commit st s r is = Follows-same st (step.Commit s) (reply.Refused r) (theory.Follows-closed_commit (seen st) s r (closed_by st s r is))
+Follows-closed_commit st s r is = Follows-same st (step.Commit s) (reply.Refused r) tt (theory.Follows-closed_commit (seen st) s r (closed_by st s r is))
 
 pub Follows-closed_abort : (st : State) (s : ℕ) (r : Refusal) → BarsOpen (engine_sessions st) s r → Follows st (step.Abort s) (reply.Refused r) st
-Follows-closed_abort st s r is = Follows-same st (step.Abort s) (reply.Refused r) (theory.Follows-closed_abort (seen st) s r (closed_by st s r is))
+Follows-closed_abort st s r is = Follows-same st (step.Abort s) (reply.Refused r) tt (theory.Follows-closed_abort (seen st) s r (closed_by st s r is))
 
 pub Follows-unready_get : (st : State) (s k : ℕ) (r : Refusal) → BarsReady (engine_sessions st) s r → Follows st (step.Get s k) (reply.Refused r) st
-Follows-unready_get st s k r is = Follows-same st (step.Get s k) (reply.Refused r) (theory.Follows-unready_get (seen st) s k r (unready_by st s r is))
+Follows-unready_get st s k r is = Follows-same st (step.Get s k) (reply.Refused r) tt (theory.Follows-unready_get (seen st) s k r (unready_by st s r is))
 
 pub Follows-begin_no_memory : (st : State) (s : ℕ) → s < 64 → session_at st s ≡ None → Follows st (step.Begin s) (reply.Refused refusal.NoMemory) st
 Follows-begin_no_memory st s within idle =
-    Follows-same st (step.Begin s) (reply.Refused refusal.NoMemory) (theory.Follows-begin_refused (seen st) s refusal.NoMemory (λ w agrees. (within, agrees.idle s (ap (option_map reader_of) idle))))
+    Follows-same st (step.Begin s) (reply.Refused refusal.NoMemory) tt (theory.Follows-begin_refused (seen st) s refusal.NoMemory (λ w agrees. (within, agrees.idle s (ap (option_map reader_of) idle))))
 
 pub Follows-barred_begin : (st : State) (s : ℕ) (r : Refusal) → BarsBegin st s r → Follows st (step.Begin s) (reply.Refused r) st
-Follows-barred_begin st s refusal.NoSuchSession is = Follows-same st (step.Begin s) (reply.Refused refusal.NoSuchSession) (theory.Follows-begin_refused (seen st) s refusal.NoSuchSession (λ w agrees. is))
-Follows-barred_begin st s refusal.AlreadyOpen is = Follows-same st (step.Begin s) (reply.Refused refusal.AlreadyOpen) (theory.Follows-already_open (seen st) s (reader_of is.0) (reader-is st s is.0 is.1))
+Follows-barred_begin st s refusal.NoSuchSession is = Follows-same st (step.Begin s) (reply.Refused refusal.NoSuchSession) tt (theory.Follows-begin_refused (seen st) s refusal.NoSuchSession (λ w agrees. is))
+Follows-barred_begin st s refusal.AlreadyOpen is = Follows-same st (step.Begin s) (reply.Refused refusal.AlreadyOpen) tt (theory.Follows-already_open (seen st) s (reader_of is.0) (reader-is st s is.0 is.1))
 Follows-barred_begin st s _ is = absurd is
 
 pub Follows-barred_begin_by_statement : (st : State) (s : ℕ) (r : Refusal) → BarsBegin st s r → Follows st (step.BeginReadCommitted s) (reply.Refused r) st
 Follows-barred_begin_by_statement st s refusal.NoSuchSession is =
-    Follows-same st (step.BeginReadCommitted s) (reply.Refused refusal.NoSuchSession) (theory.Follows-begin_by_statement_refused (seen st) s refusal.NoSuchSession (λ w agrees. is))
+    Follows-same st (step.BeginReadCommitted s) (reply.Refused refusal.NoSuchSession) tt (theory.Follows-begin_by_statement_refused (seen st) s refusal.NoSuchSession (λ w agrees. is))
 Follows-barred_begin_by_statement st s refusal.AlreadyOpen is =
-    Follows-same st (step.BeginReadCommitted s) (reply.Refused refusal.AlreadyOpen) (theory.Follows-already_open_by_statement (seen st) s (reader_of is.0) (reader-is st s is.0 is.1))
+    Follows-same st (step.BeginReadCommitted s) (reply.Refused refusal.AlreadyOpen) tt (theory.Follows-already_open_by_statement (seen st) s (reader_of is.0) (reader-is st s is.0 is.1))
 Follows-barred_begin_by_statement st s _ is = absurd is
 
 -- Begin.
@@ -152,9 +163,12 @@ Sound-opens st w s e within snapshot none_kept ids saved bare agrees = record {
     | inr other ↦ agrees.sound.sessions o f other.1
   ];
   tops = agrees.sound.tops;
-  indexes = agrees.sound.indexes;
-  exact = agrees.sound.exact;
-  cursors = cursors-put st.sessions st.heap.indexes st.heap.indexes s e within' (used-still st.heap.indexes) (no-cursor st.heap.indexes e.cursor bare) agrees.sound.cursors;
+  by_key = agrees.sound.by_key;
+  since = agrees.sound.since;
+  scans = scans-put st.heap.statuses st.heap.indexes st.sessions s e within' (record {
+    by_snapshot = λ n snap reads may. subst (MayScanSince st.heap.statuses (since_at st.heap.indexes n)) (sym (snapshot snap (ap kept_by reads))) (now-scans st w agrees n).may;
+    cursor = no-cursor st.heap.statuses st.heap.indexes e.isolation e.cursor bare;
+  }) agrees.sound.scans;
   table = later-stays-sound st.heap (horizon_of st) (horizon_of (put_session st s (Some e))) agrees.sound.table agrees.sound.window (upto-horizon st w agrees)
       (horizon-upto st.heap.statuses (set st.sessions s (Some e)) agrees.sound.window (held-then held-upto)) later-then;
 }
@@ -217,19 +231,32 @@ opens-sound st st' w s i within new opens agrees =
     let as_new = subst (λ j. (j ≡ BySnapshot (now_taken st)) ⊎ (j ≡ ByStatement None)) (sym opens.reads) new in
     Sound-opens st w s opens.session within (λ snap kept. kept-new st opens.session.isolation snap as_new kept) (none-new st opens.session.isolation as_new) opens.no_ids opens.unsaved opens.bare agrees
 
+-- no index is too new for it
+opened-agrees : (st st' : State) (w : World) (s : ℕ) (i : SessionIsolation) → s < 64 → (i ≡ BySnapshot (now_taken st)) ⊎ (i ≡ ByStatement None) → (opens : Opens st st' s i) → Agrees st w
+    → (w' : World) → w'.has_index ≡ w.has_index → w'.too_new ≡ (free_to_scan w s).too_new → relation.HeapAgrees (seen (put_session st s (Some opens.session))) w' → Agrees (put_session st s (Some opens.session)) w'
+opened-agrees st st' w s i within new opens agrees w' had marks found = record {
+  found = found;
+  indexes = λ n. (λ used. ap (λ (has : ℕ → Bool). has n) had ∙ (agrees.indexes n).0 used, λ has. (agrees.indexes n).1 (sym (ap (λ (has : ℕ → Bool). has n) had) ∙ has));
+  scans = λ o f bt n. ap (λ (marks : ℕ → ℕ → Bool). marks o n) marks ∙ elim (open-set_cases st.sessions s o (Some opens.session) f (let count = agrees.sound.count in omega arith) bt) [
+    | inl here ↦ ap (λ t. (free_to_scan w s).too_new t n) here.0 ∙ (at_same s false (w.too_new s n) ∙ (sym (opens.scans_all n) ∙ ap (λ (g : Session). is_too_new g n) (same_Some opens.session f here.1)))
+    | inr other ↦ at_other o s false (w.too_new o n) other.0 ∙ agrees.scans o f other.1 n
+  ];
+  sound = opens-sound st st' w s i within new opens agrees;
+}
+
 pub Follows-begin : (st st' : State) (s : ℕ) → s < 64 → session_at st s ≡ None → Opens st st' s (BySnapshot (now_taken st)) → Follows st (step.Begin s) reply.Done st'
 Follows-begin st st' s within idle opens w agrees =
     let f = theory.Follows-begin (seen st) s (now_taken st) (seen (put_session st s (Some opens.session))).session (only-opens st st' w s (BySnapshot (now_taken st)) within opens agrees) within
     (ap (option_map reader_of) idle) (λ w' found. taken-fresh st w agrees) w agrees.found in
     subst (λ st'. Allows w (step.Begin s) reply.Done × Agrees st' (next w (step.Begin s) reply.Done) × KeepsAllTargets st st') (sym opens.is)
-    (f.0, agree agrees refl refl f.1 (opens-sound st st' w s (BySnapshot (now_taken st)) within (inl refl) opens agrees), led-same st w agrees)
+    (f.0, opened-agrees st st' w s (BySnapshot (now_taken st)) within (inl refl) opens agrees (next w (step.Begin s) reply.Done) refl refl f.1, led-same st w agrees)
 
 pub Follows-begin_by_statement : (st st' : State) (s : ℕ) → s < 64 → session_at st s ≡ None → Opens st st' s (ByStatement None) → Follows st (step.BeginReadCommitted s) reply.Done st'
 Follows-begin_by_statement st st' s within idle opens w agrees =
     let f = theory.Follows-begin_by_statement (seen st) s (seen (put_session st s (Some opens.session))).session (only-opens st st' w s (ByStatement None) within opens agrees) within
     (ap (option_map reader_of) idle) w agrees.found in
     subst (λ st'. Allows w (step.BeginReadCommitted s) reply.Done × Agrees st' (next w (step.BeginReadCommitted s) reply.Done) × KeepsAllTargets st st') (sym opens.is)
-    (f.0, agree agrees refl refl f.1 (opens-sound st st' w s (ByStatement None) within (inr refl) opens agrees), led-same st w agrees)
+    (f.0, opened-agrees st st' w s (ByStatement None) within (inr refl) opens agrees (next w (step.BeginReadCommitted s) reply.Done) refl refl f.1, led-same st w agrees)
 
 -- Commit and Abort.
 
@@ -251,6 +278,10 @@ module _ (st st' : State) (s : ℕ) (e : Session) (end : Status) (at : session_a
   same-sights : SameSights (seen st) (seen st').sees
   same-sights snap kept = SameSight-finish snap st.heap.statuses st'.heap.statuses e.own.ids end (closes.finishes e at)
 
+  -- the others have the same marks
+  closed-marks : SameMarks st.sessions st'.sessions
+  closed-marks = subst (SameMarks st.sessions) (sym closes.sessions) (marks-close st.sessions s (open-within st.sessions s e at))
+
   -- the pages stay
   closed-with : (w' : World) → relation.HeapAgrees (with_pages st' st.heap.pages) w' → relation.HeapAgrees (seen st') w'
   closed-with w' found = subst (λ pages. relation.HeapAgrees (with_pages st' pages) w') (sym closes.pages) found
@@ -260,31 +291,31 @@ Follows-abort st st' s e at closes w agrees =
     let f = theory.Follows-abort (seen st) s (reader_of e) (seen st').status (seen st').sees (seen st').session (only-closes st st' s e Aborted at closes) (reader-is st s e at)
     (own-finishes st st' s e Aborted at closes) (same-sights st st' s e Aborted at closes) w agrees.found in
     let sound' = aborts-sound st st' s e w at closes agrees in
-    (f.0, agree agrees closes.settings refl (closed-with st st' s e Aborted at closes (next w (step.Abort s) reply.RolledBack) f.1) sound'.0, sound'.1)
+    (f.0, agree agrees (same-used st.heap.indexes st'.heap.indexes closes.indexes) (closed-marks st st' s e Aborted at closes) (unmade refl refl) (closed-with st st' s e Aborted at closes (next w (step.Abort s) reply.RolledBack) f.1) sound'.0, sound'.1)
 
 pub Follows-commit_failed : (st st' : State) (s : ℕ) (e : Session) → session_at st s ≡ Some e → e.failed ≡ true → Closes st st' s Aborted → Follows st (step.Commit s) reply.RolledBack st'
 Follows-commit_failed st st' s e at failed closes w agrees =
     let f = theory.Follows-commit_failed (seen st) s (reader_of e) (seen st').status (seen st').sees (seen st').session (only-closes st st' s e Aborted at closes) (reader-is st s e at) failed
     (own-finishes st st' s e Aborted at closes) (same-sights st st' s e Aborted at closes) w agrees.found in
     let sound' = aborts-sound st st' s e w at closes agrees in
-    (f.0, agree agrees closes.settings refl (closed-with st st' s e Aborted at closes (next w (step.Commit s) reply.RolledBack) f.1) sound'.0, sound'.1)
+    (f.0, agree agrees (same-used st.heap.indexes st'.heap.indexes closes.indexes) (closed-marks st st' s e Aborted at closes) (unmade refl refl) (closed-with st st' s e Aborted at closes (next w (step.Commit s) reply.RolledBack) f.1) sound'.0, sound'.1)
 
 pub Follows-commit : (st st' : State) (s : ℕ) (e : Session) → session_at st s ≡ Some e → e.failed ≡ false → Closes st st' s Committed → Follows st (step.Commit s) reply.Committed st'
 Follows-commit st st' s e at sound closes w agrees =
     let f = theory.Follows-commit (seen st) s (reader_of e) (seen st').status (seen st').sees (seen st').session (only-closes st st' s e Committed at closes) (reader-is st s e at) sound
     (own-finishes st st' s e Committed at closes) (same-sights st st' s e Committed at closes) (λ snap x. decided snap st.heap.statuses x) w agrees.found in
     let sound' = commits-sound st st' s e w at closes agrees in
-    (f.0, agree agrees closes.settings refl (closed-with st st' s e Committed at closes (next w (step.Commit s) reply.Committed) f.1) sound'.0, sound'.1)
+    (f.0, agree agrees (same-used st.heap.indexes st'.heap.indexes closes.indexes) (closed-marks st st' s e Committed at closes) (unmade refl refl) (closed-with st st' s e Committed at closes (next w (step.Commit s) reply.Committed) f.1) sound'.0, sound'.1)
 
 -- Writes that are refused before they are tried.
 
 pub Follows-barred_write : (st : State) (s : ℕ) (write : WriteStep) (r : Refusal) → BarsFree (engine_sessions st) s r → Follows st (step_of s write) (reply.Refused r) st
-Follows-barred_write st s write r is = Follows-same st (step_of s write) (reply.Refused r) (hindrances.Follows-barred_write (seen st) s write r (free_by st s r is))
+Follows-barred_write st s write r is = Follows-same st (step_of s write) (reply.Refused r) (no_making s write) (hindrances.Follows-barred_write (seen st) s write r (free_by st s r is))
 
 pub Follows-too_large : (st : State) (s : ℕ) (e : Session) (write : WriteStep) → session_at st s ≡ Some e → e.failed ≡ false → e.cursor ≡ None → hindrances.IsTooLarge write
     → Follows st (step_of s write) (reply.Refused refusal.TooLarge) st
 Follows-too_large st s e write at sound bare large =
-    Follows-same st (step_of s write) (reply.Refused refusal.TooLarge) (hindrances.Follows-too_large (seen st) s (reader_of e) write (reader-is st s e at) sound (ap position_of bare) large)
+    Follows-same st (step_of s write) (reply.Refused refusal.TooLarge) (no_making s write) (hindrances.Follows-too_large (seen st) s (reader_of e) write (reader-is st s e at) sound (ap position_of bare) large)
 
 -- a session that holds back what it held back
 same-back : (xs : List (Option Session)) (s : ℕ) (e now : Session) → open_at xs s ≡ Some e → holds_back now ≡ holds_back e → held_back (set xs s (Some now)) ≡ held_back xs
@@ -294,9 +325,9 @@ same-back (Some f ∷ xs) zero e now at same = ap (λ back. back ++ held_back xs
 same-back (None ∷ xs) (suc s) e now at same = same-back xs s e now at same
 same-back (Some f ∷ xs) (suc s) e now at same = ap (λ ys. holds_back f ++ ys) (same-back xs s e now at same)
 
--- a session becomes another, with the same snapshot and first id, whose cursor goes along an index in use
-pub Sound-put : (st : State) (s : ℕ) (e now : Session) → session_at st s ≡ Some e → holds_back now ≡ holds_back e → SessionKeeps st.heap.statuses now → GoesAlong st.heap.indexes now.cursor → Sound st → Sound (put_session st s (Some now))
-Sound-put st s e now at same keeps along sound = record {
+-- a session becomes another, with the same snapshot and first id
+pub Sound-put : (st : State) (s : ℕ) (e now : Session) → session_at st s ≡ Some e → holds_back now ≡ holds_back e → SessionKeeps st.heap.statuses now → SessionScans st.heap.statuses st.heap.indexes now → Sound st → Sound (put_session st s (Some now))
+Sound-put st s e now at same keeps scans sound = record {
   count = length-set st.sessions s (Some now) ∙ sound.count;
   max_pages = sound.max_pages;
   stop_age = sound.stop_age;
@@ -306,9 +337,9 @@ Sound-put st s e now at same keeps along sound = record {
     | inr other ↦ sound.sessions o f other.1
   ];
   tops = sound.tops;
-  indexes = sound.indexes;
-  exact = sound.exact;
-  cursors = cursors-put st.sessions st.heap.indexes st.heap.indexes s now (open-within st.sessions s e at) (used-still st.heap.indexes) along sound.cursors;
+  by_key = sound.by_key;
+  since = sound.since;
+  scans = scans-put st.heap.statuses st.heap.indexes st.sessions s now (open-within st.sessions s e at) scans sound.scans;
   table = subst (λ back. SoundTable st.heap (earliest (next_id st.heap.statuses) back)) (sym (same-back st.sessions s e now at same)) sound.table;
 }
 
@@ -316,4 +347,4 @@ pub Sound-fails : (st : State) (s : ℕ) (e : Session) → session_at st s ≡ S
 Sound-fails st s e at sound =
     let h = sound.sessions s e at in
     subst (λ o. Sound (put_session st s (option_map failed_session o))) (sym at)
-    (Sound-put st s e (failed_session e) at refl (record { snapshot = h.snapshot; for_cursor = h.for_cursor; topmost = h.topmost; prefixes = h.prefixes; distinct = h.distinct }) (λ span is. sound.cursors s e span at is) sound)
+    (Sound-put st s e (failed_session e) at refl (record { snapshot = h.snapshot; for_cursor = h.for_cursor; topmost = h.topmost; prefixes = h.prefixes; distinct = h.distinct }) (scans-as st.heap.statuses st.heap.indexes e (failed_session e) refl refl refl (sound.scans s e at)) sound)

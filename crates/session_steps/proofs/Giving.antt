@@ -1,5 +1,5 @@
 -- A session writes under the id of its newest level, or under a new one: what that keeps, whatever it writes.
-use Rattle.std.proofs.Common.{◌≡◌, ℕ, ◌≤◌, List, [], ◌∷◌, ◌++◌, length, set, take, Option, Some, slice_get, refl, sym, ap, ◌∙◌, subst, ◌⊎◌, inl, inr, append_assoc, arith}
+use Rattle.std.proofs.Common.{◌≡◌, ℕ, ◌≤◌, List, [], ◌∷◌, ◌++◌, length, set, take, Option, Some, None, slice_get, refl, sym, ap, ◌∙◌, subst, ◌⊎◌, inl, inr, append_assoc, arith}
 use Rattle.std.proofs.Math.ListN.{length-set}
 use Rattle.std.specs.Prelude.{Contains}
 use Rattle.std.specs.Option.{option_map}
@@ -23,9 +23,10 @@ use Rattle.heap_write.specs.Heap.{HeapView, SameIds}
 use Rattle.heap_write.specs.Writes.{GivesUnder, TakesIds}
 use Rattle.forgetting.specs.Truncating.{IsWellTopped}
 use Rattle.forgetting.proofs.WellTopped.{before-place}
-use Rattle.heap_write.proofs.GivenIds.{given-place, given-earlier, given-first, given-next, given-upto, given-status, given-top_old, given-active, given-new, given-distinct, given-top, given-top_first, given-late}
+use Rattle.heap_write.proofs.GivenIds.{given-window, given-place, given-earlier, given-first, given-next, given-upto, given-status, given-top_old, given-active, given-new, given-distinct, given-top, given-top_first, given-late}
 use Rattle.table_integrity.specs.Table.{SoundTable, StaysSoundTable}
-use Rattle.session_steps.proofs.InUse.{still-in_use, cursors-put, same-cursor}
+use Rattle.session_steps.proofs.InUse.{scans-still, scans-as, scans-put}
+use Rattle.table_indexes.specs.Indexes.{since_at}
 use Rattle.table_integrity.proofs.Keeping.{later-stays-sound}
 use Rattle.history.specs.World.{World}
 use Rattle.refinement.specs.Heap as relation
@@ -41,7 +42,9 @@ use Rattle.session_steps.specs.declared.session.Session.{Session}
 use Rattle.visibility.specs.Visible.{state_of}
 use Rattle.session_steps.specs.State.{State, session_at, seen, seen_in, reader_of, kept_by, kept_xmin, holds_back, horizon_of}
 use Rattle.session_steps.specs.Keeps.{open_at, OwnIdsKeep, EngineKeeps}
-use Rattle.session_steps.specs.Agrees.{Agrees, Sound, SessionKeeps}
+use Rattle.session_steps.specs.Agrees.{Agrees, Sound, SessionKeeps, SessionScans}
+use Rattle.sound_entries.specs.Since.{IsExactSince}
+use Rattle.sound_entries.proofs.Since.{giving-since}
 use Rattle.session_steps.specs.Writes.{SameSession}
 use Rattle.session_steps.proofs.OwnIdsLemmas.{open-within, open-set_same, open-set_other, open-set_cases, distinct-both, keep-same, keep-given}
 use Rattle.session_steps.proofs.StateLemmas.{only-set}
@@ -98,6 +101,10 @@ in-window-spared w k s h =
       listed = λ x among. let l = h.listed x among in record { upto = upto-spared w k x l.upto; from_xmin = l.from_xmin; before_xmax = l.before_xmax };
     }
 
+since-spared : (w : Window) (k : ℕ) (since : Option ℕ) → IsExactSince w since → IsExactSince (spared w k) since
+since-spared w k None exact = tt
+since-spared w k (Some id) exact = record { upto = upto-spared w k id exact.upto; ended = λ x active. exact.ended x (record { is_given = active.is_given; unfinished = active.unfinished }) }
+
 keeps-spared : (w : Window) (k : ℕ) (e e' : Session) → SameSession e e' → SessionKeeps w e → SessionKeeps (spared w k) e'
 keeps-spared w k e e' same h = record {
   snapshot = λ snap is. in-window-spared w k snap (h.snapshot snap (ap kept_by (sym same.isolation) ∙ is));
@@ -108,7 +115,7 @@ keeps-spared w k e e' same h = record {
 }
 
 itself : (e : Session) → SameSession e e
-itself e = record { isolation = refl; own = record { ids = refl; saved = refl }; failed = refl; cursor = refl }
+itself e = record { isolation = refl; own = record { ids = refl; saved = refl }; failed = refl; cursor = refl; too_new = refl }
 
 -- what readers see of the ids
 found-spared : (slots : List (List Slot)) (w v : Window) (xs : List (Option Session)) (m : World) → SameIds w v → theory.HeapAgrees (seen_in slots w xs) m → theory.HeapAgrees (seen_in slots v xs) m
@@ -209,6 +216,13 @@ given-stop_age : (xs : List ℕ) (w v : Window) (parent : Option ℕ) → GivesU
 given-stop_age [] w v parent g = ap (λ (w : Window). w.stop_age) g
 given-stop_age (x ∷ xs) w v parent g = given-stop_age xs g.0 v (Some x) g.3 ∙ g.2.stop_age
 
+-- what was exact from an id on still is
+since-given : (xs : List ℕ) (w v : Window) (parent since : Option ℕ) → IsWindow v → GivesUnder w parent xs v → IsExactSince w since → IsExactSince v since
+since-given [] w v parent since is gives exact = subst (λ v. IsExactSince v since) (sym gives) exact
+since-given (x ∷ xs) w v parent since is gives exact =
+    since-given xs gives.0 v (Some x) since is gives.3
+    (giving-since w gives.0 parent since (given-window (x ∷ xs) w v parent gives is) (given-window xs gives.0 v (Some x) gives.3 is) gives.2 exact)
+
 -- The engine after a write, or after one that failed.
 
 -- what holds of all that is held back, and of what the session holds back now, holds of all that is held back then
@@ -252,9 +266,11 @@ module _ (st : State) (w : World) (h : HeapView) (s : ℕ) (e e' : Session) (at 
           | inl now ↦ subst (λ f. SessionKeeps (spared statuses k) f) (same_Some e' f now.1) (keeps-spared statuses k e e' same (agrees.sound.sessions s e at))
           | inr other ↦ keeps-spared statuses k f f (itself f) (agrees.sound.sessions o f other.1)
         ]);
-        indexes = still-in_use st.heap.indexes h.indexes st.settings.indexed stays.in_use agrees.sound.indexes;
-        exact = λ n. stays.since n ∙ agrees.sound.exact n;
-        cursors = cursors-put st.sessions st.heap.indexes h.indexes s e' (open-within st.sessions s e at) stays.in_use (same-cursor st.sessions st.heap.indexes s e e' at same.cursor agrees.sound.cursors) agrees.sound.cursors;
+        by_key = (stays.in_use 0).0 agrees.sound.by_key;
+        since = λ n. subst (IsExactSince h.statuses) (sym (stays.since n)) (rw is (since-spared statuses k (since_at st.heap.indexes n) (agrees.sound.since n)));
+        scans = scans-put h.statuses h.indexes st.sessions s e' (open-within st.sessions s e at)
+            (scans-as h.statuses h.indexes e e' same.isolation same.cursor same.too_new (scans-still statuses h.statuses st.heap.indexes h.indexes ids.first stays.in_use stays.since e (agrees.sound.scans s e at)))
+            (λ o f bt. scans-still statuses h.statuses st.heap.indexes h.indexes ids.first stays.in_use stays.since f (agrees.sound.scans o f bt));
         tops = rw is (λ x done. well-spared statuses k x (agrees.sound.tops x done));
         table = later-sound (rw is (window-spared statuses k agrees.sound.window)) ids.first (subst (λ n. turns statuses.first (next_id statuses) ≤ turns statuses.first n) (sym (ap next_id is)) (omega arith))
             (λ y upto. rw is (upto-spared statuses k y upto))
@@ -279,9 +295,13 @@ module _ (st : State) (w : World) (h : HeapView) (s : ℕ) (e e' : Session) (at 
           | inl now ↦ subst (λ f. SessionKeeps h.statuses f) (sym is ∙ same_Some e' f now.1) (keeps-taken statuses h.statuses e own x window takes (there s e at) (agrees.sound.sessions s e at))
           | inr other ↦ keeps-give takes.given statuses h.statuses parent f window takes.gives (there o f other.1) (agrees.sound.sessions o f other.1)
         ];
-        indexes = still-in_use st.heap.indexes h.indexes st.settings.indexed stays.in_use agrees.sound.indexes;
-        exact = λ n. stays.since n ∙ agrees.sound.exact n;
-        cursors = cursors-put st.sessions st.heap.indexes h.indexes s e' (open-within st.sessions s e at) stays.in_use (same-cursor st.sessions st.heap.indexes s e e' at (ap (λ (f : Session). f.cursor) is) agrees.sound.cursors) agrees.sound.cursors;
+        by_key = (stays.in_use 0).0 agrees.sound.by_key;
+        since = λ n. subst (IsExactSince h.statuses) (sym (stays.since n)) (since-given takes.given statuses h.statuses parent (since_at st.heap.indexes n) window takes.gives (agrees.sound.since n));
+        scans =
+            let first = given-first takes.given statuses h.statuses parent takes.gives in
+            let still : (o : ℕ) (f : Session) → session_at st o ≡ Some f → SessionScans h.statuses h.indexes f = λ o f bt. scans-still statuses h.statuses st.heap.indexes h.indexes first stays.in_use stays.since f (agrees.sound.scans o f bt) in
+            scans-put h.statuses h.indexes st.sessions s e' (open-within st.sessions s e at)
+            (scans-as h.statuses h.indexes e e' (ap (λ (f : Session). f.isolation) is) (ap (λ (f : Session). f.cursor) is) (ap (λ (f : Session). f.too_new) is) (still s e at)) still;
         tops = tops-given takes.given statuses h.statuses parent window takes.gives agrees.sound.tops;
         table = later-sound window (given-first takes.given statuses h.statuses parent takes.gives) (given-next takes.given statuses h.statuses parent takes.gives window)
             (λ y upto. given-upto takes.given statuses h.statuses parent y takes.gives upto) (mine-then own x takes is window) sound;

@@ -1,5 +1,5 @@
 -- A write that is refused before it is tried.
-use Rattle.std.proofs.Common.{◌≡◌, ℕ, Option, Some, None, refl, ap, ◌∙◌, subst, Result, Err}
+use Rattle.std.proofs.Common.{◌≡◌, ℕ, Option, Some, None, refl, sym, ap, ◌∙◌, subst, Result, Err}
 use Rattle.std.specs.Option.{option_map}
 use Rattle.std.specs.Prelude.{MatchResult}
 use Rattle.std.proofs.lemmas.Result.{MatchResult-at_err}
@@ -24,14 +24,18 @@ use Rattle.session_steps.specs.Tests.{MayAct, BarsBegin}
 use Rattle.session_steps.specs.Exact.{ExactInsert, ExactUpdate, ExactDelete, Exact}
 use Rattle.session_steps.specs.Follows.{FollowsInsert, FollowsUpdate}
 use Rattle.refinement.proofs.Runs.{same_indexes}
-use Rattle.session_steps.proofs.InUse.{agree}
+use Rattle.session_steps.proofs.InUse.{SameMarks, used-still, marks-put, agree}
 use Rattle.session_steps.proofs.OwnIdsLemmas.{open-within}
 use Rattle.session_steps.proofs.StateLemmas.{only-set}
 use Rattle.session_steps.proofs.Owns.{reader-is}
 use Rattle.session_steps.proofs.Searches.{late-to, not-late, held-to, begins-none, begins-some, target-of}
-use Rattle.session_steps.proofs.Follows.{Follows-same, stays-so, led-same, Sound-fails}
+use Rattle.session_steps.proofs.Follows.{Follows-same, stays-so, no_making, led-same, Sound-fails}
 
 -- A later commit, or another session, has written the key.
+
+-- a session that fails has the same marks
+marks-fail : (st : State) (s : ℕ) (e : Session) → session_at st s ≡ Some e → SameMarks st.sessions (put_session st s (option_map failed_session (session_at st s))).sessions
+marks-fail st s e at = subst (λ o. SameMarks st.sessions (put_session st s (option_map failed_session o)).sessions) (sym at) (marks-put st.sessions s e (failed_session e) at refl)
 
 conflicts : (st : State) (s : ℕ) (e : Session) (write : WriteStep) → session_at st s ≡ Some e → IsLateKey st e (key_of write)
     → ((w : World) → Agrees st w → (o : Option Row) × BeginsWrite (seen st) s (reader_of e) (key_of write) o × Asks write o)
@@ -43,7 +47,7 @@ conflicts st s e write at late begins w agrees =
     let f = hindrances.Follows-conflict (seen st) s (reader_of e) write b.0 (seen (put_session st s (option_map failed_session (session_at st s)))).session b.1 b.2
     (late-to st w e (key_of write) late.id agrees late.late)
     (record { others = only.others; itself = only.itself ∙ ap (λ o. option_map reader_of (option_map failed_session o)) at }) w agrees.found in
-    (f.0, agree agrees refl (same_indexes w (step_of s write) (reply.Refused refusal.Conflict) f.0) f.1 (Sound-fails st s e at agrees.sound), led-same st w agrees)
+    (f.0, agree agrees (used-still st.heap.indexes) (marks-fail st s e at) (same_indexes w (step_of s write) (reply.Refused refusal.Conflict) (no_making s write) f.0) f.1 (Sound-fails st s e at agrees.sound), led-same st w agrees)
 
 busies : (st : State) (s o : ℕ) (e : Session) (write : WriteStep) → session_at st s ≡ Some e → IsHeld st e (key_of write) o
     → ((w : World) → Agrees st w → (found : Option Row) × BeginsWrite (seen st) s (reader_of e) (key_of write) found × Asks write found)
@@ -53,7 +57,7 @@ busies st s o e write at held begins w agrees =
     let f = held.other in
     let g = hindrances.Follows-busy (seen st) s o (reader_of e) (reader_of f) held.id write b.0 b.1 b.2 (not-late st w e (key_of write) agrees held.timely)
     (held-to st w e (key_of write) held.id agrees held.held) (reader-is st o f held.at) held.owns w agrees.found in
-    stays-so st w (step_of s write) (reply.Refused (refusal.Busy o)) agrees g
+    stays-so st w (step_of s write) (reply.Refused (refusal.Busy o)) (no_making s write) agrees g
 
 -- what an insert reads is none of the key, and what an update or a deletion reads is a row of it
 check_insert : (st : State) (s : ℕ) (e : Session) (text : RowToWrite) → FitsRow text → ReadsPlace st s e text.key None
@@ -71,7 +75,7 @@ check_update st s e p write asks reads w agrees =
 insert-hindered : (st : State) (s : ℕ) (text : RowToWrite) (r : Refusal) → FitsRow text → RefusesInsertOfKey st s text.key r → Follows st (step.Insert s text) (reply.Refused r) (refused_state st s r)
 insert-hindered st s text refusal.AlreadyThere fits (e, p, reads) = λ w agrees.
     let t = target-of st w s e text.key p agrees reads in
-    Follows-same st (step.Insert s text) (reply.Refused refusal.AlreadyThere)
+    Follows-same st (step.Insert s text) (reply.Refused refusal.AlreadyThere) tt
     (hindrances.Follows-already_there (seen st) s (reader_of e) text t.0.row (begins-some st s e text.key p t.0 reads t.1) fits) w agrees
 insert-hindered st s text refusal.Conflict fits d = conflicts st s d.session (inserts text) d.reads.at d.delays (check_insert st s d.session text fits d.reads)
 insert-hindered st s text (refusal.Busy o) fits d = busies st s o d.session (inserts text) d.reads.at d.delays (check_insert st s d.session text fits d.reads)
@@ -85,7 +89,7 @@ Follows-hindered_insert st s row r h text fits same = insert-hindered st s text 
 change-hindered : (st : State) (s : ℕ) (write : WriteStep) (r : Refusal) → ((row : Row) → Asks write (Some row)) → hindrances.NeedsRow write → RefusesChangeOfKey st s (key_of write) r
     → Follows st (step_of s write) (reply.Refused r) (refused_state st s r)
 change-hindered st s write refusal.NotThere asks needs (e, reads) = λ w agrees.
-    Follows-same st (step_of s write) (reply.Refused refusal.NotThere) (hindrances.Follows-not_there (seen st) s (reader_of e) write (begins-none st w s e (key_of write) agrees reads) needs) w agrees
+    Follows-same st (step_of s write) (reply.Refused refusal.NotThere) (no_making s write) (hindrances.Follows-not_there (seen st) s (reader_of e) write (begins-none st w s e (key_of write) agrees reads) needs) w agrees
 change-hindered st s write refusal.Conflict asks needs d = conflicts st s d.1.session write d.1.reads.at d.1.delays (check_update st s d.1.session d.0 write asks d.1.reads)
 change-hindered st s write (refusal.Busy o) asks needs d = busies st s o d.1.session write d.1.reads.at d.1.delays (check_update st s d.1.session d.0 write asks d.1.reads)
 change-hindered st s write _ asks needs is = absurd is

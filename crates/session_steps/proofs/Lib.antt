@@ -1,10 +1,12 @@
 pub mod InUse
 pub mod OwnIdsLemmas
 pub mod StateLemmas
+pub mod Marking
 pub mod Idle
 pub mod Windows
 pub mod Owns
 pub mod Statements
+pub mod Scanning
 pub mod Horizons
 pub mod Searches
 pub mod Holding
@@ -35,3 +37,4 @@ pub mod Noting
 pub mod Hindering
 pub mod ByIndex
 pub mod AllHeld
+pub mod MakingLemmas

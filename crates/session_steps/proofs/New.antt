@@ -1,5 +1,5 @@
 -- A new engine agrees with the history's beginning.
-use Rattle.std.proofs.Common.{◌≡◌, ℕ, zero, suc, List, [], length, map, replicate, Option, Some, None, refl, sym, ap, ◌∙◌, arith}
+use Rattle.std.proofs.Common.{◌≡◌, ℕ, zero, suc, List, [], length, map, replicate, Option, Some, None, refl, sym, ap, ◌∙◌, subst, arith}
 use Rattle.std.specs.Option.{option_map}
 use Rattle.std.proofs.lemmas.List.{length-replicate}
 use Rattle.std.proofs.lemmas.Option.{none-some}
@@ -20,6 +20,7 @@ use Rattle.refinement.proofs.Steps.{Agrees-beginning}
 use Rattle.session_steps.specs.declared.session.Session.{Session}
 use Rattle.session_steps.specs.State.{State, session_at, seen, reader_of, horizon_of}
 use Rattle.session_steps.specs.Agrees.{Agrees}
+use Rattle.sound_entries.specs.Since.{IsExactSince}
 use Rattle.session_steps.proofs.StateLemmas.{none-open}
 
 no-place : (w : Window) (x : ℕ) → w.entries ≡ [] → place w x ≡ None
@@ -48,6 +49,7 @@ Agrees-new st pages index exact entries window max_pages stop_age idle = record 
       (λ s. ap (option_map reader_of) (closed s));
   indexes = λ n. let used = new-in_use st.heap.indexes st.settings.indexed index n in let has = indexed-is st.settings.indexed n in
       (λ h. has.0 (used.0 h), λ h. used.1 (has.1 h));
+  scans = λ s e at n. absurd (none-some e (sym (closed s) ∙ at));
   sound = record {
     count = ap length idle ∙ length-replicate {A = Option Session} 64 None;
     max_pages = max_pages;
@@ -55,9 +57,9 @@ Agrees-new st pages index exact entries window max_pages stop_age idle = record 
     window = window;
     sessions = λ s e at. absurd (none-some e (sym (closed s) ∙ at));
     tops = λ x done. absurd (let at = finished-place st.heap.statuses x (λ active. cc) in none-some at.0 (sym (no-place st.heap.statuses x entries) ∙ at.1));
-    indexes = new-in_use st.heap.indexes st.settings.indexed index;
-    exact = exact;
-    cursors = λ s e span at is. absurd (none-some e (sym (closed s) ∙ at));
+    by_key = (new-in_use st.heap.indexes st.settings.indexed index 0).1 refl;
+    since = λ n. subst (IsExactSince st.heap.statuses) (sym (exact n)) tt;
+    scans = λ s e at. absurd (none-some e (sym (closed s) ∙ at));
     table = nothing-stays st.heap (horizon_of st) pages (new-empty st.heap.indexes st.settings.indexed index);
   };
 }

@@ -1,13 +1,14 @@
 -- A session asks its cursor for rows: whatever the answer, the engine follows the history.
-use Rattle.std.proofs.Common.{◌≡◌, ℕ, ◌+◌, ◌<◌, ◌^◌, max, List, length, Some, false, refl, sym, ap, ◌∙◌, subst, arith}
+use Rattle.std.proofs.Common.{◌≡◌, ℕ, ◌+◌, ◌<◌, ◌^◌, max, List, length, Option, Some, false, refl, sym, ap, ◌∙◌, subst, arith}
 use Rattle.std.specs.Prelude.{Vec}
 use Rattle.std.specs.declared.alloc.Global.{Global}
 use denote.RawPtr.{null_ptr}
 use Rattle.xid_circle.specs.declared.Tid.{Tid}
 use Rattle.tuple_header.specs.declared.version.Row.{Row}
-use Rattle.commit_status.specs.Window.{IsWindow}
+use Rattle.commit_status.specs.Window.{Window, IsWindow}
 use Rattle.index_lookup.specs.declared.index_scan.IndexRange.{IndexRange}
-use Rattle.table_indexes.specs.Indexes.{IsInUse}
+use Rattle.snapshot.specs.Snap.{Snap}
+use Rattle.table_indexes.specs.Indexes.{IndexesView, IsInUse, since_at}
 use Rattle.history.specs.World.{World}
 use Rattle.calls.specs.declared.step.Step.TheVariants as step
 use Rattle.calls.specs.declared.reply.Reply.TheVariants as reply
@@ -21,23 +22,26 @@ use Rattle.refinement.proofs.Steps.{OnlyIs}
 use Rattle.refinement.proofs.FollowsCursors as cursors
 use Rattle.table_scans.specs.Scans.{Sight, start_of}
 use Rattle.table_scans.specs.Takes.{IsAtEnd, MeetsSome, TakesRows, Takes, TakesUpTo, TakesSome}
+use Rattle.refinement.proofs.Runs.{unmade}
 use Rattle.session_steps.specs.declared.session.Session.{Session}
+use Rattle.session_steps.specs.declared.session.SessionIsolation.{SessionIsolation}
+use Rattle.sound_entries.specs.Since.{MayScanSince}
 use Rattle.table_scans.specs.declared.progress.Scan.{Scan}
 use Rattle.table_scans.specs.declared.progress.Scan.TheVariants.{Index, Heap}
-use Rattle.session_steps.specs.State.{State, session_at, put_session, map_session, with_cursor, seen, seen_position, position_of, reader_of, engine_sessions}
+use Rattle.session_steps.specs.State.{State, session_at, put_session, map_session, with_cursor, seen, seen_position, position_of, reader_of, kept_by, engine_sessions}
 use Rattle.session_steps.specs.Agrees.{Agrees, Follows, KeepsAllTargets}
 use Rattle.session_steps.specs.Takes.{session_sight, HandsOutBy}
 use Rattle.session_steps.specs.NextRows.{ExactNextRows}
-use Rattle.session_steps.proofs.InUse.{agree}
+use Rattle.session_steps.proofs.InUse.{GoesAlong, used-still, marks-put, agree}
 use Rattle.session_steps.proofs.Owns.{reader-is}
 use Rattle.session_steps.proofs.Follows.{Follows-same, bare_by, led-same}
 use Rattle.session_steps.proofs.CursorSteps.{moved, only-cursor, sound-cursor}
 use Rattle.session_steps.proofs.AtCursor.{IsAtCursor, NoneToCome, SomeToCome}
-use Rattle.session_steps.proofs.WalkSteps.{used-at, left-in, scans-walk, none-left, none-in, some-in}
+use Rattle.session_steps.proofs.WalkSteps.{left-in, scans-walk, none-left, none-in, some-in}
 use Rattle.session_steps.proofs.HeapWalks.{WalksHeap, page-walk, part-walk, none-on, some-on}
 
 pub Follows-bare_next : (st : State) (s n : ℕ) (r : Refusal) → BarsWithCursor (engine_sessions st) s r → Follows st (step.Next s n) (reply.Refused r) st
-Follows-bare_next st s n r is = Follows-same st (step.Next s n) (reply.Refused r) (cursors.Follows-bare_next (seen st) s n r (bare_by st s r is))
+Follows-bare_next st s n r is = Follows-same st (step.Next s n) (reply.Refused r) tt (cursors.Follows-bare_next (seen st) s n r (bare_by st s r is))
 
 -- The session is open and has not failed, and its cursor is here.
 
@@ -57,12 +61,12 @@ some-to-come st e (Heap from) (to, rows, scans, some) at = some-on st e at.agree
 pub Follows-end : (st : State) (s n : ℕ) (e : Session) (cursor : Scan) → session_at st s ≡ Some e → e.failed ≡ false → e.cursor ≡ Some cursor → IsAtEnd (session_sight st e) cursor
     → Follows st (step.Next s n) reply.End st
 Follows-end st s n e (Index span) at sound opened none w agrees =
-    Follows-same st (step.Next s n) reply.End
+    Follows-same st (step.Next s n) reply.End tt
     (cursors.Follows-end (seen st) s (reader_of e) (in_index span.index span.low span.high (seen_position span.last)) n (reader-is st s e at) sound (ap position_of opened)
     (none-to-come st e (Index span) none (at-cursor st w s e (Index span) agrees at opened)))
     w agrees
 Follows-end st s n e (Heap from) at sound opened none w agrees =
-    Follows-same st (step.Next s n) reply.End
+    Follows-same st (step.Next s n) reply.End tt
     (cursors.Follows-end (seen st) s (reader_of e) (in_heap from) n (reader-is st s e at) sound (ap position_of opened) (none-to-come st e (Heap from) none (at-cursor st w s e (Heap from) agrees at opened)))
     w agrees
 
@@ -70,12 +74,12 @@ pub Follows-no_memory : (st : State) (s n : ℕ) (e : Session) (cursor : Scan) �
     → Follows st (step.Next s n) (reply.Refused refusal.NoMemory) st
 Follows-no_memory st s n e (Index span) at sound opened some w agrees =
     let comes = some-to-come st e (Index span) some (at-cursor st w s e (Index span) agrees at opened) in
-    Follows-same st (step.Next s n) (reply.Refused refusal.NoMemory)
+    Follows-same st (step.Next s n) (reply.Refused refusal.NoMemory) tt
     (cursors.Follows-next_no_memory (seen st) s (reader_of e) (in_index span.index span.low span.high (seen_position span.last)) n comes.0 (reader-is st s e at) sound (ap position_of opened) comes.1)
     w agrees
 Follows-no_memory st s n e (Heap from) at sound opened some w agrees =
     let comes = some-to-come st e (Heap from) some (at-cursor st w s e (Heap from) agrees at opened) in
-    Follows-same st (step.Next s n) (reply.Refused refusal.NoMemory) (cursors.Follows-next_no_memory (seen st) s (reader_of e) (in_heap from) n comes.0 (reader-is st s e at) sound (ap position_of opened) comes.1) w agrees
+    Follows-same st (step.Next s n) (reply.Refused refusal.NoMemory) tt (cursors.Follows-next_no_memory (seen st) s (reader_of e) (in_heap from) n comes.0 (reader-is st s e at) sound (ap position_of opened) comes.1) w agrees
 
 -- Rows are handed out: the cursor alone moves.
 
@@ -84,13 +88,13 @@ module _ (st st' : State) (s n : ℕ) (e : Session) (after : Scan) (rows : Vec R
   abbrev now : State
   now = put_session st s (Some (with_cursor (Some after) e))
 
-  -- what readers see follows, where the new cursor goes along an index in use too
-  put-after : ((span : IndexRange) → Some after ≡ Some (Index span) → IsInUse st.heap.indexes span.index)
+  -- what readers see follows, where the new cursor goes along an index that the session may scan
+  put-after : ((w : World) → Agrees st w → GoesAlong st.heap.statuses st.heap.indexes e.isolation (Some after))
       → ((w : World) → Agrees st w → finds.HeapFollows (seen st) (step.Next s n) (reply.Rows rows) (seen now)) → Follows st (step.Next s n) (reply.Rows rows) st'
   put-after along follows w agrees =
       let f = follows w agrees w agrees.found in
       subst (λ st'. Allows w (step.Next s n) (reply.Rows rows) × Agrees st' (next w (step.Next s n) (reply.Rows rows)) × KeepsAllTargets st st') (sym (moved st st' s e after at is))
-      (f.0, agree agrees refl refl f.1 (sound-cursor st st' s e after at is along agrees.sound), led-same st w agrees)
+      (f.0, agree agrees (used-still st.heap.indexes) (marks-put st.sessions s e (with_cursor (Some after) e) at refl) (unmade refl refl) f.1 (sound-cursor st st' s e after at is (along w agrees) agrees.sound), led-same st w agrees)
 
   only-at : (position : Position) → position_of (Some after) ≡ Some position → OnlyIs (seen st).session (seen now).session s (Some (record (reader_of e) { cursor = Some position }))
   only-at position same = subst (λ p. OnlyIs (seen st).session (seen now).session s (Some (record (reader_of e) { cursor = p }))) same (only-cursor st st' s e after at is)
@@ -100,8 +104,12 @@ walked-to : (span left : IndexRange) → left ≡ record span { last = left.last
 walked-to span left same = ap (λ (sp : IndexRange). Some (in_index sp.index sp.low sp.high (seen_position left.last))) same
 
 -- it goes along the same index
-along-left : (st : State) (span left other : IndexRange) → left ≡ record span { last = left.last } → IsInUse st.heap.indexes span.index → Some (Index left) ≡ Some (Index other) → IsInUse st.heap.indexes other.index
-along-left st span left other same used is = (let here : left ≡ other = cc in subst (λ (sp : IndexRange). IsInUse st.heap.indexes sp.index) here (subst (λ n. IsInUse st.heap.indexes n) (sym (ap (λ (sp : IndexRange). sp.index) same)) used))
+along-left : (w : Window) (indexes : IndexesView) (isolation : SessionIsolation) (cursor : Option Scan) (span left : IndexRange) → left ≡ record span { last = left.last } → cursor ≡ Some (Index span)
+    → GoesAlong w indexes isolation cursor → GoesAlong w indexes isolation (Some (Index left))
+along-left w indexes isolation cursor span left same opened along other is =
+    let here : left ≡ other = cc in
+    let number : span.index ≡ other.index = sym (ap (λ (sp : IndexRange). sp.index) same) ∙ ap (λ (sp : IndexRange). sp.index) here in
+    subst (λ n. IsInUse indexes n × ((snap : Snap) → kept_by isolation ≡ Some snap → MayScanSince w (since_at indexes n) snap)) number (along span opened)
 
 module _ (st st' : State) (s n : ℕ) (e : Session) (rows : Vec Row Global) (at : session_at st s ≡ Some e) (sound : e.failed ≡ false) (some : 0 < length rows.items) where
   Follows-rows_in_index : (span left : IndexRange) → e.cursor ≡ Some (Index span) → TakesRows (session_sight st e) span left (max 1 n) rows.items
@@ -114,12 +122,13 @@ module _ (st st' : State) (s n : ℕ) (e : Session) (rows : Vec Row Global) (at 
       (only-at st st' s n e (Index left) rows at is (in_index span.index span.low span.high (seen_position left.last)) (walked-to span left same))
       (reader-is st s e at) sound (ap position_of opened) (walks.meets here) some takes.at_most
       (λ fewer row comes. none-left st e span left rows.items walks (takes.all fewer) here row (left-in st e span left row same comes)) in
-      put-after st st' s n e (Index left) rows at is (λ other is'. along-left st span left other same (used-at st e span here) is') (λ w' agrees'. f) w agrees
+      put-after st st' s n e (Index left) rows at is
+      (λ w' agrees'. along-left st.heap.statuses st.heap.indexes e.isolation e.cursor span left same opened (agrees'.sound.scans s e at).cursor) (λ w' agrees'. f) w agrees
 
   Follows-rows_in_heap : (from to : Tid) → e.cursor ≡ Some (Heap from) → (IsWindow st.heap.statuses → WalksHeap st e from to rows.items)
       → st' ≡ put_session st s (map_session (with_cursor (Some (Heap to))) (session_at st s)) → Follows st (step.Next s n) (reply.Rows rows) st'
   Follows-rows_in_heap from to opened walks is =
-      put-after st st' s n e (Heap to) rows at is (λ other is'. absurd (cc))
+      put-after st st' s n e (Heap to) rows at is (λ w agrees other is'. absurd (cc))
       (λ w agrees. cursors.Follows-next_in_heap (seen st) s (reader_of e) from to n rows (seen (now st st' s n e (Heap to) rows at is)).session
       (only-at st st' s n e (Heap to) rows at is (in_heap to) refl) (reader-is st s e at) sound (ap position_of opened) (walks agrees.sound.window) some)
 

@@ -35,7 +35,7 @@ rolls-back-on h h' e own since pages indexes max_pages were ids saved finishes w
   pages = pages;
   indexes = indexes;
   max_pages = max_pages;
-  returns = record { isolation = refl; ids = ids; saved = saved; sound = refl; cursor = refl };
+  returns = record { isolation = refl; ids = ids; saved = saved; sound = refl; cursor = refl; too_new = refl };
   since = since;
   ids = were ∙ ap (λ xs. xs ++ since) (sym ids);
   finishes = finishes;

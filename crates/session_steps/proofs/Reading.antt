@@ -14,7 +14,7 @@ use Rattle.session_steps.proofs.Follows.{Follows-same}
 
 pub Follows-get : (st : State) (s : ℕ) (e : Session) (k : ℕ) (found : Option Row) → session_at st s ≡ Some e → e.failed ≡ false → RowOf st e k found → Follows st (step.Get s k) (reply.Found found) st
 Follows-get st s e k found at sound finds = λ w agrees.
-    Follows-same st (step.Get s k) (reply.Found found) (theory.Follows-get (seen st) s (reader_of e) k found (reader-is st s e at) sound (row-to st w s e k found agrees at finds)) w agrees
+    Follows-same st (step.Get s k) (reply.Found found) tt (theory.Follows-get (seen st) s (reader_of e) k found (reader-is st s e at) sound (row-to st w s e k found agrees at finds)) w agrees
 
 -- it is the session's view, also after it has failed
 pub reads-view : (st : State) (w : World) (s : ℕ) (e : Session) (k : ℕ) (found : Option Row) → Agrees st w → session_at st s ≡ Some e → RowOf st e k found

@@ -23,6 +23,7 @@ use Rattle.refinement.specs.Changes as change
 use Rattle.refinement.proofs.Isolations.{SameSights}
 use Rattle.refinement.proofs.Steps.{OnlyIs}
 use Rattle.refinement.proofs.FollowsSavepoints as savepoints
+use Rattle.refinement.proofs.Runs.{unmade}
 use Rattle.session_steps.specs.declared.session.Session.{Session}
 use Rattle.visibility.specs.Visible.{state_of}
 use Rattle.session_steps.specs.State.{State, session_at, put_session, seen, position_of, reader_of, engine_sessions}
@@ -34,36 +35,36 @@ use Rattle.session_steps.proofs.Windows.{Finishes-from, SameSight-finish}
 use Rattle.session_steps.proofs.Owns.{reader-is}
 use Rattle.session_steps.proofs.Returning.{same-holds, keeps-saved, keeps-released}
 use Rattle.session_steps.proofs.Ends.{rolls-back-sound}
-use Rattle.session_steps.proofs.InUse.{same-cursor, agree}
+use Rattle.session_steps.proofs.InUse.{SameMarks, used-still, same-used, marks-put, scans-as, agree}
 use Rattle.session_steps.proofs.Follows.{Follows-same, closed_by, free_by, some-position, led-same, Sound-put}
 
 -- Refusals.
 
 pub Follows-too_deep : (st : State) (s : ℕ) (e : Session) → session_at st s ≡ Some e → e.failed ≡ false → e.cursor ≡ None → length e.own.saved ≡ 32 → Follows st (step.Savepoint s) (reply.Refused refusal.TooDeep) st
-Follows-too_deep st s e at sound bare full = Follows-same st (step.Savepoint s) (reply.Refused refusal.TooDeep) (savepoints.Follows-too_deep (seen st) s (reader_of e) (reader-is st s e at) sound (ap position_of bare) full)
+Follows-too_deep st s e at sound bare full = Follows-same st (step.Savepoint s) (reply.Refused refusal.TooDeep) tt (savepoints.Follows-too_deep (seen st) s (reader_of e) (reader-is st s e at) sound (ap position_of bare) full)
 
 pub Follows-savepoint_no_memory : (st : State) (s : ℕ) (e : Session) → session_at st s ≡ Some e → e.failed ≡ false → e.cursor ≡ None → length e.own.saved < 32 → Follows st (step.Savepoint s) (reply.Refused refusal.NoMemory) st
 Follows-savepoint_no_memory st s e at sound bare room =
-    Follows-same st (step.Savepoint s) (reply.Refused refusal.NoMemory) (savepoints.Follows-savepoint_no_memory (seen st) s (reader_of e) (reader-is st s e at) sound (ap position_of bare) room)
+    Follows-same st (step.Savepoint s) (reply.Refused refusal.NoMemory) tt (savepoints.Follows-savepoint_no_memory (seen st) s (reader_of e) (reader-is st s e at) sound (ap position_of bare) room)
 
 pub Follows-barred_savepoint : (st : State) (s : ℕ) (r : Refusal) → BarsFree (engine_sessions st) s r → Follows st (step.Savepoint s) (reply.Refused r) st
-Follows-barred_savepoint st s r is = Follows-same st (step.Savepoint s) (reply.Refused r) (savepoints.Follows-barred_savepoint (seen st) s r (free_by st s r is))
+Follows-barred_savepoint st s r is = Follows-same st (step.Savepoint s) (reply.Refused r) tt (savepoints.Follows-barred_savepoint (seen st) s r (free_by st s r is))
 
 pub Follows-nowhere_to_return : (st : State) (s : ℕ) (e : Session) → session_at st s ≡ Some e → e.cursor ≡ None → e.own.saved ≡ [] → Follows st (step.RollbackTo s) (reply.Refused refusal.NoSavepoint) st
-Follows-nowhere_to_return st s e at bare none = Follows-same st (step.RollbackTo s) (reply.Refused refusal.NoSavepoint) (savepoints.Follows-nowhere_to_return (seen st) s (reader_of e) (reader-is st s e at) (ap position_of bare) none)
+Follows-nowhere_to_return st s e at bare none = Follows-same st (step.RollbackTo s) (reply.Refused refusal.NoSavepoint) tt (savepoints.Follows-nowhere_to_return (seen st) s (reader_of e) (reader-is st s e at) (ap position_of bare) none)
 
 pub Follows-closed_roll_back_to : (st : State) (s : ℕ) (r : Refusal) → BarsOpen (engine_sessions st) s r → Follows st (step.RollbackTo s) (reply.Refused r) st
-Follows-closed_roll_back_to st s r is = Follows-same st (step.RollbackTo s) (reply.Refused r) (savepoints.Follows-closed_roll_back_to (seen st) s r (closed_by st s r is))
+Follows-closed_roll_back_to st s r is = Follows-same st (step.RollbackTo s) (reply.Refused r) tt (savepoints.Follows-closed_roll_back_to (seen st) s r (closed_by st s r is))
 
 pub Follows-nothing_to_release : (st : State) (s : ℕ) (e : Session) → session_at st s ≡ Some e → e.failed ≡ false → e.cursor ≡ None → e.own.saved ≡ [] → Follows st (step.Release s) (reply.Refused refusal.NoSavepoint) st
 Follows-nothing_to_release st s e at sound bare none =
-    Follows-same st (step.Release s) (reply.Refused refusal.NoSavepoint) (savepoints.Follows-nothing_to_release (seen st) s (reader_of e) (reader-is st s e at) sound (ap position_of bare) none)
+    Follows-same st (step.Release s) (reply.Refused refusal.NoSavepoint) tt (savepoints.Follows-nothing_to_release (seen st) s (reader_of e) (reader-is st s e at) sound (ap position_of bare) none)
 
 pub Follows-barred_release : (st : State) (s : ℕ) (r : Refusal) → BarsFree (engine_sessions st) s r → Follows st (step.Release s) (reply.Refused r) st
-Follows-barred_release st s r is = Follows-same st (step.Release s) (reply.Refused r) (savepoints.Follows-barred_release (seen st) s r (free_by st s r is))
+Follows-barred_release st s r is = Follows-same st (step.Release s) (reply.Refused r) tt (savepoints.Follows-barred_release (seen st) s r (free_by st s r is))
 
 pub Follows-barred_roll_back_to : (st : State) (s : ℕ) (e : Session) → session_at st s ≡ Some e → IsSome e.cursor → Follows st (step.RollbackTo s) (reply.Refused refusal.CursorOpen) st
-Follows-barred_roll_back_to st s e at some = Follows-same st (step.RollbackTo s) (reply.Refused refusal.CursorOpen) (savepoints.Follows-barred_roll_back_to (seen st) s (reader_of e) (reader-is st s e at) (some-position e.cursor some))
+Follows-barred_roll_back_to st s e at some = Follows-same st (step.RollbackTo s) (reply.Refused refusal.CursorOpen) tt (savepoints.Follows-barred_roll_back_to (seen st) s (reader_of e) (reader-is st s e at) (some-position e.cursor some))
 
 -- Nothing changes but the session.
 
@@ -79,8 +80,9 @@ Follows-savepoint st st' s e at sound bare room now is sets w agrees =
     (reader-is st s e at) sound (ap position_of bare) room w agrees.found in
     subst (λ st'. Allows w (step.Savepoint s) reply.Done × Agrees st' (next w (step.Savepoint s) reply.Done) × KeepsAllTargets st st') (sym is) (
       f.0,
-      agree agrees refl refl f.1
-          (Sound-put st s e now at (same-holds e now sets.isolation sets.ids) (keeps-saved st.heap.statuses e now sets (agrees.sound.sessions s e at)) (same-cursor st.sessions st.heap.indexes s e now at sets.cursor agrees.sound.cursors) agrees.sound),
+      agree agrees (used-still st.heap.indexes) (marks-put st.sessions s e now at sets.too_new) (unmade refl refl) f.1
+          (Sound-put st s e now at (same-holds e now sets.isolation sets.ids) (keeps-saved st.heap.statuses e now sets (agrees.sound.sessions s e at))
+          (scans-as st.heap.statuses st.heap.indexes e now sets.isolation sets.cursor sets.too_new (agrees.sound.scans s e at)) agrees.sound),
       led-same st w agrees,
     )
 
@@ -93,8 +95,9 @@ Follows-release st st' s e before saved at sound bare some now is releases w agr
     (reader-is st s e at) sound (ap position_of bare) some w agrees.found in
     subst (λ st'. Allows w (step.Release s) reply.Done × Agrees st' (next w (step.Release s) reply.Done) × KeepsAllTargets st st') (sym is) (
       f.0,
-      agree agrees refl refl f.1
-          (Sound-put st s e now at (same-holds e now releases.isolation releases.ids) (keeps-released st.heap.statuses e now releases (agrees.sound.sessions s e at)) (same-cursor st.sessions st.heap.indexes s e now at releases.cursor agrees.sound.cursors) agrees.sound),
+      agree agrees (used-still st.heap.indexes) (marks-put st.sessions s e now at releases.too_new) (unmade refl refl) f.1
+          (Sound-put st s e now at (same-holds e now releases.isolation releases.ids) (keeps-released st.heap.statuses e now releases (agrees.sound.sessions s e at))
+          (scans-as st.heap.statuses st.heap.indexes e now releases.isolation releases.cursor releases.too_new (agrees.sound.scans s e at)) agrees.sound),
       led-same st w agrees,
     )
 
@@ -140,4 +143,5 @@ Follows-roll_back_to st st' s before saved back bare is w agrees =
     let f = savepoints.Follows-roll_back_to (seen st) s (reader_of back.session) before saved (seen st').status (seen st').sees (seen st').session (only-returns st st' s before saved back is)
     (reader-is st s back.session back.at) (ap position_of bare) is (λ w' found. finishes-since st st' s before saved back is w agrees) (same-sights st st' s before saved back is) w agrees.found in
     let sound' = rolls-back-sound st st' s before saved w back is agrees in
-    (f.0, agree agrees back.settings refl (subst (λ pages. theory.HeapAgrees (with_pages st' pages) (next w (step.RollbackTo s) reply.Done)) (sym back.back.pages) f.1) sound'.0, sound'.1)
+    let marks = subst (SameMarks st.sessions) (sym back.sessions) (marks-put st.sessions s back.session back.now back.at back.back.returns.too_new) in
+    (f.0, agree agrees (same-used st.heap.indexes st'.heap.indexes back.back.indexes) marks (unmade refl refl) (subst (λ pages. theory.HeapAgrees (with_pages st' pages) (next w (step.RollbackTo s) reply.Done)) (sym back.back.pages) f.1) sound'.0, sound'.1)

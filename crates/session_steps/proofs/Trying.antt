@@ -75,17 +75,17 @@ keeps-deleted xs h h' s e e' place (Err f) at tries is k = keeps-kept xs h.statu
 pub tries-insert : (h h' : HeapView) (e : Session) (own : Own) (row : Row) (r : Result Xid WriteFault) → IfOk r (λ x. Inserts h h' e.own own row x.0) → IfErr r (λ f. LacksForInsert h e.own row f) → OnErr r (Keeps h h') → OnErr r (SameOwn e.own own)
     → TriesInsert h h' e (record e { own = own }) row (outcome_of r)
 tries-insert h h' e own row (Ok x) ok fails keeps same = record { is = refl; x = x.0; change = ok }
-tries-insert h h' e own row (Err f) ok fails keeps same = record { same = record { isolation = refl; own = same; failed = refl; cursor = refl }; fault = (fails, keeps) }
+tries-insert h h' e own row (Err f) ok fails keeps same = record { same = record { isolation = refl; own = same; failed = refl; cursor = refl; too_new = refl }; fault = (fails, keeps) }
 
 pub tries-update : (h h' : HeapView) (e : Session) (own : Own) (place : Tid) (row : Row) (horizon : ℕ) (r : Result Xid WriteFault) → AnswersUpdate h h' e.own own place row horizon r
     → TriesUpdate h h' e (record e { own = own }) place row horizon (outcome_of r)
 tries-update h h' e own place row horizon (Ok x) answers = record { is = refl; x = x.0; change = answers.ok.0 }
-tries-update h h' e own place row horizon (Err f) answers = record { same = record { isolation = refl; own = answers.same_own; failed = refl; cursor = refl }; fault = answers.fault }
+tries-update h h' e own place row horizon (Err f) answers = record { same = record { isolation = refl; own = answers.same_own; failed = refl; cursor = refl; too_new = refl }; fault = answers.fault }
 
 pub tries-delete : (h h' : HeapView) (e : Session) (own : Own) (place : Tid) (r : Result Xid WriteFault) → IfOk r (λ x. Deletes h h' e.own own place x.0) → IfErr r (λ f. FailsDelete h h' e.own f) → OnErr r (SameOwn e.own own)
     → TriesDelete h h' e (record e { own = own }) place (outcome_of r)
 tries-delete h h' e own place (Ok x) ok fails same = record { is = refl; x = x.0; change = ok }
-tries-delete h h' e own place (Err f) ok fails same = record { same = record { isolation = refl; own = same; failed = refl; cursor = refl }; fault = fails }
+tries-delete h h' e own place (Err f) ok fails same = record { same = record { isolation = refl; own = same; failed = refl; cursor = refl; too_new = refl }; fault = fails }
 
 -- The engine afterwards.
 

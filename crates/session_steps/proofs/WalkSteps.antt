@@ -4,7 +4,7 @@ use Rattle.std.proofs.lemmas.Option.{none-some}
 use Rattle.tuple_header.specs.declared.version.Row.{Row}
 use Rattle.index_lookup.specs.declared.index_scan.IndexPosition.{IndexPosition}
 use Rattle.index_lookup.specs.declared.index_scan.IndexRange.{IndexRange}
-use Rattle.table_indexes.specs.Indexes.{IsInUse}
+use Rattle.visibility.proofs.Makers.{active-to}
 use Rattle.history.specs.Cursors.{ComesBefore}
 use Rattle.refinement.specs.Heap.{in_index}
 use Rattle.refinement.specs.Cursors.{Comes, WalksOver}
@@ -13,8 +13,10 @@ use Rattle.refinement.proofs.CursorWalks.{Meets-one}
 use Rattle.table_scans.specs.declared.progress.Scan.TheVariants.{Index}
 use Rattle.table_scans.specs.Scans.{NoneIsIn, range_after, ScansIndex, index_begins, index_goes_on}
 use Rattle.session_steps.specs.declared.session.Session.{Session}
-use Rattle.session_steps.specs.State.{State, seen, seen_position}
+use Rattle.session_steps.specs.State.{State, seen, seen_position, reader_of, cursor_snapshot}
 use Rattle.session_steps.specs.Takes.{session_sight}
+use Rattle.session_steps.proofs.Owns.{reader-is}
+use Rattle.session_steps.proofs.Scanning.{IsScanned, scans-unexcused, cursor-scans}
 use Rattle.session_steps.proofs.AtCursor.{seen_by, IsAtCursor, NoneToCome, SomeToCome, first-row}
 use Rattle.session_steps.proofs.Walks.{IsNextFor, next-comes, next-position, next-first, none-comes}
 
@@ -23,13 +25,17 @@ pub record Walks (st : State) (e : Session) (span left : IndexRange) (rows : Lis
   pub same : left ≡ record span { last = left.last }
   pub meets : IsAtCursor st e (Index span) → WalksOver (seen st).version (seen_by st e) span.index span.low span.high (seen_position span.last) (seen_position left.last) rows
 
--- the cursor goes along an index in use
-pub used-at : (st : State) (e : Session) (span : IndexRange) → IsAtCursor st e (Index span) → IsInUse st.heap.indexes span.index
-used-at st e span at = at.agrees.sound.cursors at.number e span at.there at.opened
+-- the cursor goes along an index in use, and sees nothing that this leaves out
+scanned-at : (st : State) (e : Session) (span : IndexRange) → IsAtCursor st e (Index span) → IsScanned st e span.index
+scanned-at st e span at = record {
+  used = ((at.agrees.sound.scans at.number e at.there).cursor span at.opened).0;
+  unexcused = scans-unexcused st at.world at.agrees span.index (cursor_snapshot st.heap.statuses e.isolation) e.own.ids (cursor-scans st at.world at.number e span at.agrees at.there at.opened)
+      (λ x mine. active-to st.heap.statuses x ((at.agrees.found.opened at.number (reader_of e) (reader-is st at.number e at.there)).2.own_active x mine));
+}
 
 -- so does what is left of its span
-used-left : (st : State) (e : Session) (span left : IndexRange) (rows : List Row) → Walks st e span left rows → IsAtCursor st e (Index span) → IsInUse st.heap.indexes left.index
-used-left st e span left rows h at = subst (IsInUse st.heap.indexes) (sym (ap (λ (sp : IndexRange). sp.index) h.same)) (used-at st e span at)
+scanned-left : (st : State) (e : Session) (span left : IndexRange) (rows : List Row) → Walks st e span left rows → IsAtCursor st e (Index span) → IsScanned st e left.index
+scanned-left st e span left rows h at = subst (IsScanned st e) (sym (ap (λ (sp : IndexRange). sp.index) h.same)) (scanned-at st e span at)
 
 -- what comes in what is left
 abbrev pub ComesIn : State → Session → IndexRange → Row → Type 0
@@ -50,25 +56,25 @@ module _ (st : State) (e : Session) (span left : IndexRange) (rows : List Row) (
   comes-next : (position : IndexPosition) (row : Row) → IsNextFor st e left position row → IsAtCursor st e (Index span)
       → Comes (seen st).version (seen_by st e) (in_index span.index span.low span.high (seen_position left.last)) row
   comes-next position row next at =
-      in-left st e span left row h.same (next-comes st at.world at.number e at.agrees at.there left (used-left st e span left rows h at) position row next)
+      in-left st e span left row h.same (next-comes st at.world at.number e at.agrees at.there left (scanned-left st e span left rows h at) position row next)
 
   one-walks : (position : IndexPosition) (row : Row) → IsNextFor st e left position row → Walks st e span (range_after left position) (rows ++ row ∷ [])
   one-walks position row next = record {
     same = ap (λ (sp : IndexRange). record sp { last = Some position }) h.same;
     meets = λ at.
-        let used = used-left st e span left rows h at in
+        let scanned = scanned-left st e span left rows h at in
         let index : left.index ≡ span.index = ap (λ (sp : IndexRange). sp.index) h.same in
         subst (λ to. WalksOver (seen st).version (seen_by st e) span.index span.low span.high (seen_position span.last) to (rows ++ row ∷ []))
-        (ap (λ n. Some (cursors.index_position_of n row)) (sym index) ∙ next-position st at.world at.number e at.agrees at.there left used position row next)
+        (ap (λ n. Some (cursors.index_position_of n row)) (sym index) ∙ next-position st at.world at.number e at.agrees at.there left scanned position row next)
         (Meets-one row (comes-next position row next at)
         (λ other comes ne. subst (λ n. ComesBefore n row other) index
-        (next-first st at.world at.number e at.agrees at.there left used position row next other (left-in st e span left other h.same comes) ne))
+        (next-first st at.world at.number e at.agrees at.there left scanned position row next other (left-in st e span left other h.same comes) ne))
         (h.meets at));
   }
 
   -- nothing comes in what is left, where none is seen in it
   pub none-left : NoneIsIn (session_sight st e) left → IsAtCursor st e (Index span) → (row : Row) → ¬ ComesIn st e left row
-  none-left none at row comes = none-comes st at.world at.number e at.agrees at.there left (used-left st e span left rows h at) none row comes
+  none-left none at row comes = none-comes st at.world at.number e at.agrees at.there left (scanned-left st e span left rows h at) none row comes
 
 pub none-walks : (st : State) (e : Session) (span : IndexRange) → Walks st e span span []
 none-walks st e span = record {

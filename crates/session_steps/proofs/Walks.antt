@@ -27,7 +27,7 @@ use Rattle.refinement.specs.Heap as relation
 use Rattle.refinement.specs.Visible.{At}
 use Rattle.refinement.specs.Cursors.{IsPastPosition, IsAhead, Comes}
 use Rattle.refinement.specs.Cursors as cursors
-use Rattle.session_steps.proofs.InUse.{sees-all}
+use Rattle.session_steps.proofs.Scanning.{IsScanned}
 use Rattle.session_steps.specs.declared.session.Session.{Session}
 use Rattle.session_steps.specs.State.{State, session_at, seen, cursor_snapshot, seen_position, horizon_of}
 use Rattle.session_steps.specs.Agrees.{Agrees}
@@ -124,13 +124,13 @@ record HasEntry (st : State) (index : ℕ) (row : Row) : Type 0 where
   pub value : value_in index row ≡ entry.value
   pub key : row.key ≡ entry.key
 
-module _ (st : State) (w : World) (s : ℕ) (e : Session) (agrees : Agrees st w) (at : session_at st s ≡ Some e) (index : ℕ) (used : IsInUse st.heap.indexes index) where
+module _ (st : State) (w : World) (s : ℕ) (e : Session) (agrees : Agrees st w) (at : session_at st s ≡ Some e) (index : ℕ) (scans : IsScanned st e index) where
   sound-in : EntriesAreSound (value_in index) (since_at st.heap.indexes index) st.heap.statuses (horizon_of st) (slots_of st.heap) (entries_in st.heap.indexes index)
-  sound-in = index-sound st.heap (horizon_of st) agrees.sound.table index used
+  sound-in = index-sound st.heap (horizon_of st) agrees.sound.table index scans.used
 
   row-shown : (value : ℤ) (key : ℕ) (row : Row) → FindsBy st e index value key (Some row) → SeesRow st e index value key row
   row-shown value key row finds =
-      let h = found-on_heap (value_in index) (since_at st.heap.indexes index) st.heap.statuses (horizon_of st) (slots_of st.heap) (entries_in st.heap.indexes index) (cursor_snapshot st.heap.statuses e.isolation) e.own.ids sound-in (own-active st w s e agrees at) (sees-all st agrees.sound index (cursor_snapshot st.heap.statuses e.isolation) e.own.ids) value key (Some row) finds in
+      let h = found-on_heap (value_in index) (since_at st.heap.indexes index) st.heap.statuses (horizon_of st) (slots_of st.heap) (entries_in st.heap.indexes index) (cursor_snapshot st.heap.statuses e.isolation) e.own.ids sound-in (own-active st w s e agrees at) scans.unexcused value key (Some row) finds in
       record {
         place = h.0;
         version = h.1;
@@ -143,7 +143,7 @@ module _ (st : State) (w : World) (s : ℕ) (e : Session) (agrees : Agrees st w)
 
   none-shown : (value : ℤ) (key : ℕ) (row : Row) → FindsBy st e index value key None → SeesRow st e index value key row → ⊥
   none-shown value key row finds shows =
-      found-on_heap (value_in index) (since_at st.heap.indexes index) st.heap.statuses (horizon_of st) (slots_of st.heap) (entries_in st.heap.indexes index) (cursor_snapshot st.heap.statuses e.isolation) e.own.ids sound-in (own-active st w s e agrees at) (sees-all st agrees.sound index (cursor_snapshot st.heap.statuses e.isolation) e.own.ids) value key None finds
+      found-on_heap (value_in index) (since_at st.heap.indexes index) st.heap.statuses (horizon_of st) (slots_of st.heap) (entries_in st.heap.indexes index) (cursor_snapshot st.heap.statuses e.isolation) e.own.ids sound-in (own-active st w s e agrees at) scans.unexcused value key None finds
       shows.place shows.version (record {
         there = shows.here;
         of_value = ap (value_in index) shows.same_row ∙ shows.of_value;
@@ -153,16 +153,16 @@ module _ (st : State) (w : World) (s : ℕ) (e : Session) (agrees : Agrees st w)
 
   has-entry : (p : Tid) (v : Version) → At (seen st).version p v → seen_by st e v → HasEntry st index v.row
   has-entry p v here shown =
-      let i = (visible-found (value_in index) (since_at st.heap.indexes index) st.heap.statuses (horizon_of st) (slots_of st.heap) (entries_in st.heap.indexes index) sound-in (cursor_snapshot st.heap.statuses e.isolation) e.own.ids (own-active st w s e agrees at) (sees-all st agrees.sound index (cursor_snapshot st.heap.statuses e.isolation) e.own.ids) (value_in index v.row) v.row.key p v).0
+      let i = (visible-found (value_in index) (since_at st.heap.indexes index) st.heap.statuses (horizon_of st) (slots_of st.heap) (entries_in st.heap.indexes index) sound-in (cursor_snapshot st.heap.statuses e.isolation) e.own.ids (own-active st w s e agrees at) scans.unexcused (value_in index v.row) v.row.key p v).0
       (record { there = here; of_value = refl; of_key = refl; has = (cursor-sees st agrees.sound.window e.isolation e.own.ids v).1 shown }) in
       record { entry = i.entry; there = i.leads.there; value = sym i.of.0; key = sym i.of.1 }
 
-module _ (st : State) (w : World) (s : ℕ) (e : Session) (agrees : Agrees st w) (at : session_at st s ≡ Some e) (span : IndexRange) (used : IsInUse st.heap.indexes span.index) where
+module _ (st : State) (w : World) (s : ℕ) (e : Session) (agrees : Agrees st w) (at : session_at st s ≡ Some e) (span : IndexRange) (scans : IsScanned st e span.index) where
   -- a row that comes has an entry in the span, by whose value and key it is found
   come-by : (row : Row) → Comes (seen st).version (seen_by st e) (in_index span.index span.low span.high (seen_position span.last)) row
       → (h : HasEntry st span.index row) × LiesIn span h.entry × SeesRow st e span.index h.entry.value h.entry.key row
   come-by row c =
-      let h = subst (HasEntry st span.index) c.same_row (has-entry st w s e agrees at span.index used c.place c.version c.here c.shown) in (
+      let h = subst (HasEntry st span.index) c.same_row (has-entry st w s e agrees at span.index scans c.place c.version c.here c.shown) in (
         h,
         entry-ahead span row h.entry h.value h.key c.to_come,
         record { place = c.place; version = c.version; here = c.here; shown = c.shown; same_row = c.same_row; of_value = h.value; of_key = h.key },
@@ -171,7 +171,7 @@ module _ (st : State) (w : World) (s : ℕ) (e : Session) (agrees : Agrees st w)
   -- the next row
   pub next-comes : (position : IndexPosition) (row : Row) → IsNextFor st e span position row → Comes (seen st).version (seen_by st e) (in_index span.index span.low span.high (seen_position span.last)) row
   next-comes position row next =
-      let h = row-shown st w s e agrees at span.index used position.value position.key row next.found in
+      let h = row-shown st w s e agrees at span.index scans position.value position.key row next.found in
       record {
         place = h.place;
         version = h.version;
@@ -182,20 +182,20 @@ module _ (st : State) (w : World) (s : ℕ) (e : Session) (agrees : Agrees st w)
       }
 
   pub next-position : (position : IndexPosition) (row : Row) → IsNextFor st e span position row → Some (cursors.index_position_of span.index row) ≡ seen_position (Some position)
-  next-position position row next = let h = row-shown st w s e agrees at span.index used position.value position.key row next.found in position-is span.index row position h.of_value h.of_key
+  next-position position row next = let h = row-shown st w s e agrees at span.index scans position.value position.key row next.found in position-is span.index row position h.of_value h.of_key
 
   -- all others that come are after it
   pub next-first : (position : IndexPosition) (row : Row) → IsNextFor st e span position row
       → (other : Row) → Comes (seen st).version (seen_by st e) (in_index span.index span.low span.high (seen_position span.last)) other → other.key ≢ row.key → ComesBefore span.index row other
   next-first position row next other comes ne =
-      let h = row-shown st w s e agrees at span.index used position.value position.key row next.found in
+      let h = row-shown st w s e agrees at span.index scans position.value position.key row next.found in
       let c = come-by other comes in
       let entry = c.0 in
       comes-after span.index row other entry.entry position h.of_value h.of_key entry.value entry.key ne
-      (λ before. none-shown st w s e agrees at span.index used entry.entry.value entry.entry.key other (next.none_before entry.entry entry.there c.1 before) c.2)
+      (λ before. none-shown st w s e agrees at span.index scans entry.entry.value entry.entry.key other (next.none_before entry.entry entry.there c.1 before) c.2)
 
   -- none is left
   pub none-comes : NoneIsLeft st e span → (row : Row) → ¬ Comes (seen st).version (seen_by st e) (in_index span.index span.low span.high (seen_position span.last)) row
   none-comes none row comes =
       let c = come-by row comes in
-      none-shown st w s e agrees at span.index used c.0.entry.value c.0.entry.key row (none c.0.entry c.0.there c.1) c.2
+      none-shown st w s e agrees at span.index scans c.0.entry.value c.0.entry.key row (none c.0.entry c.0.there c.1) c.2

@@ -1,5 +1,5 @@
 -- When an engine agrees with a world of the history.
-use Rattle.std.specs.Prelude.{◌≡◌, ◌↔◌, ℕ, true, length, Some, None, IsSome, slice_get, Contains}
+use Rattle.std.specs.Prelude.{◌≡◌, ◌↔◌, ℕ, true, false, length, Some, IsSome, slice_get, Contains}
 use Rattle.history.specs.World.{World}
 use Rattle.snapshot.specs.Snap.{Snap}
 use Rattle.snapshot.specs.Laws.{IsInWindow}
@@ -11,13 +11,15 @@ use Rattle.calls.specs.declared.reply.Reply.{Reply}
 use Rattle.refinement.specs.Allowed.{Allows, next}
 use Rattle.refinement.specs.Agrees as relation
 use Rattle.sound_entries.specs.Entries.{KeepsTargets}
-use Rattle.table_indexes.specs.Indexes.{entries_in, since_at, IsInUse, new_entries}
+use Rattle.sound_entries.specs.Since.{IsExactSince, MayScanSince}
+use Rattle.table_indexes.specs.Indexes.{IndexesView, entries_in, since_at, IsInUse}
 use Rattle.heap_write.specs.Heap.{slots_of}
 use Rattle.index_lookup.specs.declared.index_scan.IndexRange.{IndexRange}
 use Rattle.table_integrity.specs.Table.{SoundTable}
 use Rattle.session_steps.specs.declared.session.Session.{Session}
+use Rattle.session_steps.specs.declared.session.SessionIsolation.TheVariants.{BySnapshot}
 use Rattle.table_scans.specs.declared.progress.Scan.TheVariants.{Index}
-use Rattle.session_steps.specs.State.{State, session_at, seen, IsByStatement, kept_by, horizon_of}
+use Rattle.session_steps.specs.State.{State, session_at, seen, IsByStatement, kept_by, is_too_new, horizon_of}
 use Rattle.calls.specs.declared.step.TheConstants.{MOST_SESSIONS}
 
 -- what the ids of an open session keep
@@ -32,6 +34,14 @@ pub record SessionKeeps (w : Window) (e : Session) : Type 0 where
   pub prefixes : ArePrefixes e.own.ids e.own.saved
   pub distinct : AreDistinct e.own.ids
 
+-- which indexes an open session may scan
+pub record SessionScans (w : Window) (indexes : IndexesView) (e : Session) : Type 0 where
+  -- by the snapshot of its beginning it may scan each that is not too new for it
+  pub by_snapshot : (n : ℕ) (snap : Snap) → e.isolation ≡ BySnapshot snap → is_too_new e n ≡ false → MayScanSince w (since_at indexes n) snap
+  -- its cursor goes along one in use, which it may scan by the snapshot that it keeps
+  pub cursor : (span : IndexRange) → e.cursor ≡ Some (Index span) → IsInUse indexes span.index
+      × ((snap : Snap) → kept_by e.isolation ≡ Some snap → MayScanSince w (since_at indexes span.index) snap)
+
 -- what the ids and the pages of an engine keep
 pub record Sound (st : State) : Type 0 where
   pub count : length st.sessions ≡ MOST_SESSIONS
@@ -43,12 +53,11 @@ pub record Sound (st : State) : Type 0 where
   pub sessions : (s : ℕ) (e : Session) → session_at st s ≡ Some e → SessionKeeps st.heap.statuses e
   -- what is committed, its topmost parent is not in progress, and is itself or was given before it
   pub tops : (x : ℕ) → IsCommitted st.heap.statuses x → IsWellTopped st.heap.statuses x
-  -- the indexes in use are the primary index and those of the columns that the settings name
-  pub indexes : (n : ℕ) → IsInUse st.heap.indexes n ↔ IsSome (new_entries st.settings.indexed n)
-  -- each was made with the table, so that it is exact for whoever reads
-  pub exact : (n : ℕ) → since_at st.heap.indexes n ≡ None
-  -- an open session's cursor goes along one of these
-  pub cursors : (s : ℕ) (e : Session) (span : IndexRange) → session_at st s ≡ Some e → e.cursor ≡ Some (Index span) → IsInUse st.heap.indexes span.index
+  -- the primary index is in use
+  pub by_key : IsInUse st.heap.indexes 0
+  -- each always was exact; or it is from an id on that is remembered, or the next, and no id in progress was given before that
+  pub since : (n : ℕ) → IsExactSince st.heap.statuses (since_at st.heap.indexes n)
+  pub scans : (s : ℕ) (e : Session) → session_at st s ≡ Some e → SessionScans st.heap.statuses st.heap.indexes e
   -- sound entries, on sound pages, at the present horizon
   pub table : SoundTable st.heap (horizon_of st)
 
@@ -57,6 +66,8 @@ pub record Agrees (st : State) (w : World) : Type 0 where
   pub found : relation.HeapAgrees (seen st) w
   -- the indexes in use are those that there are
   pub indexes : (n : ℕ) → IsInUse st.heap.indexes n ↔ (w.has_index n ≡ true)
+  -- and the same are too new for an open session
+  pub scans : (s : ℕ) (e : Session) → session_at st s ≡ Some e → (n : ℕ) → w.too_new s n ≡ is_too_new e n
   pub sound : Sound st
 
 -- what an entry of any index leads to before and after is the same version, a redirect to a later one of its row, or dead

@@ -8,9 +8,9 @@ use Rattle.commit_status.specs.Changes.{Finishes}
 use Rattle.heap_write.specs.Heap.{HeapView}
 use Rattle.session_steps.specs.declared.session.Session.{Session}
 use Rattle.session_steps.specs.declared.session.SessionIsolation.{SessionIsolation}
-use Rattle.session_steps.specs.State.{State, session_at, put_session}
+use Rattle.session_steps.specs.State.{State, session_at, put_session, is_too_new}
 
--- the session is open, reads so, and has no ids
+-- the session is open, reads so, has no ids, and may scan each index
 pub record Opens (old new : State) (s : ℕ) (isolation : SessionIsolation) : Type 0 where
   pub session : Session
   pub is : new ≡ put_session old s (Some session)
@@ -19,6 +19,7 @@ pub record Opens (old new : State) (s : ℕ) (isolation : SessionIsolation) : Ty
   pub unsaved : session.own.saved ≡ []
   pub sound : session.failed ≡ false
   pub bare : session.cursor ≡ None
+  pub scans_all : (n : ℕ) → is_too_new session n ≡ false
 
 -- the session is closed, and its ids have the status
 pub record Closes (old new : State) (s : ℕ) (status : Status) : Type 0 where
@@ -40,6 +41,7 @@ pub record SetsSavepoint (e e' : Session) : Type 0 where
   pub saved : e'.own.saved ≡ e.own.ids ∷ e.own.saved
   pub failed : e'.failed ≡ e.failed
   pub cursor : e'.cursor ≡ e.cursor
+  pub too_new : e'.too_new ≡ e.too_new
 
 -- it has the ids that it had at its newest savepoint, which it keeps, and has not failed
 pub record Returns (e e' : Session) : Type 0 where
@@ -48,6 +50,7 @@ pub record Returns (e e' : Session) : Type 0 where
   pub saved : e'.own.saved ≡ e.own.saved
   pub sound : e'.failed ≡ false
   pub cursor : e'.cursor ≡ e.cursor
+  pub too_new : e'.too_new ≡ e.too_new
 
 -- it has forgotten its newest savepoint, and keeps its ids
 pub record Releases (e e' : Session) : Type 0 where
@@ -56,6 +59,7 @@ pub record Releases (e e' : Session) : Type 0 where
   pub saved : e'.own.saved ≡ older e.own.saved
   pub failed : e'.failed ≡ e.failed
   pub cursor : e'.cursor ≡ e.cursor
+  pub too_new : e'.too_new ≡ e.too_new
 
 -- nothing changes but an open session
 pub record SessionBecomes (old new : State) (s : ℕ) (changes : Session → Session → Type 0) : Type 0 where

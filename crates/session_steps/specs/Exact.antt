@@ -1,6 +1,6 @@
 -- What the history leaves to an engine: what a write does to its own ids and pages, when it finds no id, no room or no memory,
 -- and what a refusal leaves as it was.
-use Rattle.std.specs.Prelude.{◌≡◌, ℕ, ◌<◌, ◌≤◌, length, Option, Some, None, IsSome, Result, Ok, Err, slice_set}
+use Rattle.std.specs.Prelude.{◌≡◌, ℕ, ◌<◌, ◌≤◌, length, Bool, true, false, Option, Some, None, IsSome, Result, Ok, Err, slice_set}
 use Rattle.std.specs.Option.{option_map}
 use Rattle.xid_circle.specs.declared.Tid.{Tid}
 use Rattle.tuple_header.specs.declared.version.Row.{Row}
@@ -22,7 +22,7 @@ use Rattle.session_steps.specs.declared.session.Session.{Session}
 use Rattle.session_steps.specs.declared.session.SessionIsolation.TheVariants.{BySnapshot, ByStatement}
 use Rattle.table_scans.specs.declared.progress.Scan.{Scan}
 use Rattle.table_scans.specs.declared.progress.Scan.TheVariants.{Index, Heap}
-use Rattle.session_steps.specs.State.{State, session_at, engine_index, put_session, map_session, with_cursor, with_kept, IsByStatement, failed_session, owns_of, horizon_of}
+use Rattle.session_steps.specs.State.{State, session_at, engine_index, put_session, map_session, with_cursor, with_kept, IsByStatement, is_too_new, failed_session, owns_of, horizon_of}
 use Rattle.session_steps.specs.Agrees.{Follows}
 use Rattle.session_steps.specs.Changes.{Opens, Closes, SetsSavepoint, Releases, SessionBecomes, RollsBack}
 use Rattle.session_steps.specs.Takes.{HandsOut}
@@ -98,6 +98,10 @@ MustNote st s = (e : Session) × (session_at st s ≡ Some e) × (4 ≤ length e
 abbrev pub MustKeep : State → ℕ → Type 0
 MustKeep st s = (e : Session) × (session_at st s ≡ Some e) × IsByStatement e.isolation × MustList st
 
+-- whether an index is too new for the session, which is open
+abbrev pub HasScanMark : State → (s number : ℕ) → Bool → Type 0
+HasScanMark st s number mark = (e : Session) × (session_at st s ≡ Some e) × (is_too_new e number ≡ mark)
+
 -- the session has this cursor now, or none, and nothing else changes
 abbrev pub MovesCursor : State → State → ℕ → Option Scan → Type 0
 MovesCursor old new s cursor = new ≡ put_session old s (map_session (with_cursor cursor) (session_at old s))
@@ -131,7 +135,8 @@ Exact old (step.RollbackTo s) reply.Done new = RollsBack old new s
 Exact old (step.Release s) reply.Done new = SessionBecomes old new s Releases
 Exact old (step.OpenIndex s index low high) reply.Done new = OpensCursor old new s (Index (record { index = index; low = low; high = high; last = None }))
 Exact old (step.OpenIndex s index low high) (reply.Refused refusal.NoSuchIndex) new = (engine_index old index ≡ None) × (new ≡ old)
-Exact old (step.OpenIndex s index low high) (reply.Refused refusal.BadBounds) new = IsSome (engine_index old index) × (new ≡ old)
+Exact old (step.OpenIndex s index low high) (reply.Refused refusal.IndexTooNew) new = IsSome (engine_index old index) × HasScanMark old s index true × (new ≡ old)
+Exact old (step.OpenIndex s index low high) (reply.Refused refusal.BadBounds) new = IsSome (engine_index old index) × HasScanMark old s index false × (new ≡ old)
 Exact old (step.OpenIndex s index low high) (reply.Refused refusal.NoMemory) new = MustKeep old s × (new ≡ old)
 Exact old (step.OpenHeap s) reply.Done new = OpensCursor old new s (Heap heap_start)
 Exact old (step.OpenHeap s) (reply.Refused refusal.NoMemory) new = MustKeep old s × (new ≡ old)

@@ -12,7 +12,7 @@ use Rattle.table_indexes.specs.Indexes.{entries_in, IsInUse}
 use Rattle.heap_write.specs.Heap.{HeapView, slots_of}
 use Rattle.tuple_header.specs.IndexValue.{value_in}
 use Rattle.history.specs.History.{Write, Transaction, committed, reading}
-use Rattle.history.specs.World.{World, OpenSession, joined, start_now, view}
+use Rattle.history.specs.World.{World, OpenSession, joined, start_now, view, MayScan}
 use Rattle.session_steps.specs.declared.session.Session.{Session}
 use Rattle.session_steps.specs.State.{State, session_at, statement_snapshot, kept_by, kept_xmin, owns_of, horizon_of}
 use Rattle.session_steps.specs.Agrees.{Agrees}
@@ -39,11 +39,11 @@ pub record FindsLevels (h : HeapView) (n : ℕ) (history : List Transaction) (e 
   pub now : FindsRows h (statement_snapshot h.statuses e.isolation) e.own.ids n (view history m)
   pub saved : FindsAtEach h (statement_snapshot h.statuses e.isolation) n history (start_now history m) e.own.saved m.levels
 
--- Each open session finds its view through each index in use, as it is and as it was at each savepoint, and one that would
--- begin now finds what is committed.
+-- Each open session finds its view through each index in use that it may scan, as it is and as it was at each savepoint, and one
+-- that would begin now finds what is committed through any.
 abbrev pub ViewsByIndex : Type 0
 ViewsByIndex = (st : State) (w : World) → Agrees st w → (n : ℕ) → IsInUse st.heap.indexes n
-    → ((s : ℕ) (e : Session) (m : OpenSession) → session_at st s ≡ Some e → w.session s ≡ Some m → FindsLevels st.heap n w.history e m)
+    → ((s : ℕ) (e : Session) (m : OpenSession) → session_at st s ≡ Some e → w.session s ≡ Some m → MayScan w s n → FindsLevels st.heap n w.history e m)
     × FindsRows st.heap (taken (next_id st.heap.statuses) (owns_of st.sessions)) [] n (committed w.history (length w.history))
 
 -- what the open sessions have: the xmin of the snapshot that each keeps, if it keeps one, and all its ids

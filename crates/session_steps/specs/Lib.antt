@@ -6,6 +6,7 @@ pub mod Tests
 pub mod Replies
 pub mod Changes
 pub mod Writes
+pub mod Making
 pub mod Vacuums
 pub mod Takes
 pub mod NextRows

@@ -1,5 +1,5 @@
 -- An engine as its callers see it, and what its readers see of it.
-use Rattle.std.specs.Prelude.{ℕ, ◌+◌, ◌*◌, true, List, [], ◌∷◌, ◌++◌, take, Option, Some, None, slice_get, slice_set}
+use Rattle.std.specs.Prelude.{ℕ, ◌+◌, ◌*◌, Bool, true, false, List, [], ◌∷◌, ◌++◌, take, Option, Some, None, slice_get, slice_set, slice_index_or}
 use Rattle.std.specs.Option.{option_map, option_flatten}
 use Rattle.snapshot.specs.Snap.{Snap, Sees, earliest, empty_at}
 use Rattle.commit_status.specs.Window.{Window, next_id}
@@ -12,6 +12,9 @@ use Rattle.table_indexes.specs.Indexes as indexes
 use Rattle.index_lookup.specs.Pages.{version_in}
 use Rattle.heap_write.specs.Heap.{HeapView, slots_of}
 use Rattle.calls.specs.declared.settings.Settings.{Settings}
+use Rattle.calls.specs.declared.step.Step.{Step}
+use Rattle.calls.specs.declared.step.Step.TheVariants as step
+use Rattle.calls.specs.Steps.{is_vacuum_step}
 use Rattle.calls.specs.declared.reply.Refusal.{Refusal}
 use Rattle.calls.specs.declared.reply.Refusal.TheVariants as refusal
 use Rattle.calls.specs.Bars.{SessionLooks}
@@ -73,6 +76,15 @@ cursor_snapshot w (ByStatement None) = empty_at (next_id w)
 abbrev pub keeping : Option Snap → SessionIsolation → SessionIsolation
 keeping kept (BySnapshot snap) = BySnapshot snap
 keeping kept (ByStatement old) = ByStatement kept
+
+-- it reads by that of its beginning
+abbrev pub reads_by_snapshot : SessionIsolation → Bool
+reads_by_snapshot (BySnapshot snap) = true
+reads_by_snapshot (ByStatement kept) = false
+
+-- the index of this number was made in use while the session was open by snapshot, so it may not scan it; the index by key never was
+abbrev pub is_too_new : Session → ℕ → Bool
+is_too_new e number = slice_index_or (false ∷ e.too_new) number false
 
 abbrev pub isolation_seen : SessionIsolation → relation.SeenIsolation
 isolation_seen (BySnapshot snap) = relation.seen_by_snapshot snap
@@ -155,3 +167,8 @@ failed_session e = record e { failed = true }
 abbrev pub refused_state : State → ℕ → Refusal → State
 refused_state st s refusal.Conflict = put_session st s (option_map failed_session (session_at st s))
 refused_state st s refusal = st
+
+-- whether a step is answered above the sessions: each of a vacuum's, which is kept there; and the making of an index, which none may run beside
+abbrev pub is_answered_above : Step → Bool
+is_answered_above (step.CreateIndex c) = true
+is_answered_above step = is_vacuum_step step

@@ -20,6 +20,7 @@ pub record SameSession (e e' : Session) : Type 0 where
   pub own : SameOwn e.own e'.own
   pub failed : e'.failed ≡ e.failed
   pub cursor : e'.cursor ≡ e.cursor
+  pub too_new : e'.too_new ≡ e.too_new
 
 -- the session wrote, under x: nothing of it changes but its own ids
 pub record Done (e e' : Session) (changes : ℕ → Type 0) : Type 0 where

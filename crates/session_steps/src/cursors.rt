@@ -51,8 +51,8 @@ impl SessionEngine {
     }
 
     /// Opens a cursor over the rows that the session reads whose value in the index lies within two bounds, both included.
-    /// Refusals in order: NoSuchSession, NotOpen, Failed, CursorOpen, NoSuchIndex, BadBounds; and NoMemory, which comes only by
-    /// statement, where the snapshot that is kept lists more than 8 ids.
+    /// Refusals in order: NoSuchSession, NotOpen, Failed, CursorOpen, NoSuchIndex, IndexTooNew, BadBounds; and NoMemory, which comes
+    /// only by statement, where the snapshot that is kept lists more than 8 ids.
     pub(crate) fn open_index(
         &mut self,
         s: u8,
@@ -67,6 +67,9 @@ impl SessionEngine {
         match self.index(index) {
             Some(_) => {}
             None => return Err(Refusal::NoSuchIndex),
+        }
+        if session.is_too_new(index) {
+            return Err(Refusal::IndexTooNew);
         }
         if low > high {
             return Err(Refusal::BadBounds);

@@ -105,7 +105,7 @@ impl SessionEngine {
     }
 
     /// The index of this number, if there is one: index 0 is the primary index, by key, and index `c + 1` is that of
-    /// column `c`, where the settings ask for it.
+    /// column `c`, where the settings ask for it or since it was made.
     pub fn index(&self, number: u8) -> Option<&RootIndex>
         ensures { option_copied result ≡ engine_index self.now number }
     {
@@ -189,6 +189,7 @@ impl SessionEngine {
             own: OwnIds::new(self.alloc),
             failed: false,
             cursor: None,
+            too_new: [false; 4],
         });
     }
 

@@ -3,8 +3,8 @@
 
 ghost use Rattle.session_steps.specs.Laws.{ViewsByIndex, HorizonIsEarliest};
 
-/// Whatever world the engine agrees with, each open session finds its view through each index in use, as it is and as it was
-/// at each savepoint, and one that would begin now finds what is committed.
+/// Whatever world the engine agrees with, each open session finds its view through each index in use that it may scan, as it is and
+/// as it was at each savepoint. One that would begin now finds what is committed, by each.
 pub fn views_by_index()
     ensures { ViewsByIndex }
 {}

@@ -21,6 +21,7 @@ mod engine;
 mod get;
 mod insert;
 pub mod laws;
+mod making;
 mod next;
 mod outcome;
 mod pruning;

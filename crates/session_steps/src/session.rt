@@ -54,13 +54,15 @@ impl SessionIsolation {
     }
 }
 
-/// An open session: what it sees of others, its own ids, whether it can only be rolled back, and its cursor if it has one.
+/// An open session: what it sees of others, its own ids, whether it can only be rolled back, its cursor if it has one, and by the column
+/// which indexes are too new for it: they were made while it was open by snapshot, and may lack rows that it reads.
 #[derive(Drop)]
 pub struct Session {
     pub(crate) isolation: SessionIsolation,
     pub(crate) own: OwnIds,
     pub(crate) failed: bool,
     pub(crate) cursor: Option<Scan>,
+    pub(crate) too_new: [bool; 4],
 }
 
 impl SessionEngine {

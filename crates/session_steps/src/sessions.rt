@@ -1,10 +1,12 @@
 //! The places of the sessions.
 
-ghost use Rattle.std.specs.Prelude.{◌≡◌, ◌≢◌, ◌<◌, length, replicate, None, Some, IfOk, slice_get};
+ghost use Rattle.std.specs.Prelude.{◌≡◌, ◌≢◌, ◌<◌, suc, length, replicate, None, Some, IfOk, slice_get};
 ghost use Rattle.std.specs.Borrow.{sem};
 ghost use Rattle.session_steps.specs.Keeps.{open_at};
+ghost use Rattle.session_steps.specs.Making.{MarksAll};
 ghost use Rattle.session_steps.specs.Sessions.{LendsPlace, LendsOpen, HoldsOpen};
 
+use crate::making::mark_all;
 use crate::session::Session;
 use calls::MOST_SESSIONS;
 use std::alloc::{AllocError, Global};
@@ -69,6 +71,15 @@ impl Sessions {
             Some(session) => session,
             None => unreachable!(),
         }
+    }
+
+    /// Notes of each open session that the index by the column is made now: by snapshot it may not scan it.
+    pub(crate) fn mark(&mut self, column: u8)
+        requires { column < 4 }
+        ensures { MarksAll (suc column) self.old self.new }
+    {
+        let count = self.places.len();
+        mark_all(&mut self.places, count, column);
     }
 
     /// The places that were used so far. Every open session has one of them.

@@ -2,7 +2,7 @@
 
 ghost use Rattle.std.specs.Prelude.{◌≡◌, MatchResult, Some, true, false};
 ghost use Rattle.history.specs.World.{World, OpenSession, view, world_sessions};
-ghost use Rattle.calls.specs.Steps.{is_vacuum_step};
+ghost use Rattle.session_steps.specs.State.{is_answered_above};
 ghost use Rattle.calls.specs.Bars.{BarsOpen};
 ghost use Rattle.session_steps.specs.Agrees.{Agrees};
 ghost use Rattle.session_steps.specs.Exact.{AnswersStep};
@@ -15,14 +15,14 @@ use calls::{Refusal, Reply, Row, Step};
 impl SessionEngine {
     /// Does one step, and puts its reply in the place of an earlier one: whatever world of the history the engine agrees with, the
     /// history allows the reply, and the engine agrees with the next world. A step that is refused names the first reason that
-    /// holds, in the order of the table in docs/rules.md, or NoMemory, as is said below that table. A vacuum's step, which is
-    /// done above the sessions, changes nothing, and leaves the earlier reply. A reply has room for a row, over a kilobyte; who
+    /// holds, in the order of the table in docs/rules.md, or NoMemory, as is said below that table. A vacuum's step and
+    /// the making of an index, which are done above the sessions, change nothing, and leave the earlier reply. A reply has room for a row, over a kilobyte; who
     /// does many steps needs one alone. The earlier one is dropped only when the new one is there, so the rows of two answers of
     /// a cursor may be in memory at once.
     pub fn step_into(&mut self, step: Step, reply: &mut Reply)
-        ensures answers { is_vacuum_step step ≡ false
+        ensures answers { is_answered_above step ≡ false
             → AnswersStep self.old step reply.new self.new }
-        ensures stays { is_vacuum_step step ≡ true
+        ensures stays { is_answered_above step ≡ true
             → (reply.new ≡ reply.old) × (self.new ≡ self.old) }
     {
         step.fact_bounds();
@@ -43,7 +43,9 @@ impl SessionEngine {
             Step::Commit(s) => self.commit(s),
             Step::Abort(s) => self.abort(s),
             Step::Prune(page) => self.prune(page),
-            Step::VacuumBegin(_) | Step::VacuumStep | Step::VacuumCancel => return,
+            Step::VacuumBegin(_) | Step::VacuumStep | Step::VacuumCancel | Step::CreateIndex(_) => {
+                return;
+            }
         };
         put_reply(answer, reply)
     }

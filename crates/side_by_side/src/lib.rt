@@ -11,6 +11,7 @@ mod cursors;
 mod cuts;
 mod levels;
 mod look;
+mod making;
 mod pair;
 mod plain_side;
 mod vacuum;

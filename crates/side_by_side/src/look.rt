@@ -92,15 +92,52 @@ fn leads_to_root(page: &Page, entry: Entry, index: u8) -> bool {
     }
 }
 
-// Whether each entry of the index of this number leads to the root of a chain of its row, or to a dead slot.
-fn leads_to_roots(engine: &Engine, index: &RootIndex, number: u8) -> bool {
+// Whether a version of the entry's row stands in the chain from this slot on.
+fn has_row_in_chain(page: &Page, slot: u16, entry: Entry, index: u8) -> bool {
+    let mut at = slot;
+    for _ in 0..page.slots() {
+        let Some(header) = page.header(at) else {
+            return false;
+        };
+        if has_row(page, at, entry, index, header.is_heap_only()) {
+            return true;
+        }
+        if !header.is_hot_updated() {
+            return false;
+        }
+        at = header.ctid.slot;
+    }
+    false
+}
+
+// Whether the entry of an index that was made in use leads to a chain that has a version of its row, or to a dead slot. Older versions
+// of that chain may have other values.
+fn leads_to_chain(page: &Page, entry: Entry, index: u8) -> bool {
+    let slot = entry.tid.slot;
+    match page.redirect(slot) {
+        Some(target) => has_row_in_chain(page, target, entry, index),
+        None => page.is_dead(slot) || has_row_in_chain(page, slot, entry, index),
+    }
+}
+
+fn leads_right(page: &Page, entry: Entry, index: u8, is_made: bool) -> bool {
+    if is_made {
+        leads_to_chain(page, entry, index)
+    } else {
+        leads_to_root(page, entry, index)
+    }
+}
+
+// Whether each entry of the index of this number leads to the root of a chain of its row, or to a dead slot. Of an index that was made in
+// use the chain may have versions of other rows before.
+fn leads_to_roots(engine: &Engine, index: &RootIndex, number: u8, is_made: bool) -> bool {
     let mut from = None;
     for _ in 0..index.len() {
         let Some(entry) = index.next_after(from) else {
             return false;
         };
         match engine.page(entry.tid.page) {
-            Some(page) if leads_to_root(page, entry, number) => from = Some(entry),
+            Some(page) if leads_right(page, entry, number, is_made) => from = Some(entry),
             _ => return false,
         }
     }
@@ -143,9 +180,9 @@ impl SlotCounts {
         }
     }
 
-    // Whether there may be so many entries in an index.
-    fn allows(self, entries: u64) -> bool {
-        self.roots <= entries && entries <= self.roots.saturating_add(self.dead)
+    // Whether there may be so many entries in an index. One that was made in use need not lead to a row that was deleted before.
+    fn allows(self, entries: u64, is_made: bool) -> bool {
+        (is_made || self.roots <= entries) && entries <= self.roots.saturating_add(self.dead)
     }
 }
 
@@ -164,13 +201,22 @@ pub(crate) fn count_slots(engine: &Engine, pages: u32) -> SlotCounts {
     counts
 }
 
-/// The first index that has an entry that leads to no root of its row, or lacks one, if there is such an index.
-pub(crate) fn first_astray(engine: &Engine, counts: SlotCounts) -> Option<u8> {
+// Whether as many entries lead where they have to as there may be in the index.
+fn is_right(engine: &Engine, counts: SlotCounts, number: u8, is_made: bool) -> bool {
+    match engine.index(number) {
+        Some(index) => {
+            counts.allows(index.len(), is_made) && leads_to_roots(engine, index, number, is_made)
+        }
+        None => true,
+    }
+}
+
+/// The first index that has an entry that leads to no root of its row, or lacks one, if there is such an index. Of each number is said
+/// whether that index was made in use.
+pub(crate) fn first_astray(engine: &Engine, counts: SlotCounts, made: [bool; 5]) -> Option<u8> {
     for number in 0..5u8 {
-        if let Some(index) = engine.index(number) {
-            if !counts.allows(index.len()) || !leads_to_roots(engine, index, number) {
-                return Some(number);
-            }
+        if !is_right(engine, counts, number, made[number as usize]) {
+            return Some(number);
         }
     }
     None

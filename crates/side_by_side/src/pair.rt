@@ -11,6 +11,7 @@ use crate::cursors::{Cursor, hand_out};
 use crate::cuts::{Chains, chains_of, count_cuts};
 use crate::levels::{Levels, horizon_of, session_of_levels, xmin_of};
 use crate::look::{are_all_visible, count_slots, first_astray, first_misnoted};
+use crate::making::{hindrance, is_exact};
 use crate::plain_side::{all_rows, answer, answer_without_writing, refused_or};
 use crate::vacuum::{RunningVacuum, expected_of_vacuum};
 use crate::written::{is_too_large, row_to_write, size_on_page, writer_of};
@@ -33,6 +34,8 @@ pub enum Difference {
     Noted(u32),
     /// The entries of this index, and the roots that they have to lead to.
     Entries(u8),
+    /// The index of this number that was just made, and the rows that have committed.
+    Made(u8),
     /// What a vacuum that nobody disturbed left, and the rows.
     NotBare,
     /// No view of a session was compared.
@@ -83,6 +86,9 @@ pub struct Pair {
     vacuum: Option<RunningVacuum>,
     // How many versions prunings took before they were dead.
     cuts: u64,
+    // Which indexes were made in use, by their numbers, and how many.
+    made: [bool; 5],
+    makings: u64,
 }
 
 // What was so before a step.
@@ -91,6 +97,7 @@ struct Before {
     ids: (Xid, Xid),
     needs_freeze: bool,
     has_page: bool,
+    has_index: bool,
 }
 
 // Whether from first to next is as far as ids may go.
@@ -202,6 +209,8 @@ impl Pair {
             cursors,
             vacuum: None,
             cuts: 0,
+            made: [false; 5],
+            makings: 0,
         })
     }
 
@@ -251,6 +260,11 @@ impl Pair {
     /// chain before one that is dead.
     pub fn cuts(&self) -> u64 {
         self.cuts
+    }
+
+    /// How many indexes were made in use so far.
+    pub fn makings(&self) -> u64 {
+        self.makings
     }
 
     /// Whether a vacuum runs.
@@ -312,6 +326,10 @@ impl Pair {
             needs_freeze: self.needs_freeze(step),
             has_page: match step {
                 Step::Prune(page) => self.engine.page(*page).is_some(),
+                _ => false,
+            },
+            has_index: match step {
+                Step::CreateIndex(column) => self.engine.index(column.saturating_add(1)).is_some(),
                 _ => false,
             },
         }
@@ -384,6 +402,26 @@ impl Pair {
         }
     }
 
+    // Whether an open session has an id.
+    fn has_writer(&self) -> bool {
+        for levels in &self.levels {
+            if levels.has_id() {
+                return true;
+            }
+        }
+        false
+    }
+
+    // What the engine has to reply to the making of an index.
+    fn expected_of_making(&mut self, column: u8, step: &Step, before: Before) -> Option<Reply> {
+        if column < 4 && !before.has_index {
+            if let Some(refused) = hindrance(self.vacuum.is_some(), self.has_writer()) {
+                return Some(refused);
+            }
+        }
+        answer(&mut self.plain, step)
+    }
+
     // What the engine has to reply, where it has replied this.
     fn expect(
         &mut self,
@@ -407,6 +445,7 @@ impl Pair {
                 expected_of_vacuum(self.vacuum, before.ids.1, step, reply)
             }
             Step::Next(s, _) => self.expected_of_next(alloc, *s, step, reply),
+            Step::CreateIndex(column) => self.expected_of_making(*column, step, before),
             _ => answer(&mut self.plain, step),
         }
     }
@@ -482,6 +521,51 @@ impl Pair {
         }
     }
 
+    // A session that is not open, if there is one.
+    fn idle_session(&self) -> Option<u8> {
+        for s in 0..64u8 {
+            if !self.is_open(s) {
+                return Some(s);
+            }
+        }
+        None
+    }
+
+    // Compares an index that was just made with what a session reads that begins now.
+    fn compare_made(&mut self, number: u8) -> Result<(), Difference> {
+        let (Some(s), Some(index)) = (self.idle_session(), self.engine.index(number)) else {
+            return Err(Difference::Made(number));
+        };
+        let _ = self.plain.begin(s);
+        let exact = is_exact(&mut self.plain, s, index, number, self.keys);
+        let _ = self.plain.abort(s);
+        if exact {
+            Ok(())
+        } else {
+            Err(Difference::Made(number))
+        }
+    }
+
+    // Notes an index that was made, if the step made one.
+    fn note_making(
+        &mut self,
+        step: &Step,
+        before: Before,
+        reply: &Reply,
+    ) -> Result<(), Difference> {
+        match (step, reply) {
+            (Step::CreateIndex(column), Reply::Done) if *column < 4 && !before.has_index => {
+                let number = column.saturating_add(1);
+                if let Some(made) = self.made.get_mut(number as usize) {
+                    *made = true;
+                }
+                self.makings = self.makings.saturating_add(1);
+                self.compare_made(number)
+            }
+            _ => Ok(()),
+        }
+    }
+
     /// Does the step on both sides, and gives the reply, where it is as it has to be. The engine gets a copy.
     pub fn step(&mut self, alloc: Global, step: &Step) -> Result<Reply, Difference> {
         let before = self.before(step);
@@ -509,6 +593,7 @@ impl Pair {
         self.note_cursor(alloc, step, &reply);
         self.note_snapshot(step, &reply);
         self.note_vacuum(step, &reply);
+        self.note_making(step, before, &reply)?;
         if let Step::VacuumStep = step {
             self.look()?;
         }
@@ -521,7 +606,7 @@ impl Pair {
         if let Some(number) = first_misnoted(&self.engine, pages) {
             return Err(Difference::Noted(number));
         }
-        match first_astray(&self.engine, count_slots(&self.engine, pages)) {
+        match first_astray(&self.engine, count_slots(&self.engine, pages), self.made) {
             Some(number) => Err(Difference::Entries(number)),
             None => Ok(()),
         }

@@ -3,7 +3,8 @@
 ghost use Rattle.std.specs.Prelude.{◌≡◌, ◌≢◌, Some, None};
 
 use crate::written::table_row;
-use plain_history::{Handed, Outcome, PlainHistory, Refused};
+use plain_cursor::Handed;
+use plain_history::{Outcome, PlainHistory, Refused};
 use session_core::{Refusal, Reply, Row, Step};
 use std::alloc::Global;
 
@@ -103,6 +104,7 @@ pub(crate) fn answer(plain: &mut PlainHistory, step: &Step) -> Option<Reply> {
         Step::OpenHeap(s) => reply_done(plain.open_heap(*s)),
         Step::Next(s, count) => reply_rows(plain.next(*s, *count)),
         Step::Close(s) => reply_done(plain.close(*s)),
+        Step::CreateIndex(column) => reply_done(plain.make_index(*column)),
         Step::Prune(_) | Step::VacuumBegin(_) | Step::VacuumStep | Step::VacuumCancel => None,
     }
 }

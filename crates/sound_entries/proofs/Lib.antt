@@ -4,3 +4,4 @@ pub mod Changes
 pub mod Finishing
 pub mod OnHeap
 pub mod Tables
+pub mod Since

@@ -1,15 +1,17 @@
 -- The laws of sound entries.
-use Rattle.std.specs.Prelude.{◌≡◌, ◌↔◌, ◌≤◌, ℕ, ℤ, List, [], Bool, true, false, Option, Some, None, Contains, MatchOption}
+use Rattle.std.specs.Prelude.{◌≡◌, ◌≢◌, ◌↔◌, ◌≤◌, ℕ, ℤ, List, [], Bool, true, false, Option, Some, None, Contains, MatchOption}
 use Rattle.xid_circle.specs.declared.Tid.{Tid}
 use Rattle.tuple_header.specs.Version.{Version}
 use Rattle.tuple_header.specs.declared.version.Row.{Row}
 use Rattle.page_slots.specs.declared.slot.Slot.{Slot}
 use Rattle.page_slots.specs.declared.slot.Slot.TheVariants.{Dead}
 use Rattle.page_slots.specs.Slots.{free_number}
-use Rattle.commit_status.specs.declared.status.Status.TheVariants.{Committed, Aborted}
-use Rattle.commit_status.specs.Window.{Window, IsWindow, IsActive, IsAborted, IsUpToNext, turns}
+use Rattle.commit_status.specs.declared.status.Status.{Status}
+use Rattle.commit_status.specs.declared.status.Status.TheVariants.{InProgress, Committed, Aborted}
+use Rattle.commit_status.specs.Window.{Window, IsWindow, IsActive, IsAborted, IsUpToNext, next_id, turns}
 use Rattle.commit_status.specs.Changes.{Gives, Finishes}
-use Rattle.snapshot.specs.Snap.{Snap}
+use Rattle.snapshot.specs.Snap.{Snap, taken, empty_at}
+use Rattle.snapshot.specs.Laws.{AreOpen, IsInWindow}
 use Rattle.visibility.specs.Visible.{IsVisible, IsOtherWriterIn, IsNewerCommitIn}
 use Rattle.visibility.specs.Seeing.{Touches}
 use Rattle.hot_chain.specs.Chain.{is_root_in}
@@ -23,6 +25,7 @@ use Rattle.index_lookup.specs.Pages.{slots_on, slot_in, version_in, Puts, entry_
 use Rattle.index_lookup.specs.Looking.{FirstFound, FirstPlace, SomeOf}
 use Rattle.sound_entries.specs.Entries.{SomeEntry, IsExcused, SoundEntries, EntriesAreSound, StaysSound, KeepsTargets}
 use Rattle.sound_entries.specs.Leading.{IsUndone, SeesNoExcused, HasOneEntry, IsOnHeap, IsByIndex, SomeOnHeap}
+use Rattle.sound_entries.specs.Since.{IsExactSince, MayScanSince}
 use Rattle.tuple_header.specs.declared.version.TheConstants.{MOST_SLOTS}
 
 -- What is found.
@@ -82,6 +85,27 @@ NewerCommitIsOnHeap = (value_of : Row → ℤ) (w : Window) (horizon : ℕ) (pag
 abbrev pub OtherWriterIsOnHeap : Type 0
 OtherWriterIsOnHeap = (value_of : Row → ℤ) (w : Window) (horizon : ℕ) (pages : List (List Slot)) (entries : List Entry) (own : List ℕ) (x : ℕ) → EntriesAreSound value_of None w horizon pages entries
     → (value : ℤ) (key : ℕ) → SomeOf w (IsOtherWriterIn w own x) pages entries value key ↔ SomeOnHeap value_of pages value key (IsOtherWriterIn w own x)
+
+-- An index that is exact from an id on.
+
+-- who may scan it sees no version that it leaves out
+abbrev pub WhoMayScanSeesNoExcused : Type 0
+WhoMayScanSeesNoExcused = (w : Window) (since : Option ℕ) (s : Snap) (own : List ℕ) → IsWindow w → IsInWindow w s → IsExactSince w since → MayScanSince w since s
+    → ((x : ℕ) → Contains own x → IsActive w x) → SeesNoExcused w since s own
+
+-- a snapshot that is taken now may scan it, be it one of who is open or of nobody
+abbrev pub WhoBeginsMayScan : Type 0
+WhoBeginsMayScan = (w : Window) (since : Option ℕ) (owns : List (List ℕ)) → IsWindow w → AreOpen w owns → IsExactSince w since
+    → MayScanSince w since (taken (next_id w) owns) × MayScanSince w since (empty_at (next_id w))
+
+-- it stays so when an id is given,
+abbrev pub GivingKeepsSince : Type 0
+GivingKeepsSince = (w v : Window) (parent : Option ℕ) (since : Option ℕ) → IsWindow w → IsWindow v → Gives w v parent → IsExactSince w since → IsExactSince v since
+
+-- and when ids end
+abbrev pub FinishingKeepsSince : Type 0
+FinishingKeepsSince = (w v : Window) (ids : List ℕ) (status : Status) (since : Option ℕ) → status ≢ InProgress → Finishes w v ids status
+    → IsExactSince w since → IsExactSince v since
 
 -- What steps keep.
 

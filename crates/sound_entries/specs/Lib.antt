@@ -1,3 +1,4 @@
 pub mod Entries
 pub mod Leading
+pub mod Since
 pub mod Laws

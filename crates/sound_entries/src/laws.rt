@@ -1,6 +1,6 @@
 //! The laws of sound entries. Each function does nothing: its contract is the law.
 
-ghost use Rattle.sound_entries.specs.Laws.{LedByEntry, EachRootHasEntry, FoundByIndex, TouchedByIndex, FoundIsOnHeap, TheRowIsFound, PlaceIsOnHeap, NewerCommitIsOnHeap, OtherWriterIsOnHeap, NoEntriesAreSound, AddingKeepsEntries, TakingKeepsEntries, UpdatingKeepsEntries, PruningKeepsEntries, PagesGrowSound, EntriesGoSound, GivingKeepsEntries, CommittingKeepsEntries, AbortingKeepsEntries, LaterHorizonKeepsEntries, LedByTwoSteps};
+ghost use Rattle.sound_entries.specs.Laws.{LedByEntry, EachRootHasEntry, FoundByIndex, TouchedByIndex, FoundIsOnHeap, TheRowIsFound, PlaceIsOnHeap, NewerCommitIsOnHeap, OtherWriterIsOnHeap, WhoMayScanSeesNoExcused, WhoBeginsMayScan, GivingKeepsSince, FinishingKeepsSince, NoEntriesAreSound, AddingKeepsEntries, TakingKeepsEntries, UpdatingKeepsEntries, PruningKeepsEntries, PagesGrowSound, EntriesGoSound, GivingKeepsEntries, CommittingKeepsEntries, AbortingKeepsEntries, LaterHorizonKeepsEntries, LedByTwoSteps};
 
 /// A version that is neither undone nor excused is in the chain of exactly one entry, which has its value and its key.
 pub fn led_by_entry()
@@ -45,6 +45,26 @@ pub fn newer_commit_is_on_heap()
 /// Where the index always was exact, the other writers that a check for a write names are those of versions on the heap.
 pub fn other_writer_is_on_heap()
     ensures { OtherWriterIsOnHeap }
+{}
+
+/// Whoever's snapshot's xmin is not before the id from which on an index is exact sees no version that the index leaves out.
+pub fn who_may_scan_sees_no_excused()
+    ensures { WhoMayScanSeesNoExcused }
+{}
+
+/// Of an index that is exact from an id on, whoever takes a snapshot now may scan it.
+pub fn who_begins_may_scan()
+    ensures { WhoBeginsMayScan }
+{}
+
+/// No id in progress is before that from which on an index is exact, when one more is given.
+pub fn giving_keeps_since()
+    ensures { GivingKeepsSince }
+{}
+
+/// Nor is one when ids end.
+pub fn finishing_keeps_since()
+    ensures { FinishingKeepsSince }
 {}
 
 /// A table without pages is sound, with an index without entries.

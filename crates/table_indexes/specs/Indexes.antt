@@ -5,6 +5,7 @@ use Rattle.xid_circle.specs.Numbers.{IndexNo, Count}
 use Rattle.xid_circle.specs.declared.Tid.{Tid}
 use Rattle.xid_circle.specs.declared.Xid.{Xid}
 use Rattle.tuple_header.specs.declared.version.Row.{Row}
+use Rattle.snapshot.specs.Snap.{is_before}
 use Rattle.index_nodes.specs.declared.entry.Entry.{Entry}
 use Rattle.index_nodes.specs.Sets.{AddsEntry}
 use Rattle.root_index.specs.View.{IndexView, room_in}
@@ -25,6 +26,11 @@ index_at indexes n = slice_index_or indexes.indexes n None
 -- such an index indcheckxmin.) The index by key has none.
 abbrev pub since_at : IndexesView → ℕ → Option ℕ
 since_at indexes n = option_map (λ (x : Xid). x.0) (slice_index_or (None ∷ indexes.since) n None)
+
+-- from which id on an index is exact when the ids before c are forgotten: from c, if it was from an earlier one
+abbrev pub since_after : ℕ → Option ℕ → Option ℕ
+since_after c None = None
+since_after c (Some id) = Some (if is_before id c then c else id)
 
 abbrev pub entries_of : Option IndexView → Option (List Entry)
 entries_of o = option_map (λ (index : IndexView). index.entries) o

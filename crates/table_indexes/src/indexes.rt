@@ -1,20 +1,21 @@
 //! The indexes of a table: one by key, and one by each column for which it has one.
 
-ghost use Rattle.std.specs.Prelude.{◌≡◌, ℕ, ◌↔◌, ◌<◌, [], Some, None, IsFalse, IsTrue, OnOk, OnErr, if◌then◌else◌, option_copied, FitsSigned, ◌≢◌, ◌^◌, length, MatchOption, IsSome};
+ghost use Rattle.std.specs.Prelude.{◌≡◌, ℕ, suc, ◌↔◌, ◌<◌, [], Some, None, IsFalse, IsTrue, OnOk, OnErr, if◌then◌else◌, option_copied, FitsSigned, ◌≢◌, ◌^◌, length, MatchOption, IsSome};
 ghost use Rattle.std.specs.Int.{w128};
-ghost use Rattle.std.specs.Option.{unwrap_or};
+ghost use Rattle.std.specs.Option.{option_map, unwrap_or};
 ghost use Rattle.root_index.specs.Pieces.{RemovesPiece};
 ghost use Rattle.index_nodes.specs.Sets.{AddsEntry};
 ghost use Rattle.root_index.specs.View.{room_in};
 ghost use Rattle.tuple_header.specs.IndexValue.{value_in};
-ghost use Rattle.table_indexes.specs.Indexes.{IsInUse, HasIndexes, IsNextIndex, all_entries, index_at, since_at, entries_of, entries_at, entries_in, new_entries, without_body, SameValues, SameEntries, AddsAny, Enters, HasEntry, HasEntries, LacksEntry, NeedsEntry};
+ghost use Rattle.xid_circle.specs.declared.Xid.{Xid as Id};
+ghost use Rattle.table_indexes.specs.Indexes.{IsInUse, HasIndexes, IsNextIndex, all_entries, index_at, since_at, since_after, entries_of, entries_at, entries_in, new_entries, without_body, SameValues, SameEntries, AddsAny, Enters, HasEntry, HasEntries, LacksEntry, NeedsEntry};
 
 use dead_places::DeadSet;
 use root_index::{Entry, PositionHint, Progress, RootIndex};
 use std::alloc::{AllocError, Global};
 use std::marker::Model;
 use tuple_header::{Row, RowRef};
-use xid_circle::{Tid, Xid};
+use xid_circle::{Tid, Xid, precedes};
 
 /// How many columns may have an index.
 const COLUMNS: usize = 4;
@@ -135,6 +136,29 @@ impl Indexes {
         }
     }
 
+    /// Puts this index in place by the column, from 0 to 3, exact from this id on. One that was there goes. It takes no memory.
+    pub fn put(&mut self, column: u8, index: RootIndex, since: Xid)
+        requires { column < 4 }
+        ensures entries { entries_at self.new (suc column) ≡ Some index.entries }
+        ensures since { since_at self.new (suc column) ≡ Some since.0 }
+        ensures others { (n : ℕ) → n ≢ suc column → entries_at self.new n ≡ entries_at self.old n }
+        ensures others_since { (n : ℕ) → n ≢ suc column
+            → since_at self.new n ≡ since_at self.old n }
+    {
+        self.by_column[column as usize] = Some(index);
+        self.since[column as usize] = Some(since);
+    }
+
+    /// Forgets the ids before this one: an index that was exact from an earlier id on is exact from this one on.
+    pub fn forget(&mut self, x: Xid)
+        ensures entries { (n : ℕ) → entries_at self.new n ≡ entries_at self.old n }
+        ensures since { (n : ℕ) → since_at self.new n ≡ since_after x.0 (since_at self.old n) }
+    {
+        for c in 0..COLUMNS {
+            self.since[c] = since_after(x, self.since[c]);
+        }
+    }
+
     /// Whether two rows have the same value in each index in use.
     pub fn same_values(&self, old: &RowRef<'_>, new: &Row) -> bool
         ensures { IsTrue result ↔ SameValues self.now old.now new.now }
@@ -191,6 +215,17 @@ impl Indexes {
             let value = value_in(c + 1, key, cols);
             enter_in(&mut self.by_column[c], value, key, place);
         }
+    }
+}
+
+/// From which id on an index is exact when the ids before `x` are forgotten.
+fn since_after(x: Xid, since: Option<Xid>) -> Option<Xid>
+    ensures { option_map (λ (id : Id). id.0) result
+        ≡ since_after x.0 (option_map (λ (id : Id). id.0) since) }
+{
+    match since {
+        Some(id) if precedes(id, x) => Some(x),
+        _ => since,
     }
 }
 

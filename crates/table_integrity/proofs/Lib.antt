@@ -8,3 +8,6 @@ pub mod Finding
 pub mod Sights
 pub mod Found
 pub mod OneRow
+pub mod OneCurrent
+pub mod Making
+pub mod Forgetting

@@ -1,6 +1,8 @@
 //! What each step keeps of a table. Each function does nothing: its contract is the law.
 
 ghost use Rattle.table_integrity.specs.Laws.{InsertingKeepsTable, UpdatingKeepsTable, DeletingKeepsTable, FailingUpdateKeepsTable, PruningKeepsTable, KeepingKeepsTable, CommittingKeepsTable, AbortingKeepsTable, LaterHorizonKeepsTable, EmptyTableIsSound};
+ghost use Rattle.table_integrity.specs.Making.{MakingLeavesTableSound, MakingKeepsTargets, MakingKeepsSince};
+ghost use Rattle.table_integrity.specs.Forgetting.{ForgettingKeepsTable, ForgettingKeepsSince, ForgettingKeepsScan};
 
 /// A table stays sound when a row is inserted.
 pub fn inserting_keeps_table()
@@ -51,4 +53,35 @@ pub fn later_horizon_keeps_table()
 /// A table without pages is sound.
 pub fn empty_table_is_sound()
     ensures { EmptyTableIsSound }
+{}
+
+/// A table stays sound when an index is made while nobody is open.
+pub fn making_leaves_table_sound()
+    ensures { MakingLeavesTableSound }
+{}
+
+/// What an entry leads to stays when an index is made.
+pub fn making_keeps_targets()
+    ensures { MakingKeepsTargets }
+{}
+
+/// When an index is made while nobody is open, each id from which on an index is exact is remembered or next, and no id in progress is
+/// before it.
+pub fn making_keeps_since()
+    ensures { MakingKeepsSince }
+{}
+
+/// A table whose versions need no forgotten id stays sound when old ids are forgotten.
+pub fn forgetting_keeps_table()
+    ensures { ForgettingKeepsTable }
+{}
+
+/// When old ids are forgotten, the id from which on an index is exact becomes the cutoff, or stays remembered or next.
+pub fn forgetting_keeps_since()
+    ensures { ForgettingKeepsSince }
+{}
+
+/// When old ids are forgotten, whoever might scan an index still may.
+pub fn forgetting_keeps_scan()
+    ensures { ForgettingKeepsScan }
 {}

@@ -195,6 +195,11 @@ pub fn forget(heap: &mut HeapState, x: u32) {
     }
 }
 
+/// Whether the index by this column, if there is one of its number, is made.
+pub fn make_index(heap: &mut HeapState, column: u8) -> bool {
+    column < 4 && heap.make_index(column).is_ok()
+}
+
 pub fn release(own: &mut OwnIds) {
     if own.savepoints() > 0 {
         own.release();

@@ -16,6 +16,8 @@ mod full_pages;
 #[cfg(test)]
 mod levels;
 #[cfg(test)]
+mod making;
+#[cfg(test)]
 mod places;
 #[cfg(test)]
 mod steps;

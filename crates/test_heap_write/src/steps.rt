@@ -2,8 +2,8 @@
 
 use crate::calls::{
     Met, Part, Parts, Place, Values, check_write, count, delete, empty, entry_after, finish, first,
-    forget, free, freeze, from_key, insert, marks_at, note, page_at, prune, release, row_at,
-    snapshot_at, sweeps, update, walks,
+    forget, free, freeze, from_key, insert, make_index, marks_at, note, page_at, prune, release,
+    row_at, snapshot_at, sweeps, update, walks,
 };
 use commit_status::Status;
 use heap_write::{Answer, HeapState, PruneFault};
@@ -73,6 +73,8 @@ pub enum HeapStep {
     Free(Place),
     /// The ids before this one are forgotten.
     Forget(u32),
+    /// The index by a column is made.
+    MakeIndex(u8),
     /// The index in use after this one.
     NextIndex(u8, Option<u8>),
     /// How many entries all indexes have.
@@ -161,6 +163,7 @@ impl HeapStep {
             HeapStep::Free(place) => free(heap, place),
             HeapStep::Forget(x) => forget(heap, x),
             HeapStep::Sweep(place) => return sweeps(heap, place),
+            HeapStep::MakeIndex(column) => return make_index(heap, column),
             _ => return self.is_read(alloc, heap, own),
         }
         true

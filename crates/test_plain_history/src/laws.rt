@@ -1,8 +1,9 @@
 //! The laws of the history can be called.
 
 use history::laws::{
-    first_committer_wins, held_keys_are_in_time, history_only_grows, keys_are_held_once,
-    no_write_by_statement_is_late, views_stay,
+    first_committer_wins, held_keys_are_in_time, history_only_grows, indexes_stay,
+    keys_are_held_once, no_index_is_too_new_by_statement, no_write_by_statement_is_late,
+    views_stay,
 };
 
 #[test]
@@ -13,4 +14,6 @@ fn laws_of_every_run() {
     history_only_grows();
     views_stay();
     no_write_by_statement_is_late();
+    indexes_stay();
+    no_index_is_too_new_by_statement();
 }

@@ -8,6 +8,8 @@ mod cursors;
 #[cfg(test)]
 mod laws;
 #[cfg(test)]
+mod making;
+#[cfg(test)]
 mod savepoints;
 #[cfg(test)]
 mod stories;

@@ -2,7 +2,8 @@
 
 use arrayvec::ArrayVec;
 use calls::Refusal;
-use plain_history::{Handed, Outcome, PlainHistory, Refused};
+use plain_cursor::Handed;
+use plain_history::{Outcome, PlainHistory, Refused};
 use std::alloc::Global;
 use std::test::Fail;
 use tuple_header::Row;
@@ -30,6 +31,8 @@ pub enum Call {
     OpenKeys(u8, i128, i128),
     Next(u8, u16),
     Close(u8),
+    /// Of a column, and by no session.
+    MakeIndex(u8),
 }
 
 /// Its answer. Rows that are handed out, at most three, are said by their keys, and noughts after them.
@@ -156,6 +159,7 @@ fn answer_to(history: &mut PlainHistory, call: Call) -> Answer {
         Call::OpenKeys(s, low, high) => answer_done(history.open_keys(s, low, high)),
         Call::Next(s, n) => answer_rows(history.next(s, n)),
         Call::Close(s) => answer_done(history.close(s)),
+        Call::MakeIndex(column) => answer_done(history.make_index(column)),
     }
 }
 

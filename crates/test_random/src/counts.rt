@@ -9,7 +9,7 @@ use std::io;
 use tuple_header::Tuple;
 
 /// How many kinds there are.
-pub(crate) const KINDS: usize = 42;
+pub(crate) const KINDS: usize = 46;
 
 const NAMES: [&str; KINDS] = [
     "Done",
@@ -54,6 +54,10 @@ const NAMES: [&str; KINDS] = [
     "engines whose ids begin near the turn",
     "engines whose ids passed it, after a vacuum had lifted NeedsFreeze",
     "versions that a pruning took before they were dead",
+    "IndexTooNew",
+    "IndexBusy",
+    "indexes made beside sessions by snapshot and by statement",
+    "vacuums that ended after an index was made",
 ];
 
 const NEAR: usize = 39;
@@ -62,6 +66,13 @@ const NEAR: usize = 39;
 const PASSED: usize = 40;
 
 const CUT: usize = 41;
+
+const MADE: usize = 44;
+
+const CLEANED: usize = 45;
+
+// How many indexes have to be made.
+const MANY_MADE: u64 = 3000;
 
 // How many engines have to pass the turn.
 const MANY: u64 = 1000;
@@ -78,7 +89,7 @@ pub(crate) struct Counts {
 }
 
 fn place_of_refusal(refusal: Refusal) -> Option<usize>
-    ensures { IfSome result (λ place. place < 42) }
+    ensures { IfSome result (λ place. place < 46) }
 {
     match refusal {
         Refusal::NotOpen => Some(7),
@@ -99,6 +110,8 @@ fn place_of_refusal(refusal: Refusal) -> Option<usize>
         Refusal::NoSuchIndex => Some(22),
         Refusal::NoSuchSession => Some(23),
         Refusal::BadBounds => Some(24),
+        Refusal::IndexTooNew => Some(42),
+        Refusal::IndexBusy => Some(43),
         Refusal::VacuumRunning => Some(31),
         Refusal::NoVacuum => Some(32),
         Refusal::NoMemory => None,
@@ -106,7 +119,7 @@ fn place_of_refusal(refusal: Refusal) -> Option<usize>
 }
 
 fn place_of_reply(reply: &Reply) -> Option<usize>
-    ensures { IfSome result (λ place. place < 42) }
+    ensures { IfSome result (λ place. place < 46) }
 {
     match reply {
         Reply::Done => Some(0),
@@ -125,7 +138,7 @@ fn place_of_reply(reply: &Reply) -> Option<usize>
 }
 
 fn place_of_version(version: &Tuple, page: u32) -> Option<usize>
-    ensures { IfSome result (λ place. place < 42) }
+    ensures { IfSome result (λ place. place < 46) }
 {
     if version.header.ctid.page != page {
         Some(29)
@@ -137,7 +150,7 @@ fn place_of_version(version: &Tuple, page: u32) -> Option<usize>
 }
 
 fn place_of_slot(slot: &Slot, page: u32) -> Option<usize>
-    ensures { IfSome result (λ place. place < 42) }
+    ensures { IfSome result (λ place. place < 46) }
 {
     match slot {
         Slot::Unused => Some(25),
@@ -173,7 +186,7 @@ impl Counts {
     }
 
     fn add(&mut self, place: Option<usize>)
-        requires { IfSome place (λ place. place < 42) }
+        requires { IfSome place (λ place. place < 46) }
     {
         if let Some(place) = place {
             self.counts[place] = self.counts[place].saturating_add(1);
@@ -200,6 +213,16 @@ impl Counts {
         if passed {
             self.add(Some(PASSED));
         }
+    }
+
+    /// Counts an index that was made while a session by snapshot and one by statement were open.
+    pub(crate) fn add_made(&mut self) {
+        self.add(Some(MADE));
+    }
+
+    /// Counts a vacuum that ended in an engine in which an index was made.
+    pub(crate) fn add_cleaned(&mut self) {
+        self.add(Some(CLEANED));
     }
 
     /// Counts versions that prunings took before they were dead.
@@ -236,6 +259,9 @@ impl Counts {
         }
         if self.counts[CUT] < MANY_CUTS {
             return Some(NAMES[CUT]);
+        }
+        if self.counts[MADE] < MANY_MADE {
+            return Some(NAMES[MADE]);
         }
         None
     }

@@ -196,6 +196,7 @@ fn draw_any(
         91 => draw_begin(generator, s),
         92 => draw_next(generator, s),
         93 => Step::Close(s),
+        94 => Step::CreateIndex(generator.below(5) as u8),
         _ => Step::Prune(generator.below(pages.saturating_add(1))),
     })
 }

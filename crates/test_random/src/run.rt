@@ -200,6 +200,7 @@ impl Run {
                     counts.add_reused();
                 }
             }
+            (_, Reply::Ended(_)) if self.pair.makings() > 0 => counts.add_cleaned(),
             _ => {}
         }
     }
@@ -226,6 +227,21 @@ impl Run {
         }
     }
 
+    // Makes an index while a session by snapshot and one by statement are open, and none has an id. All that were open are ended before.
+    // Both then ask for a cursor by it.
+    fn make_index(&mut self, alloc: Global, counts: &mut Counts) -> Result<(), Failure> {
+        self.end_all(alloc, counts)?;
+        self.do_step(alloc, counts, Step::Begin(0))?;
+        self.do_step(alloc, counts, Step::BeginReadCommitted(63))?;
+        let before = self.pair.makings();
+        self.do_step(alloc, counts, Step::CreateIndex(2))?;
+        if self.pair.makings() > before {
+            counts.add_made();
+        }
+        self.do_step(alloc, counts, Step::OpenIndex(0, 3, i128::MIN, i128::MAX))?;
+        self.do_step(alloc, counts, Step::OpenIndex(63, 3, i128::MIN, i128::MAX))
+    }
+
     // Does the steps that are drawn, and every 50 steps compares what all sessions read.
     fn do_drawn(
         &mut self,
@@ -240,6 +256,9 @@ impl Run {
                 return Err(self.failure(None, Difference::NoMemory));
             };
             self.do_step(alloc, counts, step)?;
+            if i == steps_of(self.number) / 2 && !is_nested(self.number) {
+                self.make_index(alloc, counts)?;
+            }
             if i % 50 == 49 {
                 self.compare(sessions_of(self.number))?;
                 self.compare(&[NESTING])?;

@@ -8,6 +8,8 @@ mod cursors;
 #[cfg(test)]
 mod leaves;
 #[cfg(test)]
+mod makings;
+#[cfg(test)]
 mod savepoints;
 #[cfg(test)]
 mod statements;

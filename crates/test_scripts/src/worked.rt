@@ -1,6 +1,7 @@
 //! The worked scripts, from their first line to their end.
 
 use crate::cursors::CURSORS;
+use crate::makings::MAKINGS;
 use crate::savepoints::SAVEPOINTS;
 use crate::statements::STATEMENTS;
 use crate::table::{CASES, Case};
@@ -111,4 +112,9 @@ fn worked_vacuums(rt: HostRuntime) -> Result<(), Fail> {
 #[test]
 fn worked_pages(rt: HostRuntime) -> Result<(), Fail> {
     run_all(rt.alloc(), &PAGES)
+}
+
+#[test]
+fn worked_makings(rt: HostRuntime) -> Result<(), Fail> {
+    run_all(rt.alloc(), &MAKINGS)
 }

@@ -11,6 +11,7 @@ use std::test::Fail;
 #[derive(Clone, Copy)]
 pub enum Ask {
     Begin(u8),
+    BeginReadCommitted(u8),
     Get(u8, u64),
     /// Inserts a row of the key with this first column, 0 in the others and no body.
     Insert(u8, u64, i64),
@@ -36,6 +37,7 @@ pub enum Ask {
     VacuumBegin(Mode),
     VacuumStep,
     VacuumCancel,
+    CreateIndex(u8),
     /// Reads the row of a key, which is no step, nor is what follows.
     Read(u8, u64),
     /// The next id to be given, and the oldest that is remembered.
@@ -117,6 +119,7 @@ fn row_of(alloc: Global, key: u64, length: usize) -> Result<RowIn, AllocError> {
 fn step_of(alloc: Global, ask: Ask) -> Result<Option<Step>, AllocError> {
     Ok(Some(match ask {
         Ask::Begin(s) => Step::Begin(s),
+        Ask::BeginReadCommitted(s) => Step::BeginReadCommitted(s),
         Ask::Get(s, key) => Step::Get(s, key),
         Ask::Insert(s, key, column) => Step::Insert(s, bare_row(alloc, key, column)),
         Ask::InsertBody(s, key, length) => Step::Insert(s, row_of(alloc, key, length)?),
@@ -136,6 +139,7 @@ fn step_of(alloc: Global, ask: Ask) -> Result<Option<Step>, AllocError> {
         Ask::VacuumBegin(mode) => Step::VacuumBegin(mode),
         Ask::VacuumStep => Step::VacuumStep,
         Ask::VacuumCancel => Step::VacuumCancel,
+        Ask::CreateIndex(column) => Step::CreateIndex(column),
         _ => return Ok(None),
     }))
 }
@@ -157,7 +161,7 @@ fn is_no_memory(reply: &Reply) -> bool {
 
 fn may_grow(ask: Ask) -> bool {
     match ask {
-        Ask::Begin(_) | Ask::Savepoint(_) | Ask::Next(_, _) => true,
+        Ask::Begin(_) | Ask::Savepoint(_) | Ask::Next(_, _) | Ask::CreateIndex(_) => true,
         Ask::Insert(_, _, _) | Ask::InsertBody(_, _, _) => true,
         Ask::Update(_, _, _) | Ask::UpdateBody(_, _, _) | Ask::Delete(_, _) => true,
         _ => false,

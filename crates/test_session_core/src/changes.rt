@@ -1,5 +1,6 @@
 //! Updates and deletes, with each answer that they may have.
 
+use crate::asks::Answer::Refused;
 use crate::asks::{Answer, Ask, ask_new};
 use session_core::{Refusal, Settings};
 use std::test::Fail;
@@ -16,52 +17,43 @@ const SETTINGS: Settings = Settings {
 
 /// A version takes 66 bytes and its body, rounded up to a multiple of 8.
 static STEPS: [(Ask, Answer); 73] = [
-    (Ask::UpdateBody(0, 1, 0), Answer::Refused(Refusal::NotOpen)),
-    (Ask::Delete(0, 1), Answer::Refused(Refusal::NotOpen)),
-    (
-        Ask::UpdateBody(64, 1, 0),
-        Answer::Refused(Refusal::NoSuchSession),
-    ),
-    (Ask::Delete(255, 1), Answer::Refused(Refusal::NoSuchSession)),
+    (Ask::UpdateBody(0, 1, 0), Refused(Refusal::NotOpen)),
+    (Ask::Delete(0, 1), Refused(Refusal::NotOpen)),
+    (Ask::UpdateBody(64, 1, 0), Refused(Refusal::NoSuchSession)),
+    (Ask::Delete(255, 1), Refused(Refusal::NoSuchSession)),
     (Ask::Begin(0), Answer::Done),
-    (Ask::UpdateBody(0, 1, 0), Answer::Refused(Refusal::NotThere)),
-    (Ask::Delete(0, 1), Answer::Refused(Refusal::NotThere)),
+    (Ask::UpdateBody(0, 1, 0), Refused(Refusal::NotThere)),
+    (Ask::Delete(0, 1), Refused(Refusal::NotThere)),
     // The body is looked at before the key.
-    (
-        Ask::UpdateBody(0, 1, 1025),
-        Answer::Refused(Refusal::TooLarge),
-    ),
+    (Ask::UpdateBody(0, 1, 1025), Refused(Refusal::TooLarge)),
     // Id 3, slots 1 to 3: 80, 88 and 96 bytes.
     (Ask::InsertBody(0, 1, 10), Answer::Done),
     (Ask::UpdateBody(0, 1, 20), Answer::Done),
     (Ask::Get(0, 1), Answer::Body(20)),
     (Ask::Delete(0, 1), Answer::Done),
     (Ask::Get(0, 1), Answer::NoRow),
-    (Ask::UpdateBody(0, 1, 0), Answer::Refused(Refusal::NotThere)),
+    (Ask::UpdateBody(0, 1, 0), Refused(Refusal::NotThere)),
     (Ask::InsertBody(0, 1, 30), Answer::Done),
     (Ask::Begin(1), Answer::Done),
     (Ask::Commit(0), Answer::Committed),
     // Session 1 reads no row of the key, which was committed since it began.
-    (Ask::UpdateBody(1, 1, 0), Answer::Refused(Refusal::NotThere)),
-    (Ask::Delete(1, 1), Answer::Refused(Refusal::NotThere)),
-    (Ask::InsertBody(1, 1, 0), Answer::Refused(Refusal::Conflict)),
-    (Ask::UpdateBody(1, 1, 0), Answer::Refused(Refusal::Failed)),
-    (Ask::Delete(1, 1), Answer::Refused(Refusal::Failed)),
+    (Ask::UpdateBody(1, 1, 0), Refused(Refusal::NotThere)),
+    (Ask::Delete(1, 1), Refused(Refusal::NotThere)),
+    (Ask::InsertBody(1, 1, 0), Refused(Refusal::Conflict)),
+    (Ask::UpdateBody(1, 1, 0), Refused(Refusal::Failed)),
+    (Ask::Delete(1, 1), Refused(Refusal::Failed)),
     (Ask::Commit(1), Answer::RolledBack),
     (Ask::Begin(0), Answer::Done),
     (Ask::Begin(1), Answer::Done),
     // Id 4, slot 4: 112 bytes.
     (Ask::UpdateBody(0, 1, 40), Answer::Done),
-    (Ask::UpdateBody(1, 1, 50), Answer::Refused(Refusal::Busy(0))),
-    (Ask::Delete(1, 1), Answer::Refused(Refusal::Busy(0))),
-    (
-        Ask::InsertBody(1, 1, 50),
-        Answer::Refused(Refusal::AlreadyThere),
-    ),
+    (Ask::UpdateBody(1, 1, 50), Refused(Refusal::Busy(0))),
+    (Ask::Delete(1, 1), Refused(Refusal::Busy(0))),
+    (Ask::InsertBody(1, 1, 50), Refused(Refusal::AlreadyThere)),
     (Ask::Get(1, 1), Answer::Body(30)),
     (Ask::Commit(0), Answer::Committed),
     (Ask::Get(1, 1), Answer::Body(30)),
-    (Ask::Delete(1, 1), Answer::Refused(Refusal::Conflict)),
+    (Ask::Delete(1, 1), Refused(Refusal::Conflict)),
     (Ask::Abort(1), Answer::RolledBack),
     // Id 5.
     (Ask::Begin(0), Answer::Done),
@@ -80,33 +72,21 @@ static STEPS: [(Ask, Answer); 73] = [
     (Ask::InsertBody(2, 5, 1024), Answer::Done),
     (Ask::InsertBody(2, 6, 1024), Answer::Done),
     (Ask::InsertBody(2, 7, 1024), Answer::Done),
-    (
-        Ask::InsertBody(2, 8, 1024),
-        Answer::Refused(Refusal::NoRoom),
-    ),
+    (Ask::InsertBody(2, 8, 1024), Refused(Refusal::NoRoom)),
     // The update prunes the page. The root in slot 1 and its chain go, and slot 3 leads to slot 5: slots 2 and 4 are unused, and
     // 376 bytes more are free. The new version takes slot 2, and 324 bytes are left.
     (Ask::UpdateBody(2, 1, 1024), Answer::Done),
     (Ask::Get(2, 1), Answer::Body(1024)),
-    (
-        Ask::UpdateBody(2, 1, 1024),
-        Answer::Refused(Refusal::NoRoom),
-    ),
+    (Ask::UpdateBody(2, 1, 1024), Refused(Refusal::NoRoom)),
     // Slot 4: 320 bytes.
     (Ask::UpdateBody(2, 1, 250), Answer::Done),
     (Ask::Get(2, 1), Answer::Body(250)),
     (Ask::Commit(2), Answer::Committed),
     // There is neither an id nor room.
     (Ask::Begin(3), Answer::Done),
-    (
-        Ask::UpdateBody(3, 1, 0),
-        Answer::Refused(Refusal::NeedsFreeze),
-    ),
-    (Ask::Delete(3, 1), Answer::Refused(Refusal::NeedsFreeze)),
-    (
-        Ask::UpdateBody(3, 99, 0),
-        Answer::Refused(Refusal::NotThere),
-    ),
+    (Ask::UpdateBody(3, 1, 0), Refused(Refusal::NeedsFreeze)),
+    (Ask::Delete(3, 1), Refused(Refusal::NeedsFreeze)),
+    (Ask::UpdateBody(3, 99, 0), Refused(Refusal::NotThere)),
     (Ask::Get(3, 1), Answer::Body(250)),
     (Ask::Abort(3), Answer::RolledBack),
     // Slots 5 and 2 become unused, and slot 3 leads to slot 4.

@@ -1,5 +1,6 @@
 //! Cursors of sessions on one table, each reply reckoned by hand.
 
+use crate::asks::Answer::Refused;
 use crate::asks::{Answer, Ask, ask_new};
 use session_core::{Refusal, Settings};
 use std::test::Fail;
@@ -39,21 +40,12 @@ static OVER_THE_HEAP: [(Ask, Answer); 16] = [
     (Ask::Next(1, 1), Answer::Rows(&[(1, 0), (2, 0), (3, 0)])),
     (Ask::Next(1, 1), Answer::End),
     (Ask::Next(1, 1), Answer::End),
-    (Ask::OpenHeap(1), Answer::Refused(Refusal::CursorOpen)),
+    (Ask::OpenHeap(1), Refused(Refusal::CursorOpen)),
     (Ask::Close(1), Answer::Done),
-    (Ask::Next(1, 1), Answer::Refused(Refusal::NoCursor)),
-    (
-        Ask::OpenIndex(1, 1, 5, 4),
-        Answer::Refused(Refusal::NoSuchIndex),
-    ),
-    (
-        Ask::OpenIndex(1, 0, 5, 4),
-        Answer::Refused(Refusal::BadBounds),
-    ),
-    (
-        Ask::OpenIndex(1, 7, 0, 0),
-        Answer::Refused(Refusal::NoSuchIndex),
-    ),
+    (Ask::Next(1, 1), Refused(Refusal::NoCursor)),
+    (Ask::OpenIndex(1, 1, 5, 4), Refused(Refusal::NoSuchIndex)),
+    (Ask::OpenIndex(1, 0, 5, 4), Refused(Refusal::BadBounds)),
+    (Ask::OpenIndex(1, 7, 0, 0), Refused(Refusal::NoSuchIndex)),
 ];
 
 #[test]
@@ -63,8 +55,8 @@ fn over_the_heap(rt: HostRuntime) -> Result<(), Fail> {
 
 // What a page has left over comes with the next call, as it was when the cursor was opened.
 static TO_PLACES: [(Ask, Answer); 29] = [
-    (Ask::Places(1, 2), Answer::Refused(Refusal::NotOpen)),
-    (Ask::Places(64, 2), Answer::Refused(Refusal::NoSuchSession)),
+    (Ask::Places(1, 2), Refused(Refusal::NotOpen)),
+    (Ask::Places(64, 2), Refused(Refusal::NoSuchSession)),
     (Ask::Begin(0), Answer::Done),
     (Ask::Insert(0, 1, 0), Answer::Done),
     (Ask::Insert(0, 2, 0), Answer::Done),
@@ -74,7 +66,7 @@ static TO_PLACES: [(Ask, Answer); 29] = [
     (Ask::Insert(0, 6, 0), Answer::Done),
     (Ask::Commit(0), Answer::Committed),
     (Ask::Begin(1), Answer::Done),
-    (Ask::Places(1, 2), Answer::Refused(Refusal::NoCursor)),
+    (Ask::Places(1, 2), Refused(Refusal::NoCursor)),
     (Ask::OpenHeap(1), Answer::Done),
     (Ask::Places(1, 2), Answer::Rows(&[(1, 0), (2, 0)])),
     (Ask::Begin(2), Answer::Done),
@@ -114,12 +106,12 @@ static IN_AN_INDEX_WHOSE_ROWS_ARE_DELETED: [(Ask, Answer); 22] = [
     (Ask::Delete(0, 3), Answer::Done),
     (Ask::Commit(0), Answer::Committed),
     (Ask::Prune(0), Answer::Done),
-    (Ask::Insert(1, 9, 0), Answer::Refused(Refusal::CursorOpen)),
+    (Ask::Insert(1, 9, 0), Refused(Refusal::CursorOpen)),
     (Ask::Next(1, 5), Answer::Rows(&[(3, 20), (1, 30)])),
     (Ask::Next(1, 5), Answer::End),
     (Ask::Commit(1), Answer::Committed),
     (Ask::Begin(1), Answer::Done),
-    (Ask::Next(1, 5), Answer::Refused(Refusal::NoCursor)),
+    (Ask::Next(1, 5), Refused(Refusal::NoCursor)),
     (Ask::OpenIndex(1, 1, 0, 100), Answer::Done),
     (Ask::Next(1, 5), Answer::End),
 ];
@@ -237,7 +229,7 @@ static OVER_THE_HEAP_ACROSS_A_COMMIT: [(Ask, Answer); 19] = [
     (Ask::Next(1, 1), Answer::Rows(&[(2, 20), (5, 50)])),
     (Ask::Next(1, 1), Answer::End),
     (Ask::Commit(1), Answer::Committed),
-    (Ask::Next(1, 1), Answer::Refused(Refusal::NotOpen)),
+    (Ask::Next(1, 1), Refused(Refusal::NotOpen)),
     (Ask::Begin(1), Answer::Done),
     (Ask::OpenHeap(1), Answer::Done),
     (Ask::Next(1, 0), Answer::Rows(&[(5, 50), (2, 21), (4, 40)])),
@@ -285,20 +277,20 @@ fn over_the_heap_page_by_page(rt: HostRuntime) -> Result<(), Fail> {
 
 static AN_END_CLOSES_THE_CURSOR: [(Ask, Answer); 15] = [
     (Ask::Begin(0), Answer::Done),
-    (Ask::Next(0, 1), Answer::Refused(Refusal::NoCursor)),
-    (Ask::Close(0), Answer::Refused(Refusal::NoCursor)),
+    (Ask::Next(0, 1), Refused(Refusal::NoCursor)),
+    (Ask::Close(0), Refused(Refusal::NoCursor)),
     (Ask::OpenHeap(0), Answer::Done),
     (Ask::Close(0), Answer::Done),
-    (Ask::Close(0), Answer::Refused(Refusal::NoCursor)),
+    (Ask::Close(0), Refused(Refusal::NoCursor)),
     (Ask::OpenHeap(0), Answer::Done),
     (Ask::Abort(0), Answer::RolledBack),
-    (Ask::Close(0), Answer::Refused(Refusal::NotOpen)),
+    (Ask::Close(0), Refused(Refusal::NotOpen)),
     (Ask::Begin(0), Answer::Done),
-    (Ask::Close(0), Answer::Refused(Refusal::NoCursor)),
+    (Ask::Close(0), Refused(Refusal::NoCursor)),
     (Ask::OpenIndex(0, 0, 0, 0), Answer::Done),
     (Ask::Commit(0), Answer::Committed),
     (Ask::Begin(0), Answer::Done),
-    (Ask::Next(0, 1), Answer::Refused(Refusal::NoCursor)),
+    (Ask::Next(0, 1), Refused(Refusal::NoCursor)),
 ];
 
 #[test]
@@ -312,16 +304,13 @@ static A_CURSOR_BARS_WRITES_AND_SAVEPOINTS: [(Ask, Answer); 18] = [
     (Ask::Savepoint(0), Answer::Done),
     (Ask::Insert(0, 7, 1), Answer::Done),
     (Ask::OpenHeap(0), Answer::Done),
-    (Ask::Insert(0, 8, 1), Answer::Refused(Refusal::CursorOpen)),
-    (Ask::Update(0, 7, 2), Answer::Refused(Refusal::CursorOpen)),
-    (Ask::Delete(0, 7), Answer::Refused(Refusal::CursorOpen)),
-    (Ask::Savepoint(0), Answer::Refused(Refusal::CursorOpen)),
-    (Ask::RollbackTo(0), Answer::Refused(Refusal::CursorOpen)),
-    (Ask::Release(0), Answer::Refused(Refusal::CursorOpen)),
-    (
-        Ask::OpenIndex(0, 7, 5, 4),
-        Answer::Refused(Refusal::CursorOpen),
-    ),
+    (Ask::Insert(0, 8, 1), Refused(Refusal::CursorOpen)),
+    (Ask::Update(0, 7, 2), Refused(Refusal::CursorOpen)),
+    (Ask::Delete(0, 7), Refused(Refusal::CursorOpen)),
+    (Ask::Savepoint(0), Refused(Refusal::CursorOpen)),
+    (Ask::RollbackTo(0), Refused(Refusal::CursorOpen)),
+    (Ask::Release(0), Refused(Refusal::CursorOpen)),
+    (Ask::OpenIndex(0, 7, 5, 4), Refused(Refusal::CursorOpen)),
     (Ask::Get(0, 7), Answer::Column(1)),
     (Ask::Next(0, 1), Answer::Rows(&[(7, 1)])),
     (Ask::Close(0), Answer::Done),
@@ -337,22 +326,19 @@ fn a_cursor_bars_writes_and_savepoints(rt: HostRuntime) -> Result<(), Fail> {
 }
 
 static WHO_HAS_NO_CURSOR: [(Ask, Answer); 13] = [
-    (Ask::OpenHeap(64), Answer::Refused(Refusal::NoSuchSession)),
-    (Ask::Next(64, 1), Answer::Refused(Refusal::NoSuchSession)),
-    (Ask::Close(0), Answer::Refused(Refusal::NotOpen)),
-    (
-        Ask::OpenIndex(0, 7, 5, 4),
-        Answer::Refused(Refusal::NotOpen),
-    ),
+    (Ask::OpenHeap(64), Refused(Refusal::NoSuchSession)),
+    (Ask::Next(64, 1), Refused(Refusal::NoSuchSession)),
+    (Ask::Close(0), Refused(Refusal::NotOpen)),
+    (Ask::OpenIndex(0, 7, 5, 4), Refused(Refusal::NotOpen)),
     (Ask::Begin(0), Answer::Done),
     (Ask::Begin(1), Answer::Done),
     (Ask::Insert(0, 7, 1), Answer::Done),
     (Ask::Commit(0), Answer::Committed),
-    (Ask::Insert(1, 7, 1), Answer::Refused(Refusal::Conflict)),
-    (Ask::OpenHeap(1), Answer::Refused(Refusal::Failed)),
-    (Ask::OpenIndex(1, 7, 5, 4), Answer::Refused(Refusal::Failed)),
-    (Ask::Next(1, 1), Answer::Refused(Refusal::Failed)),
-    (Ask::Close(1), Answer::Refused(Refusal::Failed)),
+    (Ask::Insert(1, 7, 1), Refused(Refusal::Conflict)),
+    (Ask::OpenHeap(1), Refused(Refusal::Failed)),
+    (Ask::OpenIndex(1, 7, 5, 4), Refused(Refusal::Failed)),
+    (Ask::Next(1, 1), Refused(Refusal::Failed)),
+    (Ask::Close(1), Refused(Refusal::Failed)),
 ];
 
 #[test]
@@ -363,14 +349,8 @@ fn who_has_no_cursor(rt: HostRuntime) -> Result<(), Fail> {
 // Index c + 1 is that by column c.
 static THE_INDEXES_HAVE_THEIR_NUMBERS: [(Ask, Answer); 6] = [
     (Ask::Begin(0), Answer::Done),
-    (
-        Ask::OpenIndex(0, 3, 0, 0),
-        Answer::Refused(Refusal::NoSuchIndex),
-    ),
-    (
-        Ask::OpenIndex(0, 5, 0, 0),
-        Answer::Refused(Refusal::NoSuchIndex),
-    ),
+    (Ask::OpenIndex(0, 3, 0, 0), Refused(Refusal::NoSuchIndex)),
+    (Ask::OpenIndex(0, 5, 0, 0), Refused(Refusal::NoSuchIndex)),
     (Ask::OpenIndex(0, 4, 0, 0), Answer::Done),
     (Ask::Close(0), Answer::Done),
     (Ask::OpenIndex(0, 0, 0, 0), Answer::Done),

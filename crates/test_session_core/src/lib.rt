@@ -11,6 +11,8 @@ mod changes;
 #[cfg(test)]
 mod cursors;
 #[cfg(test)]
+mod makings;
+#[cfg(test)]
 mod openings;
 #[cfg(test)]
 mod pages;

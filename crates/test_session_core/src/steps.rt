@@ -1,5 +1,6 @@
 //! Each kind of step that opens, reads, inserts and ends, with each answer that it may have.
 
+use crate::asks::Answer::Refused;
 use crate::asks::{Answer, Ask, ask_new};
 use session_core::{Refusal, Settings};
 use std::test::Fail;
@@ -16,67 +17,46 @@ const SETTINGS: Settings = Settings {
 
 static STEPS: [(Ask, Answer); 63] = [
     (Ask::Page(0), Answer::NoPage),
-    (Ask::Get(0, 1), Answer::Refused(Refusal::NotOpen)),
-    (Ask::InsertBody(0, 1, 0), Answer::Refused(Refusal::NotOpen)),
-    (Ask::Commit(0), Answer::Refused(Refusal::NotOpen)),
-    (Ask::Abort(0), Answer::Refused(Refusal::NotOpen)),
-    (Ask::Begin(64), Answer::Refused(Refusal::NoSuchSession)),
-    (Ask::Get(64, 1), Answer::Refused(Refusal::NoSuchSession)),
-    (
-        Ask::InsertBody(255, 1, 0),
-        Answer::Refused(Refusal::NoSuchSession),
-    ),
-    (Ask::Commit(64), Answer::Refused(Refusal::NoSuchSession)),
-    (Ask::Abort(64), Answer::Refused(Refusal::NoSuchSession)),
-    (Ask::Prune(0), Answer::Refused(Refusal::NoSuchPage)),
+    (Ask::Get(0, 1), Refused(Refusal::NotOpen)),
+    (Ask::InsertBody(0, 1, 0), Refused(Refusal::NotOpen)),
+    (Ask::Commit(0), Refused(Refusal::NotOpen)),
+    (Ask::Abort(0), Refused(Refusal::NotOpen)),
+    (Ask::Begin(64), Refused(Refusal::NoSuchSession)),
+    (Ask::Get(64, 1), Refused(Refusal::NoSuchSession)),
+    (Ask::InsertBody(255, 1, 0), Refused(Refusal::NoSuchSession)),
+    (Ask::Commit(64), Refused(Refusal::NoSuchSession)),
+    (Ask::Abort(64), Refused(Refusal::NoSuchSession)),
+    (Ask::Prune(0), Refused(Refusal::NoSuchPage)),
     (Ask::Begin(0), Answer::Done),
-    (Ask::Begin(0), Answer::Refused(Refusal::AlreadyOpen)),
+    (Ask::Begin(0), Refused(Refusal::AlreadyOpen)),
     (Ask::Begin(1), Answer::Done),
     (Ask::Begin(63), Answer::Done),
     // Id 3, slot 1.
     (Ask::InsertBody(0, 1, 0), Answer::Done),
-    (
-        Ask::InsertBody(0, 1, 0),
-        Answer::Refused(Refusal::AlreadyThere),
-    ),
-    (
-        Ask::InsertBody(0, 2, 1025),
-        Answer::Refused(Refusal::TooLarge),
-    ),
+    (Ask::InsertBody(0, 1, 0), Refused(Refusal::AlreadyThere)),
+    (Ask::InsertBody(0, 2, 1025), Refused(Refusal::TooLarge)),
     // The body is looked at before the key.
-    (
-        Ask::InsertBody(0, 1, 1025),
-        Answer::Refused(Refusal::TooLarge),
-    ),
-    (Ask::InsertBody(1, 1, 0), Answer::Refused(Refusal::Busy(0))),
+    (Ask::InsertBody(0, 1, 1025), Refused(Refusal::TooLarge)),
+    (Ask::InsertBody(1, 1, 0), Refused(Refusal::Busy(0))),
     (Ask::Get(1, 1), Answer::NoRow),
     (Ask::Get(0, 1), Answer::Body(0)),
     (Ask::Commit(0), Answer::Committed),
-    (Ask::InsertBody(1, 1, 0), Answer::Refused(Refusal::Conflict)),
-    (Ask::Get(1, 1), Answer::Refused(Refusal::Failed)),
-    (
-        Ask::InsertBody(1, 9, 1025),
-        Answer::Refused(Refusal::Failed),
-    ),
-    (Ask::Begin(1), Answer::Refused(Refusal::AlreadyOpen)),
+    (Ask::InsertBody(1, 1, 0), Refused(Refusal::Conflict)),
+    (Ask::Get(1, 1), Refused(Refusal::Failed)),
+    (Ask::InsertBody(1, 9, 1025), Refused(Refusal::Failed)),
+    (Ask::Begin(1), Refused(Refusal::AlreadyOpen)),
     (Ask::Commit(1), Answer::RolledBack),
     (Ask::Begin(1), Answer::Done),
     (Ask::Get(1, 1), Answer::Body(0)),
     (Ask::Get(63, 1), Answer::NoRow),
-    (
-        Ask::InsertBody(1, 1, 0),
-        Answer::Refused(Refusal::AlreadyThere),
-    ),
+    (Ask::InsertBody(1, 1, 0), Refused(Refusal::AlreadyThere)),
     // Id 4, slot 2.
     (Ask::InsertBody(1, 3, 1024), Answer::Done),
     (Ask::Abort(1), Answer::RolledBack),
     // What was aborted stands in nobody's way. Id 5, slot 3.
     (Ask::InsertBody(63, 3, 0), Answer::Done),
     // The session began before key 1 was committed.
-    (
-        Ask::InsertBody(63, 1, 0),
-        Answer::Refused(Refusal::Conflict),
-    ),
+    (Ask::InsertBody(63, 1, 0), Refused(Refusal::Conflict)),
     (Ask::Abort(63), Answer::RolledBack),
     (Ask::Begin(2), Answer::Done),
     // Id 6, slots 4 to 9. Of 8168 bytes 36 go to slots, and 2 * 72 and 7 * 1096 to versions; 316 are left, 4 for a slot.
@@ -86,22 +66,16 @@ static STEPS: [(Ask, Answer); 63] = [
     (Ask::InsertBody(2, 7, 1024), Answer::Done),
     (Ask::InsertBody(2, 8, 1024), Answer::Done),
     (Ask::InsertBody(2, 9, 1024), Answer::Done),
-    (
-        Ask::InsertBody(2, 10, 247),
-        Answer::Refused(Refusal::NoRoom),
-    ),
+    (Ask::InsertBody(2, 10, 247), Refused(Refusal::NoRoom)),
     // 66 and 246 bytes are 312. Slot 10.
     (Ask::InsertBody(2, 10, 246), Answer::Done),
     (Ask::Get(2, 10), Answer::Body(246)),
     (Ask::Commit(2), Answer::Committed),
     (Ask::Begin(3), Answer::Done),
     // There is neither an id nor room.
-    (
-        Ask::InsertBody(3, 11, 0),
-        Answer::Refused(Refusal::NeedsFreeze),
-    ),
+    (Ask::InsertBody(3, 11, 0), Refused(Refusal::NeedsFreeze)),
     (Ask::Abort(3), Answer::RolledBack),
-    (Ask::Prune(1), Answer::Refused(Refusal::NoSuchPage)),
+    (Ask::Prune(1), Refused(Refusal::NoSuchPage)),
     // Slots 2 and 3 hold what was aborted: they become dead. A second time there is nothing to do.
     (Ask::Prune(0), Answer::Done),
     (Ask::Prune(0), Answer::Done),

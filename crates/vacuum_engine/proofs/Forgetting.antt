@@ -1,6 +1,6 @@
 -- An engine whose old ids are forgotten at the end of an aggressive vacuum.
 use Rattle.std.proofs.Common.{◌≡◌, ◌≢◌, ◌⊎◌, ◌↔◌, ℕ, zero, suc, ◌≤◌, false, List, length, Option, Some, None, arith, refl, sym, ap, ◌∙◌, subst, inl, inr, ⊎_elim, slice_get}
-use Rattle.std.specs.Prelude.{Contains}
+use Rattle.std.specs.Prelude.{Contains, IsSome}
 use Rattle.std.specs.Option.{option_map}
 use Rattle.std.proofs.lemmas.Bool.{cases_Bool}
 use Rattle.std.proofs.lemmas.Option.{slice_get_within, get_or_from_slice_get}
@@ -40,7 +40,6 @@ use Rattle.tuple_header.specs.IndexValue.{value_in}
 use Rattle.index_lookup.specs.Pages.{slots_on, slot_in, version_in}
 use Rattle.index_lookup.proofs.PageLists.{slots-there}
 use Rattle.sound_entries.proofs.Going.{StaysExcused, page-same, stay-sound, stays-same}
-use Rattle.table_indexes.specs.Indexes.{entries_in, since_at}
 use Rattle.table_integrity.specs.Table.{SoundTable}
 use Rattle.table_integrity.proofs.InUse.{used-by}
 use Rattle.heap_write.specs.Heap.{HeapView, slots_of}
@@ -51,10 +50,15 @@ use Rattle.refinement.specs.Agrees as relation_agrees
 use Rattle.refinement.specs.Settling.{ForgetsIds}
 use Rattle.refinement.proofs.ForgettingLemmas.{Agrees-forgets}
 use Rattle.calls.specs.declared.vacuum.Mode.TheVariants.{Aggressive}
+use Rattle.refinement.proofs.Runs.{unmade}
 use Rattle.session_steps.specs.declared.session.Session.{Session}
 use Rattle.session_steps.specs.State.{State, session_at, seen, seen_in, reader_of, kept_by, horizon_of, held_back}
-use Rattle.session_steps.specs.Agrees.{SessionKeeps, Agrees, KeepsAllTargets}
-use Rattle.session_steps.proofs.InUse.{agree}
+use Rattle.session_steps.specs.Agrees.{SessionKeeps, SessionScans, Agrees, KeepsAllTargets}
+use Rattle.sound_entries.specs.Since.{IsExactSince, MayScanSince}
+use Rattle.table_integrity.proofs.Forgetting.{forgotten-table, forgotten-since, forgotten-scan}
+use Rattle.table_indexes.specs.Indexes.{IndexesView, entries_at, since_at, since_after, IsInUse}
+use Rattle.index_nodes.specs.declared.entry.Entry.{Entry}
+use Rattle.session_steps.proofs.InUse.{marks-stay, agree}
 use Rattle.session_steps.proofs.Owns.{reader-is, reader-at}
 use Rattle.session_steps.proofs.Statements.{kept-at}
 use Rattle.session_steps.proofs.Horizons.{below-xmin}
@@ -123,29 +127,11 @@ module _ (w v : Window) (c : ℕ) (is : IsWindow w) (iv : IsWindow v) (t : Trunc
           let before = top-before w (top_of v x) i j.0 is at (ap (place w) (sym on) ∙ j.1) in
           absurd (omega (arith, turn, before, less, late))
 
--- Chains.
-
--- Where each deleter that was rolled back stays so, no link comes.
-module _ (w v : Window) (slots : List Slot) (aborted : (n : ℕ) (t : Version) → version_at slots n ≡ Some t → IsAborted w t.header.xmax.0 → IsAborted v t.header.xmax.0) where
-  link-back : (n k : ℕ) → link v slots n ≡ Some k → link w slots n ≡ Some k
-  link-back n k next =
-      let l = link-of (has_aborted v) slots n k next in
-      let live : has_aborted w l.old.header.xmax.0 ≡ false = ⊎_elim
-      (λ gone. let too = aborted-has v l.old.header.xmax.0 (aborted n l.old l.from (has-aborted w l.old.header.xmax.0 gone)) in let alive = l.live in absurd (cc))
-      (λ e. e) (cases_Bool (has_aborted w l.old.header.xmax.0)) in
-      successor-from (has_aborted w) slots n k l.old l.new l.from l.to (replaced-live (has_aborted v) (has_aborted w) l.old.header l.replaced live) l.place l.heap_only l.made
-
-  along-back : (i n k : ℕ) → ReachesIn (link v slots) i n k → ReachesIn (link w slots) i n k
-  along-back zero n k same = same
-  along-back (suc i) n k along = (along.0, link-back n along.0 along.1, along-back i along.0 k along.2)
-
-  in-back : (root n : ℕ) → IsIn v slots root n → IsIn w slots root n
-  in-back root n i = record { entry = i.entry; leads = i.leads; later = record { turns = i.later.turns; along = along-back i.later.turns i.entry n i.later.along } }
-
 -- The engine.
 
-module _ (st : State) (u : Window) (w : World) (v : VacuumView) (agrees : Agrees st w) (maps : TrueMaps st) (keeps : KeepsVacuum st.heap (horizon_of st) v)
-    (young : (p : Tid) (t : Version) → version_in (slots_of st.heap) p ≡ Some t → IsYoung st.heap.statuses v.cutoff t.header) (t : Truncates st.heap.statuses u v.cutoff) where
+module _ (st : State) (u : Window) (xs : IndexesView) (w : World) (v : VacuumView) (agrees : Agrees st w) (maps : TrueMaps st) (keeps : KeepsVacuum st.heap (horizon_of st) v)
+    (young : (p : Tid) (t : Version) → version_in (slots_of st.heap) p ≡ Some t → IsYoung st.heap.statuses v.cutoff t.header) (t : Truncates st.heap.statuses u v.cutoff)
+    (entries : (n : ℕ) → entries_at xs n ≡ entries_at st.heap.indexes n) (sinces : (n : ℕ) → since_at xs n ≡ since_after v.cutoff (since_at st.heap.indexes n)) where
   abbrev before : Window
   before = st.heap.statuses
 
@@ -153,7 +139,7 @@ module _ (st : State) (u : Window) (w : World) (v : VacuumView) (agrees : Agrees
   c = v.cutoff
 
   abbrev after : HeapView
-  after = record st.heap { statuses = u }
+  after = record st.heap { statuses = u; indexes = xs }
 
   is : IsWindow before
   is = agrees.sound.window
@@ -195,26 +181,8 @@ module _ (st : State) (u : Window) (w : World) (v : VacuumView) (agrees : Agrees
     deleters = λ k r at some. (young (record { page = n; slot = k }) r at).deleter some;
   }
 
-  aborted-stays : (n k : ℕ) (r : Version) → version_at (slots_on pages n) k ≡ Some r → IsAborted before r.header.xmax.0 → IsAborted u r.header.xmax.0
-  aborted-stays n k r at gone = ended-stays before u c is iv t up r.header.xmax.0 Aborted gone aborted-ended ((young-on n).deleters k r at (aborted-some before r.header.xmax.0 gone))
-
-  heap-sound : (n : ℕ) → SoundPage u (horizon_of st) (slots_on pages n)
-  heap-sound n = forgetting-sound before u c (horizon_of st) (slots_on pages n) is iv t up (young-on n) (agrees.sound.table.heap n)
-
-  -- what is excused stays so, since the ids of what is left are remembered
-  excused-stays : (since : Option ℕ) (n : ℕ) → StaysExcused since before u (slots_on pages n)
-  excused-stays None n k r at none = none
-  excused-stays (Some id) n k r at (IsDead.never_was thawed gone) = IsDead.never_was thawed
-      (ended-stays before u c is iv t up r.header.xmin.0 Aborted gone aborted-ended ((young-on n).makers k r at thawed))
-  excused-stays (Some id) n k r at (IsDead.is_past done early) = IsDead.is_past
-      (ended-stays before u c is iv t up r.header.xmax.0 Committed done committed-ended ((young-on n).deleters k r at (committed-some before r.header.xmax.0 done))) early
-
   table-sound : SoundTable after (horizon_of st)
-  table-sound = record {
-    heap = heap-sound;
-    indexes = λ n used. stay-sound (value_in n) (since_at st.heap.indexes n) before u pages pages (entries_in st.heap.indexes n) (agrees.sound.table.indexes n used)
-        (λ m. page-same (value_in n) (since_at st.heap.indexes n) before u (slots_on pages m) (λ k. ⊥) (in-back before u (slots_on pages m) (aborted-stays m)) (excused-stays (since_at st.heap.indexes n) m));
-  }
+  table-sound = forgotten-table st.heap after (horizon_of st) c agrees.sound.table is up young-on agrees.sound.since (record { is = refl; truncates = t; entries = entries; since = sinces })
 
   -- Readers.
 
@@ -283,21 +251,37 @@ module _ (st : State) (u : Window) (w : World) (v : VacuumView) (agrees : Agrees
       let known = stays-known before u c x is iv t up there in
       tops-kept before u c is iv t up x there (agrees.sound.tops x (sym known.1 ∙ done))
 
+  same-used : (n : ℕ) → IsInUse st.heap.indexes n ↔ IsInUse xs n
+  same-used n = (λ used. subst (λ (o : Option (List Entry)). IsSome o) (sym (entries n)) used, λ used. subst (λ (o : Option (List Entry)). IsSome o) (entries n) used)
+
+  -- who may scan an index may scan it still
+  scan-stays : (s : ℕ) (e : Session) (snap : Snap) → KeptAt s e snap → (n : ℕ) → MayScanSince before (since_at st.heap.indexes n) snap → MayScanSince u (since_at xs n) snap
+  scan-stays s e snap kept n may = subst (λ (since : Option ℕ). MayScanSince u since snap) (sym (sinces n))
+      (forgotten-scan before u c (since_at st.heap.indexes n) snap is up t (agrees.sound.since n) ((agrees.sound.sessions s e kept.0).snapshot snap kept.1).bounds.xmin (forgets-for s e snap kept).low may)
+
+  session-scans : (s : ℕ) (e : Session) → session_at st s ≡ Some e → SessionScans u xs e
+  session-scans s e at =
+      let h = agrees.sound.scans s e at in
+      record {
+        by_snapshot = λ n snap reads may. scan-stays s e snap (at, ap kept_by reads) n (h.by_snapshot n snap reads may);
+        cursor = λ span is. let g = h.cursor span is in ((same-used span.index).0 g.0, λ snap kept. scan-stays s e snap (at, kept) span.index (g.1 snap kept));
+      }
+
   -- the horizon is the same number
   horizon-same : horizon_of st ≡ horizon_of (with_heap st after)
   horizon-same = ap (λ n. earliest n (held_back st.sessions)) (sym (stays-next before u c is iv t up))
 
   pub forgotten-agrees : Agrees (with_heap st after) w
-  forgotten-agrees = agree agrees refl refl found (record {
+  forgotten-agrees = agree agrees same-used (marks-stay st.sessions) (unmade refl refl) found (record {
     count = agrees.sound.count;
     max_pages = agrees.sound.max_pages;
     stop_age = t.stop_age ∙ agrees.sound.stop_age;
     window = iv;
     sessions = session-keeps;
     tops = tops;
-    indexes = agrees.sound.indexes;
-    exact = agrees.sound.exact;
-    cursors = agrees.sound.cursors;
+    by_key = (same-used 0).0 agrees.sound.by_key;
+    since = λ n. subst (IsExactSince u) (sym (sinces n)) (forgotten-since before u c (since_at st.heap.indexes n) is up t (agrees.sound.since n));
+    scans = session-scans;
     table = subst (λ n. SoundTable after n) horizon-same table-sound;
   })
 
@@ -325,12 +309,12 @@ module _ (st : State) (u : Window) (w : World) (v : VacuumView) (agrees : Agrees
 pub forgetting-led : (st : State) (h : HeapView) (w : World) (v : VacuumView) → Agrees st w → TrueMaps st → KeepsVacuum st.heap (horizon_of st) v
     → IsVacuumed st.heap (horizon_of st) v → v.mode ≡ Aggressive → ForgetsBefore st.heap h v.cutoff → KeepsAllTargets st (with_heap st h)
 forgetting-led st h w v agrees maps keeps vacuumed mode f =
-    subst (λ (g : HeapView). KeepsAllTargets st (with_heap st g)) (sym f.is) (forgotten-led st h.statuses w v agrees maps keeps (vacuumed.young mode) f.truncates)
+    subst (λ (g : HeapView). KeepsAllTargets st (with_heap st g)) (sym f.is) (forgotten-led st h.statuses h.indexes w v agrees maps keeps (vacuumed.young mode) f.truncates f.entries f.since)
 
 pub forgetting-agrees : (st : State) (h : HeapView) (w : World) (v : VacuumView) → Agrees st w → TrueMaps st → KeepsVacuum st.heap (horizon_of st) v
     → IsVacuumed st.heap (horizon_of st) v → v.mode ≡ Aggressive → ForgetsBefore st.heap h v.cutoff → Agrees (with_heap st h) w × TrueMaps (with_heap st h)
 forgetting-agrees st h w v agrees maps keeps vacuumed mode f =
     subst (λ (g : HeapView). Agrees (with_heap st g) w × TrueMaps (with_heap st g)) (sym f.is) (
-      forgotten-agrees st h.statuses w v agrees maps keeps (vacuumed.young mode) f.truncates,
-      forgotten-maps st h.statuses w v agrees maps keeps (vacuumed.young mode) f.truncates,
+      forgotten-agrees st h.statuses h.indexes w v agrees maps keeps (vacuumed.young mode) f.truncates f.entries f.since,
+      forgotten-maps st h.statuses h.indexes w v agrees maps keeps (vacuumed.young mode) f.truncates f.entries f.since,
     )

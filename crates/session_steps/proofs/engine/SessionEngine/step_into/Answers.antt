@@ -4,8 +4,7 @@ use Rattle.calls.specs.declared.step.Step.{Step}
 use Rattle.calls.specs.declared.reply.Reply.{Reply}
 use Rattle.session_steps.specs.declared.outcome.Ack.{Ack}
 use Rattle.calls.specs.declared.reply.Refusal.{Refusal}
-use Rattle.calls.specs.Steps.{is_vacuum_step}
-use Rattle.session_steps.specs.State.{State}
+use Rattle.session_steps.specs.State.{State, is_answered_above}
 use Rattle.session_steps.specs.Replies.{reply_to}
 use Rattle.session_steps.specs.Exact.{AnswersStep}
 use Rattle.session_steps.proofs.CursorSteps.{stored-step}
@@ -18,22 +17,22 @@ told {step} {asked} {answer} {came} {new} {after} P is was now holds =
     subst (λ st. P step answer st) (sym now) (subst (λ o. P step o after) (sym was) (subst (λ s. P s came after) (sym is) holds))
 
 -- it is not both
-not-both : (step : Step) → is_vacuum_step step ≡ false → is_vacuum_step step ≡ true → ⊥
+not-both : (step : Step) → is_answered_above step ≡ false → is_answered_above step ≡ true → ⊥
 not-both step beside of_vacuum = absurd (let e : false ≡ true = sym beside ∙ of_vacuum in cc)
 
 pub returns-in-Get : goal.returns-in-Get
 returns-in-Get c =
     let does = subst (λ (step : Step). AnswersStep c.args.self.now step c.get.new.reply c.args.self.now) (sym c.in-Get.is) c.get.ensures in
-    record { answers = λ beside. does; stays = λ of_vacuum. absurd (not-both c.args.step (ap is_vacuum_step c.in-Get.is) of_vacuum) }
+    record { answers = λ beside. does; stays = λ of_vacuum. absurd (not-both c.args.step (ap is_answered_above c.in-Get.is) of_vacuum) }
 
 pub returns-in-Next : goal.returns-in-Next
 returns-in-Next c =
     let does = subst (λ (step : Step). AnswersStep c.args.self.now step c.next_into.new.reply c.next_into.new.self) (sym c.in-Next.is) c.next_into.ensures in
-    record { answers = λ beside. does; stays = λ of_vacuum. absurd (not-both c.args.step (ap is_vacuum_step c.in-Next.is) of_vacuum) }
+    record { answers = λ beside. does; stays = λ of_vacuum. absurd (not-both c.args.step (ap is_answered_above c.in-Next.is) of_vacuum) }
 
 pub returns : goal.returns
 returns c =
-    let P : Step → Result Ack Refusal → State → Type 0 = λ step answer new. AnswersStep c.args.self.now step (reply_to answer) new × (is_vacuum_step step ≡ false) in
+    let P : Step → Result Ack Refusal → State → Type 0 = λ step answer new. AnswersStep c.args.self.now step (reply_to answer) new × (is_answered_above step ≡ false) in
     let B : Step → Type 0 = λ step. HasBounds step in
     let does : P c.args.step c.match-step.answer c.match-step.self = elim c.match-step.branch [
       | in-Begin w ↦ told P w.in-Begin.is w.answer-is w.self-is (w.begin-answer.ensures, refl)

@@ -1,0 +1,11 @@
+use Rattle.std.proofs.Common.{suc}
+use Rattle.std.proofs.lemmas.Result.{on_ok_weaker}
+use Rattle.heap_write.proofs.CurrentLemmas.{row-entered}
+use Rattle.heap_write.proofs.making.enter_current.Goals as goal
+
+pub returns-in-Some-clause-adds : goal.returns-in-Some-clause-adds
+returns-in-Some-clause-adds c =
+    on_ok_weaker c.insert.result
+    (λ adds. row-entered c.args.reader.now.statuses.now c.args.page.now.slots (suc c.args.column) c.args.place c.args.index.now.entries c.insert.new.self.entries
+    c.in-Some.row _ c.in-Some.ensures c.entry_of.ensures adds)
+    c.insert.ensures.adds

@@ -1,0 +1,9 @@
+//! Cursors of the plain program: rows as lists in the order of an index, which are handed out from the front. It is slow on
+//! purpose. Its contracts are the definitions of the crate `history`.
+#![tactic(auto)]
+
+mod cursor;
+mod order;
+
+pub use cursor::{Handed, PlainCursor};
+pub use order::{Bounds, PlainOrder, has_key, is_wanted, place};

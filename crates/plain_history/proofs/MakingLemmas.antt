@@ -1,0 +1,132 @@
+-- Who holds a key, and what the making of an index notes.
+use Rattle.std.proofs.Common.{◌≡◌, ℕ, suc, ◌+◌, ◌<◌, ◌≤◌, List, [], ◌∷◌, ◌++◌, length, drop, set, get_or, Option, Some, None, Bool, true, false, cond, nat_eq, refl, sym, ap, ◌∙◌, subst, add-one, inl, inr, arith}
+use Rattle.std.specs.Prelude.{IsSome, IsTrue}
+use Rattle.std.specs.Option.{option_map}
+use mathlib.Core.Path.{fun_ext}
+use Rattle.std.proofs.lemmas.Bool.{cases_eq, cases_lt}
+use Rattle.std.proofs.lemmas.List.{append-nil, get_or-set_same, get_or-set_other, get_or_default, get_or_past, length-set}
+use Rattle.std.proofs.lemmas.List.Elements.{Contains-push, Contains-append_left, Contains-append_right}
+use Rattle.std.proofs.Math.Seq.{drop-cons}
+use Rattle.history.specs.History.{Write, written}
+use Rattle.history.specs.World.{World, OpenSession, Holds, NoKeyIsHeld, joined, own_write, is_indexed}
+use Rattle.history.specs.Moves.{is_open_by_snapshot, with_made_index}
+use Rattle.history.proofs.HistoryLemmas.{at_same, at_other, among-written}
+use Rattle.plain_history.specs.declared.plain.PlainSession.{PlainSession}
+use Rattle.plain_history.proofs.Sessions.{less, session_in-read, session_in-past}
+use Rattle.plain_history.proofs.Worlds.{too_new_in-set}
+use Rattle.plain_history.specs.Plain.{Plain, open_of, has_written, holds_any_key, session_in, too_new_in, world_of}
+
+-- a level that has a write has one of a key
+pub written_key : (levels : List (List Write)) → has_written levels ≡ true → (key : ℕ) × IsSome (written (joined levels) key)
+written_key [] is = absurd (cc)
+written_key ([] ∷ older) is = let more = written_key older is in (more.0, subst (λ ws. IsSome (written ws more.0)) (sym (append-nil (joined older))) more.1)
+written_key ((write ∷ later) ∷ older) is = (
+  write.key,
+  among-written (joined older ++ write ∷ later) write (Contains-append_right (joined older) (write ∷ later) write (Contains-append_left (write ∷ []) later write (Contains-push [] write))),
+)
+
+pub nothing_written : (levels : List (List Write)) → has_written levels ≡ false → joined levels ≡ []
+nothing_written [] is = refl
+nothing_written ([] ∷ older) is = append-nil (joined older) ∙ nothing_written older is
+nothing_written ((write ∷ later) ∷ older) is = absurd (cc)
+
+-- the levels from place i on
+pub has_written-drop : (levels : List (List Write)) (i : ℕ) (x : List Write) → i < length levels → x ≡ get_or levels i x → has_written (drop i levels) ≡ has_written (x ∷ drop (i + 1) levels)
+has_written-drop levels i x lt is =
+    ap has_written (drop-cons levels i x lt) ∙ (ap (λ y. has_written (y ∷ drop (suc i) levels)) (sym is) ∙ ap (λ j. has_written (x ∷ drop j levels)) (sym (add-one i)))
+
+-- who has written holds a key, and the other way round
+pub wrote_key : (session : Option OpenSession) → holds_any_key session ≡ true → (key : ℕ) × (m : OpenSession) × (session ≡ Some m) × IsSome (own_write m key)
+wrote_key None is = absurd (cc)
+wrote_key (Some m) is = let some = written_key m.levels is in (some.0, m, refl, some.1)
+
+pub key_wrote : (session : Option OpenSession) (m : OpenSession) (key : ℕ) → session ≡ Some m → IsSome (own_write m key) → holds_any_key session ≡ true
+key_wrote session m key at some = by (has_written m.levels) refl
+  where
+    by : (b : Bool) → has_written m.levels ≡ b → holds_any_key session ≡ true
+    by true is = ap holds_any_key at ∙ is
+    by false is = absurd (let none : IsSome (written [] key) = subst (λ ws. IsSome (written ws key)) (nothing_written m.levels is) some in cc)
+
+-- whether the column's index is there
+pub is_there : (columns : List Bool) (c : ℕ) (there : Bool) → there ≡ is_indexed columns (c + 1) → there ≡ is_indexed columns (suc c)
+is_there columns c there is = is ∙ ap (is_indexed columns) (add-one c)
+
+-- an open session holds a key
+pub some_held : (w : World) (sessions : List (Option PlainSession)) (answer : Bool) → session_in sessions ≡ w.session → (IsTrue answer → (s : ℕ) × (holds_any_key (session_in sessions s) ≡ true))
+    → answer ≡ true → (s : ℕ) × (key : ℕ) × Holds w s key
+some_held w sessions answer same says is =
+    let found = says is in let wrote = wrote_key (w.session found.0) (subst (λ (f : ℕ → Option OpenSession). holds_any_key (f found.0) ≡ true) same found.1) in
+    (found.0, wrote.0, (wrote.1, wrote.2, wrote.3))
+
+-- and none does
+pub none_held : (w : World) (sessions : List (Option PlainSession)) (answer : Bool) → session_in sessions ≡ w.session → ((s : ℕ) × (holds_any_key (session_in sessions s) ≡ true) → IsTrue answer)
+    → answer ≡ false → NoKeyIsHeld w
+none_held w sessions answer same says isnt s key (m, at, some) =
+    let held : holds_any_key (session_in sessions s) ≡ true = subst (λ (f : ℕ → Option OpenSession). holds_any_key (f s) ≡ true) (sym same) (key_wrote (w.session s) m key at some) in
+    let is : answer ≡ true = says (s, held) in absurd (let never : false ≡ true = sym isnt ∙ is in cc)
+
+-- one column more is indexed
+pub indexed-set : (columns : List Bool) (c i : ℕ) → c < length columns → is_indexed (set columns c true) i ≡ cond (nat_eq i (c + 1)) true (is_indexed columns i)
+indexed-set columns c i within = rw (add-one c) (elim (cases_eq i (suc c)) [
+  | inl same ↦ subst (λ i. is_indexed (set columns c true) i ≡ cond (nat_eq i (suc c)) true (is_indexed columns i)) (sym same)
+      (get_or-set_same columns c true false within ∙ sym (at_same (suc c) true (is_indexed columns (suc c))))
+  | inr ne ↦ get_or-set_other (true ∷ columns) (suc c) i true false ne ∙ sym (at_other i (suc c) true (is_indexed columns i) ne)
+])
+
+-- and the world is that in which its index is made
+pub world-made : (p : Plain) (c : ℕ) (marks : List (List Bool)) → c < length p.indexed
+    → ((s i : ℕ) → too_new_in marks s i ≡ cond (nat_eq i (c + 1)) (is_open_by_snapshot (session_in p.sessions s)) (too_new_in p.too_new s i))
+    → world_of (record p { indexed = set p.indexed c true; too_new = marks }) ≡ with_made_index (world_of p) (c + 1)
+world-made p c marks within marked =
+    ap (λ had. record (world_of p) { has_index = had; too_new = too_new_in marks }) (fun_ext (λ i. indexed-set p.indexed c i within))
+    ∙ ap (λ young. record (with_made_index (world_of p) (c + 1)) { too_new = young }) (fun_ext (λ s. fun_ext (λ i. marked s i)))
+
+-- Who may scan it.
+
+-- of the sessions below n each one has the mark that it is to have, and the others have what they had
+pub record AreMarked (sessions : List (Option PlainSession)) (index : ℕ) (before marks : List (List Bool)) (n : ℕ) : Type 0 where
+  pub places : length marks ≡ length before
+  pub marked : (s i : ℕ) → s < n → too_new_in marks s i ≡ cond (nat_eq i index) (is_open_by_snapshot (session_in sessions s)) (too_new_in before s i)
+  pub others : (s i : ℕ) → n ≤ s → too_new_in marks s i ≡ too_new_in before s i
+
+-- one session more
+pub marks_more : (sessions : List (Option PlainSession)) (index : ℕ) (before marks : List (List Bool)) (s : ℕ) (x : Option PlainSession) (mark : Bool) (row d : List Bool)
+    → s < length marks → s < length sessions → x ≡ get_or sessions s x → mark ≡ is_open_by_snapshot (option_map open_of x)
+    → ((i : ℕ) → get_or row i false ≡ cond (nat_eq i index) mark (get_or (get_or marks s d) i false))
+    → AreMarked sessions index before marks s → AreMarked sessions index before (set marks s row) (s + 1)
+marks_more sessions index before marks s x mark row d within within' is mark_is says so = record {
+  places = length-set marks s row ∙ so.places;
+  marked = λ t i lt. too_new_in-set marks s row within t i ∙ (elim (cases_eq t s) [
+    | inl same ↦ subst (λ u. cond (nat_eq u s) (get_or row i false) (too_new_in marks u i) ≡ due u i) (sym same) (at_same s (get_or row i false) (too_new_in marks s i) ∙ here i)
+    | inr ne ↦ at_other t s (get_or row i false) (too_new_in marks t i) ne ∙ so.marked t i (less t s lt ne)
+  ]);
+  others = λ t i le. too_new_in-set marks s row within t i ∙ (at_other t s (get_or row i false) (too_new_in marks t i) (λ same. past t same le) ∙ so.others t i (omega (arith, le)));
+}
+  where
+    due : ℕ → ℕ → Bool
+    due u i = cond (nat_eq i index) (is_open_by_snapshot (session_in sessions u)) (too_new_in before u i)
+
+    past : (t : ℕ) → t ≡ s → s + 1 ≤ t → ⊥
+    past t same le = omega (arith, same, le)
+
+    here : (i : ℕ) → get_or row i false ≡ due s i
+    here i =
+        says i
+        ∙ (ap (λ b. cond (nat_eq i index) b (get_or (get_or marks s d) i false)) (mark_is ∙ ap is_open_by_snapshot (sym (session_in-read sessions s x within' is)))
+        ∙ ap (λ b. cond (nat_eq i index) (is_open_by_snapshot (session_in sessions s)) b) (ap (λ r. get_or r i false) (get_or_default marks s d [] within) ∙ so.others s i (omega arith)))
+
+-- beyond them there is none
+pub all_marked : (sessions : List (Option PlainSession)) (index : ℕ) (before marks : List (List Bool)) (n : ℕ) → length before ≡ length sessions → length sessions ≤ n → AreMarked sessions index before marks n
+    → (s i : ℕ) → too_new_in marks s i ≡ cond (nat_eq i index) (is_open_by_snapshot (session_in sessions s)) (too_new_in before s i)
+all_marked sessions index before marks n places all so s i = elim (cases_lt s n) [ inl lt ↦ so.marked s i lt | inr le ↦ so.others s i le ∙ beyond (omega (arith, le)) ]
+  where
+    neither : (b : Bool) → false ≡ cond b false false
+    neither true = refl
+    neither false = refl
+
+    beyond : length sessions ≤ s → too_new_in before s i ≡ cond (nat_eq i index) (is_open_by_snapshot (session_in sessions s)) (too_new_in before s i)
+    beyond past =
+        let none : too_new_in before s i ≡ false = ap (λ r. get_or r i false) (get_or_past before s [] (omega (arith, places))) in
+        none
+        ∙ (neither (nat_eq i index)
+        ∙ (ap (λ b. cond (nat_eq i index) false b) (sym none) ∙ ap (λ o. cond (nat_eq i index) (is_open_by_snapshot o) (too_new_in before s i)) (sym (session_in-past sessions s past))))

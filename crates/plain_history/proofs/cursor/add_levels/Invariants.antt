@@ -1,8 +1,0 @@
-use Rattle.std.proofs.Common.{◌≡◌, ℕ, take, None, false}
-use Rattle.history.specs.History.{written}
-use Rattle.history.specs.World.{joined}
-use Rattle.plain_history.specs.Order.{has}
-use Rattle.plain_history.proofs.cursor.add_levels.Given as goal
-
-abbrev pub invariant-loop-level : goal.invariant-loop-level
-invariant-loop-level l = (key : ℕ) → has l.keys.items key ≡ false → (has l.fn.keys.items key ≡ false) × (written (joined (take l.level-index l.levels)) key ≡ None)

@@ -1,0 +1,130 @@
+//! An index is made in use.
+
+ghost use Rattle.std.specs.Prelude.{◌≡◌, ◌<◌, ◌+◌, ℕ, ◌↔◌, ◌==◌, IsTrue, if◌then◌else◌, length, get_or, false, true, OnOk, IfErr};
+ghost use Rattle.std.specs.Option.{option_map};
+ghost use Rattle.history.specs.World.{MayIndex};
+ghost use Rattle.history.specs.Moves.{is_open_by_snapshot, with_index_on, with_made_index};
+ghost use Rattle.plain_history.specs.Plain.{has_written, holds_any_key, open_of, session_in, too_new_in, world_of};
+ghost use Rattle.plain_history.specs.Answers.{RefusesMaking};
+
+use crate::plain::{PlainHistory, PlainIsolation, PlainLevel, PlainSession};
+use calls::Refusal;
+
+fn have_written(levels: &[PlainLevel]) -> bool
+    ensures { result ≡ has_written levels.now }
+{
+    for level in levels {
+        if !level.writes.is_empty() {
+            return true;
+        }
+    }
+    false
+}
+
+/// Is the session open, with a write in its levels?
+fn holds_any_key(session: &Option<PlainSession>) -> bool
+    ensures { result ≡ holds_any_key (option_map open_of session.now) }
+{
+    match session {
+        Some(session) => {
+            if session.newest.writes.is_empty() {
+                have_written(&session.older)
+            } else {
+                true
+            }
+        }
+        None => false,
+    }
+}
+
+/// Has an open session a write in its levels?
+fn is_any_held(sessions: &[Option<PlainSession>]) -> bool
+    ensures { IsTrue result ↔ ((s : ℕ) × (holds_any_key (session_in sessions.now s) ≡ true)) }
+{
+    for s in 0..sessions.len() {
+        if holds_any_key(&sessions[s]) {
+            return true;
+        }
+    }
+    false
+}
+
+fn is_open_by_snapshot(session: &Option<PlainSession>) -> bool
+    ensures { result ≡ is_open_by_snapshot (option_map open_of session.now) }
+{
+    match session {
+        Some(session) => match session.isolation {
+            PlainIsolation::BySnapshot(_) => true,
+            PlainIsolation::ByStatement => false,
+        },
+        None => false,
+    }
+}
+
+fn with_mark(marks: [bool; 5], index: u8, mark: bool) -> [bool; 5]
+    requires { index < 5 }
+    ensures { (i : ℕ) → get_or result i false
+        ≡ (if i == index then mark else get_or marks i false) }
+{
+    let mut marks = marks;
+    marks[index as usize] = mark;
+    marks
+}
+
+/// The index is too new for each session that is open by snapshot.
+fn mark_all(too_new: &mut [[bool; 5]], sessions: &[Option<PlainSession>], index: u8)
+    requires small { index < 5 }
+    requires places { length too_new.old ≡ length sessions.now }
+    ensures marks { (s i : ℕ) → too_new_in too_new.new s i
+        ≡ (if i == index then is_open_by_snapshot (session_in sessions.now s)
+        else too_new_in too_new.old s i) }
+    ensures same { length too_new.new ≡ length too_new.old }
+{
+    for s in 0..sessions.len() {
+        too_new[s] = with_mark(too_new[s], index, is_open_by_snapshot(&sessions[s]));
+    }
+}
+
+impl PlainHistory {
+    fn make(&mut self, column: u8)
+        requires { column < 4 }
+        ensures { world_of self.new ≡ with_made_index (world_of self.old) (column + 1) }
+    {
+        self.indexed[column as usize] = true;
+        mark_all(&mut self.too_new, &self.sessions, column + 1);
+    }
+
+    fn check_make(&self, column: u8) -> Result<(), Refusal>
+        ensures ok { OnOk result (MayIndex (world_of self.now) column) }
+        ensures err { IfErr result (λ why. RefusesMaking (world_of self.now) column why) }
+    {
+        if column > 3 {
+            Err(Refusal::NoSuchIndex)
+        } else if !self.has_index(column + 1) && is_any_held(&self.sessions) {
+            Err(Refusal::IndexBusy)
+        } else {
+            Ok(())
+        }
+    }
+
+    /// Makes the index of a column, from 0 to 3, unless it is there. It is no session's call. Refusals in order: NoSuchIndex, and
+    /// IndexBusy where the index is not there and an open session holds a key.
+    pub fn make_index(&mut self, column: u8) -> Result<(), Refusal>
+        ensures done { OnOk result
+            (MayIndex (world_of self.old) column
+            × (world_of self.new ≡ with_index_on (world_of self.old) column)) }
+        ensures refused { IfErr result
+            (λ why. RefusesMaking (world_of self.old) column why
+            × (world_of self.new ≡ world_of self.old)) }
+    {
+        match self.check_make(column) {
+            Ok(()) => {
+                if !self.has_index(column + 1) {
+                    self.make(column);
+                }
+                Ok(())
+            }
+            Err(why) => Err(why),
+        }
+    }
+}
