@@ -7,8 +7,9 @@
  * POINTERS. No pointer may be null, and no two that are passed to one call may overlap. The library keeps none of them after
  * the call, and owns nothing of the caller's. A bool is 0 or 1.
  *
- * THREADS. A handle stays on the thread that opened it, and takes one call at a time. No call may be made from a signal handler,
- * from the forked child of a process with threads, or from within malloc, realloc or free. Two handles are independent.
+ * THREADS. A handle takes one call at a time. Threads may share it where each call is made under one lock of the caller's, as a mutex.
+ * No call waits: after SANDPIPER_BUSY let go of the lock, and try again or abort. No call may be made from a signal handler, from the
+ * forked child of a process with threads, or from within malloc, realloc or free. Two handles are independent.
  *
  * MEMORY comes from the program's malloc, realloc and free. Where that is refused, the call says SANDPIPER_NO_MEMORY and has changed
  * nothing; it may be repeated. sandpiper_get, _rollback_to, _release, _commit, _abort, _prune, _close, _next, _close_cursor,

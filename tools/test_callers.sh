@@ -41,6 +41,24 @@ in_c misuse "" 20000
 in_c memory "$wrap"
 cat "$work/memory.out"
 
+# Threads that share a table under a lock of their own. What looks for races has to find one where there is no lock.
+"$compiler" -std=c11 "${flags[@]}" -fsanitize=thread "$tests/threads.c" "$prefix/lib/libsandpipercot.a" -pthread -o "$work/threads"
+say "threads.c, with the thread sanitizer"
+if ! "$work/threads" 2>"$work/threads.err"; then
+    cat "$work/threads.err" >&2
+    grep -q "unexpected memory mapping" "$work/threads.err" || exit 1
+    say "not tried: the thread sanitizer does not take this kernel's addresses"
+fi
+if command -v valgrind >/dev/null; then
+    "$compiler" -std=c11 "${flags[@]}" "$tests/threads.c" "$prefix/lib/libsandpipercot.a" -pthread -o "$work/threads.plain"
+    say "threads.c, under valgrind's helgrind, with the lock and without"
+    valgrind -q --tool=helgrind --error-exitcode=9 "$work/threads.plain" >/dev/null
+    if valgrind -q --tool=helgrind --error-exitcode=9 "$work/threads.plain" free >/dev/null 2>&1; then
+        say "no race was found where there is no lock"
+        exit 1
+    fi
+fi
+
 # What an example prints has to be what is said beside its script in examples/first_committer_wins.md.
 example() {
     say "$1"
