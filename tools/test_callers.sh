@@ -39,7 +39,8 @@ in_c loops ""
 in_c statuses "$wrap"
 in_c misuse "" 20000
 in_c memory "$wrap"
-cat "$work/memory.out"
+in_c making "$wrap" 300
+cat "$work/memory.out" "$work/making.out"
 
 # Threads that share a table under a lock of their own. What looks for races has to find one where there is no lock.
 "$compiler" -std=c11 "${flags[@]}" -fsanitize=thread "$tests/threads.c" "$prefix/lib/libsandpipercot.a" -pthread -o "$work/threads"

@@ -48,6 +48,7 @@ static __attribute__((noinline)) uint32_t measured(char kind, uint64_t key) {
     case 'd': return sandpiper_delete(&table, 0, key);
     case 'n': return sandpiper_next(&table, 0, rows, 100, &count);
     case 'v': return sandpiper_vacuum_step(&table, &piece);
+    case 'm': return sandpiper_create_index(&table, (uint8_t)key);
     default: return sandpiper_prune(&table, 0);
     }
 }
@@ -191,12 +192,27 @@ static long cleaning_visits(void) {
     return visits();
 }
 
+/* The making of the index of a column, of 1,000 rows whose values are in no order. */
+static long makings(void) {
+    const struct sandpiper_settings settings = SANDPIPER_WIDEST;
+    expect(SANDPIPER_DONE, sandpiper_open(&settings, &table));
+    begin(0);
+    for (row.key = 0; row.key < 1000; row.key++) {
+        for (int64_t column = 0; column < 4; column++) row.cols[column] = (int64_t)row.key * 7919 % (997 + column);
+        expect(SANDPIPER_DONE, sandpiper_insert(&table, 0, &row));
+    }
+    commit(0);
+    for (uint64_t column = 0; column < 4; column++) expect(SANDPIPER_DONE, measured('m', column));
+    return 4;
+}
+
 static const struct {
     const char *name;
     long (*run)(void);
 } KINDS[] = {{"get", gets},           {"insert", inserts},       {"hot", hot_updates},          {"delete", deletes},      {"scan", scans},
              {"full", full_updates},  {"prunes", pruning_updates}, {"prune", prunes},          {"pruned", pruned},
-             {"young", young_visits}, {"freezing", freezing_visits}, {"held", held_visits},    {"cleaning", cleaning_visits}};
+             {"young", young_visits}, {"freezing", freezing_visits}, {"held", held_visits},    {"cleaning", cleaning_visits},
+             {"making", makings}};
 
 /* step_costs KIND prints how many steps were measured. */
 int main(int argc, char **argv) {

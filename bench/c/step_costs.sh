@@ -33,4 +33,5 @@ cost young 10500 "a vacuum's visit of 88 rows, none of them old"
 cost freezing 17500 "a visit that freezes all 88"
 cost held 14500 "a visit of a page with a version that an open session still sees"
 cost cleaning 17000 "a visit of a page on which every tenth row was deleted"
+cost making 1100000 "the making of an index of 1,000 rows whose values are in no order"
 exit $status
