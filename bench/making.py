@@ -5,8 +5,8 @@
 A table is loaded, and then the index of one column is made: once where its values ascend with the keys, and once where they are in any
 order. Sandpipercot, whose library is under PREFIX, and SQLite's `:memory:` are called by bench/c/making.c, a new process each time.
 PostgreSQL is a server of this script's own (see compare.py) with an unlogged table, which nothing vacuums; an index is made and dropped
-once before. The three take turns. Shown is the median of what the processor takes, of PostgreSQL in its session's process alone, and
-then the time that passes where it takes two further processes, as by its settings. It needs libsqlite3-dev.
+once before. The three take turns. Shown are medians of five, in milliseconds of the processor. PostgreSQL makes the index in its session's
+process alone; then the time is shown that passes where two others help, as by its settings. It needs libsqlite3-dev.
 """
 
 import os
@@ -23,8 +23,8 @@ TURNS = 5
 SIZES = [10_000, 100_000, 1_000_000]
 COLUMNS = "key bigint PRIMARY KEY, c0 bigint, c1 bigint, c2 bigint, c3 bigint, body bytea"
 STORES = ["sandpipercot", "sqlite"]
-ALONE = "PostgreSQL, one process"
-THREE = "PostgreSQL, passed"
+ALONE = "PostgreSQL alone"
+HELPED = "helped, time that passes"
 
 
 def build(prefix, folder):
@@ -83,15 +83,15 @@ def measure(program, server, order, rows):
     if server:
         table = Table(server, order, rows)
         ways[ALONE] = table.alone
-        ways[THREE] = table.passed
+        ways[HELPED] = table.passed
     turns = [{name: way() for name, way in ways.items()} for _ in range(TURNS)]
     return {name: statistics.median(turn[name] for turn in turns) for name in ways}
 
 
 def line(order, rows, seconds, fewest):
     ours = seconds["sandpipercot"]
-    shown = [f"{seconds[name] * 1000:,.1f}" if name in seconds else "" for name in [*STORES, ALONE, THREE]]
-    ratios = [f"{seconds[name] / ours:.2f}" if name in seconds else "" for name in ["sqlite", ALONE, THREE]]
+    shown = [f"{seconds[name] * 1000:,.1f}" if name in seconds else "" for name in [*STORES, ALONE, HELPED]]
+    ratios = [f"{seconds[name] / ours:.2f}" if name in seconds else "" for name in ["sqlite", ALONE]]
     return f"| {order} | {rows:,} | {' | '.join(shown + ratios)} | {ours / rows / fewest:.1f} |"
 
 
@@ -103,8 +103,8 @@ def main():
         program = build(os.path.abspath(sys.argv[1]), folder)
         server = Server(os.path.join(folder, "server")) if os.path.exists(SERVER) else None
         try:
-            print(f"| values | rows | Sandpipercot, ms | SQLite | {ALONE} | {THREE} | SQLite's to ours | one process's | what passed | a row |")
-            print("|---|---:|---:|---:|---:|---:|---:|---:|---:|---:|")
+            print(f"| values | rows | Sandpipercot | SQLite | {ALONE} | {HELPED} | to SQLite | to PostgreSQL | a row's cost |")
+            print("|---|---:|---:|---:|---:|---:|---:|---:|---:|")
             for order in ["ascending", "random"]:
                 fewest = None
                 for rows in sizes:
