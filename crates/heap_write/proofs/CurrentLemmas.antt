@@ -23,7 +23,7 @@ use Rattle.hot_chain.proofs.Seen.{seen-here}
 use Rattle.sound_page.proofs.ChainPlaces.{place-of, at-place}
 use Rattle.index_lookup.proofs.Among.{none-yet, none-here}
 use Rattle.index_nodes.specs.declared.entry.Entry.{Entry}
-use Rattle.index_nodes.specs.Sets.{AddsEntry}
+use Rattle.heap_write.specs.Filling.{Joins}
 use Rattle.table_indexes.specs.Indexes.{index_entry_of}
 use Rattle.heap_write.specs.Making.{IsCurrent}
 use Rattle.heap_write.specs.Listing.{ReadsCurrent, IsFirstCurrent, IsRowOfCurrent, LacksCurrent, AddsCurrent}
@@ -90,7 +90,7 @@ first-leads w slots root t f =
 
 -- and its entry comes
 pub row-entered : (w : Window) (slots : List Slot) (number : ℕ) (place : Tid) (entries entries' : List Entry) (row : Row) (entry : Entry) → IsRowOfCurrent w slots place.slot row
-    → entry ≡ index_entry_of number row place → AddsEntry entries entries' entry → AddsCurrent w slots number place entries entries'
+    → entry ≡ index_entry_of number row place → Joins entries entries' entry → AddsCurrent w slots number place entries entries'
 row-entered w slots number place entries entries' row entry current is adds =
     AddsCurrent.enters current.version current.is_first
-    (subst (AddsEntry entries entries') (is ∙ ap (λ (r : Row). index_entry_of number r place) current.is_row) adds)
+    (subst (Joins entries entries') (is ∙ ap (λ (r : Row). index_entry_of number r place) current.is_row) adds)

@@ -15,3 +15,4 @@ pub mod Replacing
 pub mod Visited
 pub mod CurrentLemmas
 pub mod ListLemmas
+mod FillingLemmas

@@ -14,6 +14,7 @@ use Rattle.index_lookup.specs.Pages.{slots_on}
 use Rattle.index_lookup.proofs.PageLists.{slots-there, slots-none}
 use Rattle.table_indexes.specs.Indexes.{index_entry_of}
 use Rattle.heap_write.specs.Making.{LeadsToCurrent, IsOfCurrent, ListsCurrent, SomeCurrent}
+use Rattle.heap_write.specs.Filling.{HaveSame, HoldsEntry}
 use Rattle.heap_write.specs.Listing.{IsFirstCurrent, SomeFirstCurrent, AddsCurrent, IsPlaceBefore, ListsUpTo}
 use Rattle.heap_write.proofs.CurrentLemmas.{first-leads}
 
@@ -127,8 +128,8 @@ place-listed w pages number p slot entries entries' lists (AddsCurrent.enters t 
     let place : Tid = record { page = p; slot = slot } in
     let entry = index_entry_of number t.row place in
     record {
-      each = each-more w pages number p slot entries entries' lists (λ e there. (adds.members e).1 (inl there)) (λ u leads. (entry, (adds.members entry).1 (inr refl), refl));
-      only = λ e there. ⊎_elim (λ old. lists.only e old) (λ new. of-current w pages number place t e first new) ((adds.members e).0 there);
+      each = each-more w pages number p slot entries entries' lists (λ e there. (adds e).1 (inl there)) (λ u leads. (entry, (adds entry).1 (inr refl), refl));
+      only = λ e there. ⊎_elim (λ old. lists.only e old) (λ new. of-current w pages number place t e first new) ((adds e).0 there);
     }
 place-listed w pages number p slot entries entries' lists (AddsCurrent.leaves lacks same) = record {
   each = each-more w pages number p slot entries entries' lists (λ e there. subst (λ (es : List Entry). Contains es e) (sym same) there)
@@ -145,6 +146,20 @@ some-current w pages p slot some =
       version = some.version;
       leads = record { slot = found.0; leads = found.1; there = found.2; current = found.3 };
     }
+
+-- so is each that is listed
+pub some-listed : (w : Window) (pages : List (List Slot)) (number : ℕ) (entries : List Entry) → ListsCurrent w pages number entries → HoldsEntry entries → SomeCurrent w pages
+some-listed w pages number entries lists (e, there) =
+    let of = lists.only e there in
+    some-current w pages e.tid.page e.tid.slot (record { version = of.version; is_first = record { starts = of.root; first = of.first } })
+
+-- whatever their order
+pub same-lists : (w : Window) (pages : List (List Slot)) (number : ℕ) (entries entries' : List Entry) → HaveSame entries entries' → ListsCurrent w pages number entries
+    → ListsCurrent w pages number entries'
+same-lists w pages number entries entries' same lists = record {
+  each = λ place t leads. let found = lists.each place t leads in (found.0, (same found.0).1 found.1, found.2);
+  only = λ e there. lists.only e ((same e).0 there);
+}
 
 -- The same, by what is read of the page.
 

@@ -7,3 +7,4 @@ pub mod Cleaning
 pub mod Hints
 pub mod Making
 pub mod Listing
+pub mod Filling

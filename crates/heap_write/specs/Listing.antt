@@ -10,8 +10,8 @@ use Rattle.snapshot.specs.Snap.{empty_at}
 use Rattle.visibility.specs.declared.reader.Reader.{Reader}
 use Rattle.hot_chain.specs.Chain.{has_aborted, is_root, Fetched, LeadsTo}
 use Rattle.index_nodes.specs.declared.entry.Entry.{Entry}
-use Rattle.index_nodes.specs.Sets.{AddsEntry}
 use Rattle.table_indexes.specs.Indexes.{index_entry_of}
+use Rattle.heap_write.specs.Filling.{Joins}
 use Rattle.heap_write.specs.Making.{IsCurrent, LeadsToCurrent, IsOfCurrent}
 
 -- the reader counts all that has committed, and nothing else
@@ -44,7 +44,7 @@ LacksCurrent w slots root = (n : ℕ) (t : Version) → LeadsTo (has_aborted w) 
 
 -- a place of the page is looked at: its entry comes, where one is to come
 pub data AddsCurrent (w : Window) (slots : List Slot) (number : ℕ) (place : Tid) (entries entries' : List Entry) : Type 0 where
-  enters : (t : Version) → IsFirstCurrent w slots place.slot t → AddsEntry entries entries' (index_entry_of number t.row place)
+  enters : (t : Version) → IsFirstCurrent w slots place.slot t → Joins entries entries' (index_entry_of number t.row place)
       → AddsCurrent w slots number place entries entries'
   leaves : LacksCurrent w slots place.slot → entries' ≡ entries → AddsCurrent w slots number place entries entries'
 

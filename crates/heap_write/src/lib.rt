@@ -19,6 +19,7 @@
 
 mod cleaning;
 mod delete;
+mod filling;
 mod full_page;
 mod heap;
 mod hints;

@@ -8,6 +8,7 @@ ghost use Rattle.heap_write.specs.Heap.{slots_of};
 ghost use Rattle.heap_write.specs.Making.{MakesIndex, ListsCurrent, SomeCurrent};
 ghost use Rattle.heap_write.specs.Listing.{ReadsCurrent, IsRowOfCurrent, LacksCurrent, SomeFirstCurrent, AddsCurrent, ListsUpTo};
 
+use crate::filling::Filling;
 use crate::heap::HeapState;
 use hot_chain::{first_seen, is_root};
 use page_slots::Page;
@@ -48,9 +49,9 @@ impl HeapState {
             own: &own,
             statuses: &self.statuses,
         };
-        let mut index = RootIndex::new(self.alloc);
-        self.list_pages(column, &reader, &mut index)?;
-        Ok(index)
+        let mut filling = Filling::new(self.alloc);
+        self.list_pages(column, &reader, &mut filling)?;
+        filling.finish()
     }
 
     /// Adds the entries of all pages, one page after another.
@@ -58,17 +59,17 @@ impl HeapState {
         &self,
         column: u8,
         reader: &Reader<'_>,
-        index: &mut RootIndex,
+        filling: &mut Filling,
     ) -> Result<(), AllocError>
         requires column { column < 4 }
         requires reads { ReadsCurrent self.now.statuses reader.now }
-        requires none { index.old.entries ≡ [] }
+        requires none { filling.old ≡ [] }
         ensures lists { OnOk result
-            (ListsCurrent self.now.statuses (slots_of self.now) (suc column) index.new.entries) }
+            (ListsCurrent self.now.statuses (slots_of self.now) (suc column) filling.new) }
         ensures refused { OnErr result (SomeCurrent self.now.statuses (slots_of self.now)) }
     {
         for number in 0..self.pages.len() {
-            self.list_page(number, column, reader, index)?;
+            self.list_page(number, column, reader, filling)?;
         }
         Ok(())
     }
@@ -79,15 +80,15 @@ impl HeapState {
         number: u32,
         column: u8,
         reader: &Reader<'_>,
-        index: &mut RootIndex,
+        filling: &mut Filling,
     ) -> Result<(), AllocError>
         requires column { column < 4 }
         requires within { number < length self.now.pages.pages }
         requires reads { ReadsCurrent self.now.statuses reader.now }
         requires before { ListsUpTo self.now.statuses (slots_of self.now) (suc column) number 0
-            index.old.entries }
+            filling.old }
         ensures lists { OnOk result (ListsUpTo self.now.statuses (slots_of self.now) (suc column)
-            (number + 1) 0 index.new.entries) }
+            (number + 1) 0 filling.new) }
         ensures refused { OnErr result (SomeCurrent self.now.statuses (slots_of self.now)) }
     {
         let page = match self.pages.page(number) {
@@ -95,7 +96,7 @@ impl HeapState {
             None => unreachable!(),
         };
         for slot in 1..page.slots() + 1 {
-            enter_current(page, Tid { page: number, slot }, column, reader, index)?;
+            enter_current(page, Tid { page: number, slot }, column, reader, filling)?;
         }
         Ok(())
     }
@@ -107,17 +108,17 @@ fn enter_current(
     place: Tid,
     column: u8,
     reader: &Reader<'_>,
-    index: &mut RootIndex,
+    filling: &mut Filling,
 ) -> Result<(), AllocError>
     requires column { column < 4 }
     requires reads { ReadsCurrent reader.now.statuses.now reader.now }
     ensures adds { OnOk result (AddsCurrent reader.now.statuses.now page.now.slots (suc column)
-        place index.old.entries index.new.entries) }
+        place filling.old filling.new) }
     ensures refused { OnErr result
         (SomeFirstCurrent reader.now.statuses.now page.now.slots place.slot) }
 {
     match current_row(page, place.slot, reader) {
-        Some(row) => index.insert(entry_of(&row, column, place)),
+        Some(row) => filling.add(entry_of(&row, column, place)),
         None => Ok(()),
     }
 }
