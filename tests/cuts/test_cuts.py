@@ -1,7 +1,7 @@
 """Cuts each worked script and each example after each of its bytes, and two pages, and has the program read what is left.
 
-    test_cuts.py HEAPSH          in lines with long bodies, cuts near their ends alone
-    test_cuts.py HEAPSH --all    cuts after each byte; some minutes
+    test_cuts.py HEAPSH          in lines with long bodies, cuts near their ends alone; some 80 seconds
+    test_cuts.py HEAPSH --all    cuts after each byte; some 200 seconds
 
 Of a cut script the lines before the cut are answered as they are in the whole one. A cut inside line N makes that the bad line N. A cut
 page is no page. The answers of the whole are those beside the rows of crates/test_scripts, and those on the pages of the examples.

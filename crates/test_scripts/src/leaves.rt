@@ -2,31 +2,9 @@
 //!
 //! The keys 1 to 300 lie on three pages of 107, 107 and 86 rows, and in leaves of 64, 64, 64 and 108 entries.
 
-use script::run_script;
+use crate::growing::{Growing, add, add_answered, add_to_answer, begin_growing, check_answers};
 use std::alloc::{AllocError, Global};
 use std::test::Fail;
-
-// A script that grows, beside what it has to answer.
-#[derive(Drop)]
-struct Growing {
-    script: Vec<u8>,
-    answers: Vec<u8>,
-}
-
-fn begin_growing(alloc: Global) -> Result<Growing, AllocError> {
-    let mut script = Vec::new(alloc);
-    script.extend_from_slice(b"heap 4 1000 0 3 64 0000\n")?;
-    Ok(Growing {
-        script,
-        answers: Vec::new(alloc),
-    })
-}
-
-// Lines, with the lines that they are answered.
-fn add(to: &mut Growing, lines: &[u8], answers: &[u8]) -> Result<(), AllocError> {
-    to.script.extend_from_slice(lines)?;
-    to.answers.extend_from_slice(answers)
-}
 
 // A transaction that inserts the keys from one to another.
 fn add_keys(alloc: Global, to: &mut Growing, first: u64, last: u64) -> Result<(), AllocError> {
@@ -48,18 +26,18 @@ fn add_page(
 ) -> Result<(), AllocError> {
     let line = format!(in alloc; "page {page}\n")?;
     let head = format!(in alloc; "page {page} change {count} visible 0 slots {count}\n")?;
-    add(to, line.as_bytes(), head.as_bytes())?;
+    add_answered(to, line, head)?;
     for slot in 1..=count {
         let key = u64::from(before) + u64::from(slot);
         let row = format!(in alloc; "{slot} normal 3 0 {key}\n")?;
-        to.answers.extend_from_slice(row.as_bytes())?;
+        add_to_answer(to, row)?;
     }
     Ok(())
 }
 
 // Three pages of keys, of which the first is deleted; a vacuum begins, and visits them.
 fn visit_first_page(alloc: Global) -> Result<Growing, AllocError> {
-    let mut to = begin_growing(alloc)?;
+    let mut to = begin_growing(alloc, b"heap 4 1000 0 3 64 0000\n")?;
     add_keys(alloc, &mut to, 1, 300)?;
     add_page(alloc, &mut to, 0, 0, 107)?;
     add_page(alloc, &mut to, 1, 107, 107)?;
@@ -81,17 +59,6 @@ fn visit_first_page(alloc: Global) -> Result<Growing, AllocError> {
 fn add_pieces(to: &mut Growing, leaves: usize) -> Result<(), AllocError> {
     for _ in 0..leaves {
         add(to, b"vacuum step\n", b"index 0\n")?;
-    }
-    Ok(())
-}
-
-// Fails if the script is answered otherwise.
-fn check_answers(alloc: Global, to: &Growing) -> Result<(), Fail> {
-    let mut reader = to.script.as_slice();
-    let mut answers: Vec<u8> = Vec::new(alloc);
-    let (ended, _) = run_script(alloc, &mut reader, &mut answers);
-    if ended.is_err() || answers.as_slice() != to.answers.as_slice() {
-        return Err(Fail::new(format_args!("the script is answered otherwise")));
     }
     Ok(())
 }

@@ -4,7 +4,13 @@
 #![tactic(auto)]
 
 #[cfg(test)]
+mod broken_off;
+#[cfg(test)]
+mod circle;
+#[cfg(test)]
 mod cursors;
+#[cfg(test)]
+mod growing;
 #[cfg(test)]
 mod leaves;
 #[cfg(test)]
