@@ -32,10 +32,12 @@ impl Engine {
             return;
         };
         let cutoff = vacuum.forgets_before();
-        match self.core.vacuum_step(vacuum) {
-            Some(piece) => *reply = Reply::Worked(piece),
-            None => *reply = Reply::Ended(self.end_vacuum(cutoff)),
-        }
+        // (put in place once, since a reply is a kilobyte)
+        let answer = match self.core.vacuum_step(vacuum) {
+            Some(piece) => Reply::Worked(piece),
+            None => Reply::Ended(self.end_vacuum(cutoff)),
+        };
+        *reply = answer;
     }
 
     /// Drops the vacuum, which has ended, and forgets the ids before the cutoff, if there is one. It answers the oldest that is
