@@ -1,7 +1,7 @@
 //! The command-line shell of the heap.
 #![tactic(auto)]
 
-use script::{Command, ShellFault, USAGE, command_of, inspect_script, run_script};
+use script::{Command, ShellFault, USAGE, command_of, inspect_script, run_script, threads_script};
 use std::env;
 use std::io::ErrorKind;
 use std::process::ExitCode;
@@ -44,6 +44,10 @@ fn main(rt: HostRuntime) -> ExitCode {
     let (first, second) = (words.next(), words.next());
     match command_of(first.as_deref(), second.as_deref()) {
         Command::Run => run(&rt),
+        Command::Threads => {
+            let (ended, _) = threads_script(&rt, rt.alloc(), &mut rt.stdin(), &mut rt.stdout());
+            ends(&rt, ended)
+        }
         Command::Inspect => inspect(&rt),
         Command::Usage => usage(&rt),
     }

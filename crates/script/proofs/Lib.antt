@@ -3,3 +3,6 @@ pub mod RunLemmas
 pub mod FinishLemmas
 pub mod FirstLemmas
 pub mod InspectLemmas
+mod ListLemmas
+mod ReadingLemmas
+mod ThreadsLemmas

@@ -6,3 +6,5 @@ pub mod Script
 pub mod Next
 pub mod Steps
 pub mod Inspected
+pub mod Threads
+pub mod Reading

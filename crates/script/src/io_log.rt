@@ -1,6 +1,6 @@
 //! What the outside refused.
 
-ghost use Rattle.std.specs.Prelude.{◌≡◌, ◌≢◌, ◌↔◌, ◌+◌, ℕ, Ok, OnErr, OnOk, IfOk, IfErr, MatchOption, IsTrue, false, true, ◌<◌, length, nat_lt};
+ghost use Rattle.std.specs.Prelude.{[], ◌≡◌, ◌≢◌, ◌↔◌, ◌+◌, ℕ, Ok, OnErr, OnOk, IfOk, IfErr, MatchOption, IsTrue, false, true, ◌<◌, length, nat_lt};
 ghost use Rattle.std.specs.Io.KnownBytes.{ReadConsumes, WriteAppends};
 ghost use Rattle.std.specs.Io.{ReadsAtMost, WritesAtMost};
 ghost use Rattle.std.specs.IoError.{error_kind};
@@ -8,14 +8,20 @@ ghost use Rattle.std.specs.declared.io.ErrorKind.TheVariants.{Interrupted};
 ghost use Rattle.calls.specs.Words.{AreSettings};
 ghost use Rattle.script.specs.Engine.{IsNewEngine};
 ghost use Rattle.script.specs.Refusals.{IsOneMore, IsRefused};
+ghost use Rattle.script.specs.Threads.{lists_for, with_work};
+ghost use Rattle.shared_heap.specs.Books.{IsBookOf};
+ghost use Rattle.shared_heap.specs.Merge.{IsMerge, lines_in};
 
 use crate::fault::ShellFault;
-use script_text::RefusedGrowth;
+use script_text::{RefusedGrowth, WorkerStep};
 use session_core::{Engine, Settings, SettingsFault};
+use shared_heap::{Book, Line, run_threads};
 use std::alloc::Global;
 use std::io;
 use std::io::{ErrorKind, Read, Write};
 use std::marker::{Model, PhantomData};
+use std::sync::Wait;
+use std::thread::Threads;
 
 /// Whether the last read, the last write, and any growth were refused. The shell calls its reader and its writer and makes its
 /// engine through this alone, and hands it each growth that was refused, so that a fault can be told from one that it made up.
@@ -147,6 +153,73 @@ impl<R, W> IoLog<R, W> {
                 }
                 _ => Ok(None),
             },
+        }
+    }
+
+    /// An empty list for each of the eight workers.
+    pub(crate) fn new_lists(&mut self, alloc: Global) -> Result<Vec<Vec<Line>>, ShellFault>
+        ensures empty { IfOk result (λ lists. lines_in lists.items ≡ lists_for []) }
+        ensures fault { IfErr result (λ e. IsRefused e self.new) }
+    {
+        let lists = [
+            Vec::new(alloc),
+            Vec::new(alloc),
+            Vec::new(alloc),
+            Vec::new(alloc),
+            Vec::new(alloc),
+            Vec::new(alloc),
+            Vec::new(alloc),
+            Vec::new(alloc),
+        ];
+        match Vec::from_array(alloc, lists) {
+            Ok(lists) => Ok(lists),
+            Err(_) => {
+                self.memory = true;
+                Err(ShellFault::NoMemory)
+            }
+        }
+    }
+
+    /// Adds a step to its worker's list.
+    pub(crate) fn keep_step(
+        &mut self,
+        lists: &mut Vec<Vec<Line>>,
+        new: WorkerStep,
+    ) -> Result<(), ShellFault>
+        requires { new.worker < length lists.old.items }
+        ensures kept { OnOk result
+            (lines_in lists.new.items ≡ with_work (lines_in lists.old.items) new) }
+        ensures fault { IfErr result (λ e. IsRefused e self.new) }
+    {
+        let WorkerStep { worker, wait, step } = new;
+        match lists[usize::from(worker)].push(Line { wait, step }) {
+            Ok(()) => Ok(()),
+            Err(_) => {
+                self.memory = true;
+                Err(ShellFault::NoMemory)
+            }
+        }
+    }
+
+    /// Has workers do their lists, each in a thread of its own. The settings are in range, so that only memory can be refused.
+    pub(crate) fn run_threads<H: Threads + Wait + Sync>(
+        &mut self,
+        rt: &H,
+        alloc: Global,
+        settings: Settings,
+        lists: Vec<Vec<Line>>,
+    ) -> Result<Book, ShellFault>
+        requires { AreSettings settings }
+        ensures made { IfOk result (λ book. IsBookOf settings book) }
+        ensures merge { IfOk result (λ book. IsMerge (lines_in lists.items) book.journal) }
+        ensures fault { IfErr result (λ e. IsRefused e self.new) }
+    {
+        match run_threads(rt, alloc, settings, lists) {
+            Ok(book) => Ok(book),
+            Err(_) => {
+                self.memory = true;
+                Err(ShellFault::NoMemory)
+            }
         }
     }
 }

@@ -16,9 +16,11 @@ mod output;
 mod page_bytes;
 mod page_words;
 mod run;
+mod threads;
 
 pub use fault::ShellFault;
 pub use io_log::IoLog;
 pub use page_bytes::inspect_script;
 pub use run::run_script;
 pub use script_text::{Command, USAGE, command_of};
+pub use threads::threads_script;

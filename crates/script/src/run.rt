@@ -30,7 +30,7 @@ use std::io::{Read, Write};
 const FULL: usize = 32768;
 
 #[derive(Drop)]
-enum Next {
+pub(crate) enum Next {
     Line(usize),
     Bad,
     End,
@@ -38,7 +38,7 @@ enum Next {
 
 // Finds the next line. Before it reads, it writes what is to be written, so that nobody waits for an answer.
 #[inline(always)]
-fn next_line<R: Read, W: Write>(
+pub(crate) fn next_line<R: Read, W: Write>(
     log: &mut IoLog<R, W>,
     pending: &mut Pending,
     reader: &mut R,
@@ -139,7 +139,7 @@ fn close<R, W: Write>(
 }
 
 // Writes the text where it has come to a block, so that less than one is kept.
-fn write_if_full<R, W: Write>(
+pub(crate) fn write_if_full<R, W: Write>(
     log: &mut IoLog<R, W>,
     text: &mut Vec<u8>,
     writer: &mut W,

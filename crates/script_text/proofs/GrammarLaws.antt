@@ -289,7 +289,7 @@ line_in_says (verb ∷ verbs) word rest l spelled h = elim (chosen (bytes_eq wor
   | inr a ↦ line_in_says verbs word rest l spelled.1 a.1
 ]
 
-line_at_says : (w : List ℕ) (l : Line) → line_at w ≡ Some l → LineFits l × (w ≡ spelling l)
+pub line_at_says : (w : List ℕ) (l : Line) → line_at w ≡ Some l → LineFits l × (w ≡ spelling l)
 unfolding line_at
 line_at_says w l h = elim (chosen (bytes_eq w (codes "ids")) (Some Ids) _ (Some l) h) [
   | inl a ↦ rw (← same_Some Ids l a.1) (tt, verb_is w (codes "ids") a.0)
@@ -322,7 +322,7 @@ row_words_of-spelled s k c0 c1 c2 c3 body hs hk h0 h1 h2 h3 hb =
     ) refl
 
 -- a verb is found again, and no line of a verb is the line of the ids
-with_verb : (verb rest : List ℕ) (line : Option Line) → Free 32 verb → bytes_eq (verb ++ 32 ∷ rest) (codes "ids") ≡ false → line_in (usual_verbs ++ other_verbs) verb rest ≡ line
+pub with_verb : (verb rest : List ℕ) (line : Option Line) → Free 32 verb → bytes_eq (verb ++ 32 ∷ rest) (codes "ids") ≡ false → line_in (usual_verbs ++ other_verbs) verb rest ≡ line
     → line_at (verb ++ 32 ∷ rest) ≡ line
 unfolding line_at
 with_verb verb rest line free other same = rw (other, cut-free verb rest free) same
@@ -364,7 +364,7 @@ ids_line : line_at (codes "ids") ≡ Some Ids
 unfolding line_at
 ids_line = refl
 
-line_at-spelling : (l : Line) → LineFits l → line_at (spelling l) ≡ Some l
+pub line_at-spelling : (l : Line) → LineFits l → line_at (spelling l) ≡ Some l
 line_at-spelling (Do (step.Begin s)) h =
     with_verb (codes "begin") (decimal s) _ (free_text 32 (codes "begin") refl) refl (ap (λ (o : Option ℕ). option_map (λ s. Do (step.Begin s)) o) (number_of-decimal 255 s (omega arith) (omega arith)))
 line_at-spelling (Do (step.BeginReadCommitted s)) h =

@@ -8,3 +8,4 @@ pub mod HeadingLaws
 pub mod TellingLemmas
 pub mod EntryLemmas
 pub mod PageLemmas
+pub mod WorkerLaws

@@ -30,7 +30,7 @@ fn column(out: &mut Vec<u8>, c: i64) -> Result<(), RefusedGrowth>
     extend(out, buffer.format(c).as_bytes())
 }
 
-fn columns(out: &mut Vec<u8>, cols: &[i64]) -> Result<(), RefusedGrowth>
+pub(crate) fn columns(out: &mut Vec<u8>, cols: &[i64]) -> Result<(), RefusedGrowth>
     ensures { OnOk result
         (out.new.items ≡ out.old.items ++ flat_map (λ c. spaced (signed_decimal c)) cols.now) }
 {
@@ -57,7 +57,7 @@ pub(crate) fn hex(out: &mut Vec<u8>, bytes: &[u8]) -> Result<(), RefusedGrowth>
     Ok(())
 }
 
-fn body(out: &mut Vec<u8>, bytes: &[u8]) -> Result<(), RefusedGrowth>
+pub(crate) fn body(out: &mut Vec<u8>, bytes: &[u8]) -> Result<(), RefusedGrowth>
     ensures { OnOk result (out.new.items ≡ out.old.items ++ spaced (body_text bytes.now)) }
 {
     push(out, b' ')?;

@@ -8,6 +8,8 @@ ghost use Rattle.std.specs.Option.{option_map};
 pub enum Command {
     /// To run the script on standard input.
     Run,
+    /// To have workers do the script on standard input, each in a thread.
+    Threads,
     /// To look into the bytes of a page on standard input.
     Inspect,
     /// To say how it is called.
@@ -17,11 +19,16 @@ pub enum Command {
 /// How the program is called.
 pub const USAGE: &str = "usage: heapsh run|threads|inspect";
 
-/// What the first two words ask for: a script is run where `run` is the only word, and a page looked into where `inspect` is.
+/// What the first two words ask for: a script is run where `run` is the only word, done by threads where `threads` is, and a page looked
+/// into where `inspect` is.
 pub fn command_of(first: Option<&str>, second: Option<&str>) -> Command
     ensures run { result ≡ Command.Run
         ↔
         ((option_map (λ word. word.now) first.entry ≡ Some (codes "run"))
+        × (option_map (λ word. word.now) second.entry ≡ None)) }
+    ensures threads { result ≡ Command.Threads
+        ↔
+        ((option_map (λ word. word.now) first.entry ≡ Some (codes "threads"))
         × (option_map (λ word. word.now) second.entry ≡ None)) }
     ensures inspect { result ≡ Command.Inspect
         ↔
@@ -30,6 +37,7 @@ pub fn command_of(first: Option<&str>, second: Option<&str>) -> Command
 {
     match (first, second) {
         (Some(word), None) if word == "run" => Command::Run,
+        (Some(word), None) if word == "threads" => Command::Threads,
         (Some(word), None) if word == "inspect" => Command::Inspect,
         _ => Command::Usage,
     }

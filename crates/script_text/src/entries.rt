@@ -11,7 +11,7 @@ use itoa::Buffer;
 use root_index::{Entry, RootIndex};
 
 // A space and a value, which has its sign and up to 128 bits.
-fn spaced_value(out: &mut Vec<u8>, value: i128) -> Result<(), RefusedGrowth>
+pub(crate) fn spaced_value(out: &mut Vec<u8>, value: i128) -> Result<(), RefusedGrowth>
     ensures { OnOk result (out.new.items ≡ out.old.items ++ spaced (signed_decimal value)) }
 {
     let mut buffer = Buffer::new();

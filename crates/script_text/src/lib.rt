@@ -14,7 +14,9 @@ mod heading;
 mod inspected;
 mod line;
 mod page;
+mod step;
 mod words;
+mod worker_step;
 
 pub use answer::tell_reply;
 pub use command::{Command, USAGE, command_of};
@@ -24,3 +26,5 @@ pub use heading::settings_at;
 pub use inspected::tell_bytes;
 pub use line::{Line, MOST_LINE_BYTES, line_at};
 pub use page::{tell_ids, tell_no_page, tell_page};
+pub use step::tell_step;
+pub use worker_step::{WorkerStep, worker_step_at};

@@ -187,7 +187,7 @@ fn line_for(alloc: Global, word: &[u8], rest: &[u8]) -> Result<Option<Line>, Ref
 }
 
 #[tactic(auto, unfolding(crate::specs::Reading::line_at))]
-fn read_line(alloc: Global, line: &[u8]) -> Result<Option<Line>, RefusedGrowth>
+pub(crate) fn read_line(alloc: Global, line: &[u8]) -> Result<Option<Line>, RefusedGrowth>
     ensures { IfOk result (λ o. o ≡ line_at_of line.now) }
 {
     if line == b"ids".as_slice() {

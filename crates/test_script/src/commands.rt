@@ -4,7 +4,7 @@ use crate::runs::none_wrong;
 use script::{Command, USAGE, command_of};
 use std::test::Fail;
 
-static COMMANDS: [(Option<&str>, Option<&str>, Command); 13] = [
+static COMMANDS: [(Option<&str>, Option<&str>, Command); 15] = [
     (Some("run"), None, Command::Run),
     (None, None, Command::Usage),
     (Some(""), None, Command::Usage),
@@ -12,12 +12,14 @@ static COMMANDS: [(Option<&str>, Option<&str>, Command); 13] = [
     (Some("runs"), None, Command::Usage),
     (Some("Run"), None, Command::Usage),
     (Some(" run"), None, Command::Usage),
-    (Some("threads"), None, Command::Usage),
+    (Some("threads"), None, Command::Threads),
     (Some("inspect"), None, Command::Inspect),
     (Some("run"), Some("run"), Command::Usage),
     (Some("run"), Some(""), Command::Usage),
     (Some("inspect"), Some("run"), Command::Usage),
     (Some("inspects"), None, Command::Usage),
+    (Some("threads"), Some("run"), Command::Usage),
+    (Some("thread"), None, Command::Usage),
 ];
 
 // The place of the first words that ask for something else.

@@ -21,3 +21,5 @@ mod pages;
 mod prompts;
 #[cfg(test)]
 mod runs;
+#[cfg(test)]
+mod threads;

@@ -1,0 +1,82 @@
+//! Scripts for threads, each beside what has to come of it. Which of two workers comes first is left open.
+
+use crate::runs::none_wrong;
+use script::{ShellFault, threads_script};
+use std::alloc::Global;
+use std::sync::Wait;
+use std::test::Fail;
+use std::thread::Threads;
+
+// Whether a script ends like this and has written these bytes.
+fn ends_so<H: Threads + Wait + Sync>(
+    rt: &H,
+    alloc: Global,
+    script: &[u8],
+    wanted: Result<(), ShellFault>,
+    journal: &[u8],
+) -> bool {
+    let mut reader = script;
+    let mut written = Vec::new(alloc);
+    let (ended, _) = threads_script(rt, alloc, &mut reader, &mut written);
+    ended == wanted && written.as_slice() == journal
+}
+
+static ONE_WORKER: (&[u8], &[u8]) = (
+    b"heap 4 1000 0 3 64 0000\n@3 begin 0\n@3 wait insert 0 1 5 -6 0 0 61ff\n@3 get 0 1\n@3 wait commit 0\n@3 openindex 0 0 -1 1\n@3 vacuum step\n",
+    b"> begin 0\nok\n> insert 0 1 5 -6 0 0 61ff\nok\n> get 0 1\nrow 1 5 -6 0 0 61ff\n> commit 0\ncommitted\n> openindex 0 0 -1 1\nerror 1 NotOpen\n> vacuum step\nerror 18 NoVacuum\n",
+);
+
+// The lines of one worker are done in their order.
+#[test]
+fn one_worker(rt: HostRuntime) {
+    let (script, journal) = ONE_WORKER;
+    assert!(rt; ends_so(&rt, rt.alloc(), script, Ok(()), journal));
+}
+
+// Two workers' lines are done in either order.
+#[test]
+fn two_workers(rt: HostRuntime) {
+    let script = b"heap 4 1000 0 3 64 0000\n@0 begin 0\n@7 begin 1\n".as_slice();
+    let first = b"> begin 0\nok\n> begin 1\nok\n".as_slice();
+    let second = b"> begin 1\nok\n> begin 0\nok\n".as_slice();
+    let mut reader = script;
+    let mut written = Vec::new(rt.alloc());
+    let (ended, _) = threads_script(&rt, rt.alloc(), &mut reader, &mut written);
+    assert!(rt; ended == Ok(()));
+    assert!(rt; written.as_slice() == first || written.as_slice() == second);
+}
+
+// Scripts with the number of the first line that isn't allowed.
+static BAD_LINES: [(&[u8], u64); 16] = [
+    (b"", 1),
+    (b"heap 0 1000 0 3 64 0000\n@0 begin 0\n", 1),
+    (b"heap 4 1000 0 3 64 0000\n\n", 2),
+    (b"heap 4 1000 0 3 64 0000\nbegin 0\n", 2),
+    (b"heap 4 1000 0 3 64 0000\n@0 begin 0\n@8 begin 1\n", 3),
+    (b"heap 4 1000 0 3 64 0000\n@00 begin 0\n", 2),
+    (b"heap 4 1000 0 3 64 0000\n@ begin 0\n", 2),
+    (b"heap 4 1000 0 3 64 0000\n@0\n", 2),
+    (b"heap 4 1000 0 3 64 0000\n@0  begin 0\n", 2),
+    (b"heap 4 1000 0 3 64 0000\n@0 wait wait begin 0\n", 2),
+    (b"heap 4 1000 0 3 64 0000\n@0 wait\n", 2),
+    (b"heap 4 1000 0 3 64 0000\n@0 ids\n", 2),
+    (b"heap 4 1000 0 3 64 0000\n@0 page 0\n", 2),
+    (b"heap 4 1000 0 3 64 0000\n@0 entries 0\n", 2),
+    (b"heap 4 1000 0 3 64 0000\n@0 vacuum finish\n", 2),
+    (b"heap 4 1000 0 3 64 0000\n@0 begin 0\n@0 commit 0", 3),
+];
+
+// The place of the first script that ends otherwise, or has written anything.
+fn first_wrong<H: Threads + Wait + Sync>(rt: &H, alloc: Global) -> Option<usize> {
+    for (at, (script, line)) in BAD_LINES.iter().enumerate() {
+        if !ends_so(rt, alloc, script, Err(ShellFault::BadLine(*line)), b"") {
+            return Some(at);
+        }
+    }
+    None
+}
+
+#[test]
+fn bad_lines(rt: HostRuntime) -> Result<(), Fail> {
+    none_wrong(first_wrong(&rt, rt.alloc()))
+}
