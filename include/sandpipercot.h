@@ -97,6 +97,7 @@ enum sandpiper_status {
     SANDPIPER_NO_VACUUM = 35,         /* no vacuum is running */
     SANDPIPER_INDEX_TOO_NEW = 36,     /* the index was made while the session was open by snapshot */
     SANDPIPER_INDEX_BUSY = 37,        /* an index can't be made while an open session has written */
+    SANDPIPER_DEADLOCK = 38,          /* a wait for the session that has written the key would close a ring */
     SANDPIPER_NO_ENGINE = 48,         /* the handle has no table */
     SANDPIPER_HAS_ENGINE = 49,        /* sandpiper_open: the handle has a table already */
     SANDPIPER_NO_PLACE = 50,          /* sandpiper_next, _page_bytes: there is no place for a row, or for a page */
@@ -292,6 +293,7 @@ static inline const char *sandpiper_words(uint32_t status) {
     case SANDPIPER_NO_VACUUM: return "no vacuum is running";
     case SANDPIPER_INDEX_TOO_NEW: return "the index was made while the session was open by snapshot";
     case SANDPIPER_INDEX_BUSY: return "an index can't be made while an open session has written";
+    case SANDPIPER_DEADLOCK: return "a wait for the session that has written the key would close a ring";
     case SANDPIPER_NO_ENGINE: return "the handle has no table";
     case SANDPIPER_HAS_ENGINE: return "the handle has a table already";
     case SANDPIPER_NO_PLACE: return "there is no place for a row, or for a page";

@@ -39,6 +39,7 @@ class Status(enum.IntEnum):
     NO_VACUUM = 35
     INDEX_TOO_NEW = 36
     INDEX_BUSY = 37
+    DEADLOCK = 38
     NO_ENGINE = 48
     HAS_ENGINE = 49
     NO_PLACE = 50
@@ -196,6 +197,12 @@ class IndexBusy(Refused):
     """an index can't be made while an open session has written"""
 
     status = Status.INDEX_BUSY
+
+
+class Deadlock(Refused):
+    """a wait for the session that has written the key would close a ring"""
+
+    status = Status.DEADLOCK
 
 
 class NoEngine(Refused):

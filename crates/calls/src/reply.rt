@@ -22,6 +22,8 @@ pub enum Refusal {
     Conflict,
     /// This other open session has written the key.
     Busy(u8),
+    /// Were the session to wait for the other that has written the key, the waits would close a ring.
+    Deadlock,
     /// The session has a cursor open.
     CursorOpen,
     /// The session has no cursor open.

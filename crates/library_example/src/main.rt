@@ -31,7 +31,7 @@ fn row(alloc: Global, key: u64, value: i64) -> RowIn {
 
 /// The row of the key in the session's view, if the session is open and its view has one.
 fn row_in_view(engine: &Engine, session: u8, key: u64) -> Option<Row>
-    ensures { (w : World) → Agrees engine.now.core w → IfSome result
+    ensures { (w : World) → Agrees engine.now.engine.core w → IfSome result
         (λ row. (m : OpenSession) × (w.session session ≡ Some m)
         × (Some row ≡ view w.history m key)) }
 {

@@ -1,4 +1,3 @@
-pub mod Rings
 pub mod Lists
 pub mod MakingLemmas
 pub mod Sessions

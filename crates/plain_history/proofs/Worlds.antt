@@ -1,5 +1,5 @@
 -- What a change of the lists makes of the world.
-use Rattle.std.proofs.Common.{◌≡◌, ℕ, ◌<◌, List, [], ◌∷◌, length, set, Option, Some, None, Bool, false, cond, nat_eq, refl, sym, ap, ◌∙◌, subst, inl, inr, get_or, replicate}
+use Rattle.std.proofs.Common.{◌≡◌, ℕ, ◌<◌, List, [], length, set, Option, Some, None, Bool, false, cond, nat_eq, refl, sym, ap, ◌∙◌, subst, inl, inr, get_or, replicate}
 use Rattle.std.specs.Prelude.{zero, suc, Result, Ok, Err, OnErr, IfOk}
 use mathlib.Core.Path.{fun_ext}
 use Rattle.std.specs.Option.{option_map, option_flatten}
@@ -17,7 +17,9 @@ use Rattle.history.specs.Cursors.{keys_of, HandsOutPart, HandsOutKeys, IsOver}
 use Rattle.plain_cursor.specs.Order.{KeptCursor}
 use Rattle.plain_cursor.specs.Hands.{cursor_of, Hands}
 use Rattle.plain_history.specs.Answers.{with_transaction, HandsFrom, HandsOn, HasLeft}
-use Rattle.plain_history.specs.Plain.{Plain, open_of, session_in, wait_in, too_new_in, world_of}
+use Rattle.plain_history.specs.Plain.{Plain, open_of, session_in, too_new_in, world_of}
+use Rattle.waits.specs.View.{wait_in}
+use Rattle.waits.proofs.WaitLemmas.{wait_in-set}
 use Rattle.history.proofs.Places.{slice_get-set_same, slice_get-set_other}
 use Rattle.plain_history.proofs.Sessions.{session_in-read}
 use Rattle.history.proofs.HistoryLemmas.{at_same, at_other}
@@ -37,13 +39,6 @@ session_in-set sessions s x within t = elim (cases_eq t s) [
   | inl same ↦ subst (λ u. session_in (set sessions s x) u ≡ cond (nat_eq u s) (option_map open_of x) (session_in sessions u)) (sym same)
       (ap (λ y. option_map open_of (option_flatten y)) (slice_get-set_same sessions s x within) ∙ sym (at_same s (option_map open_of x) (session_in sessions s)))
   | inr ne ↦ ap (λ y. option_map open_of (option_flatten y)) (slice_get-set_other sessions s t x ne) ∙ sym (at_other t s (option_map open_of x) (session_in sessions t) ne)
-]
-
-wait_in-set : (waits : List (Option ℕ)) (s : ℕ) (x : Option ℕ) → s < length waits → (t : ℕ) → wait_in (set waits s x) t ≡ cond (nat_eq t s) x (wait_in waits t)
-wait_in-set waits s x within t = elim (cases_eq t s) [
-  | inl same ↦ subst (λ u. wait_in (set waits s x) u ≡ cond (nat_eq u s) x (wait_in waits u)) (sym same)
-      (ap option_flatten (slice_get-set_same waits s x within) ∙ sym (at_same s x (wait_in waits s)))
-  | inr ne ↦ ap option_flatten (slice_get-set_other waits s t x ne) ∙ sym (at_other t s x (wait_in waits t) ne)
 ]
 
 pub world-step : (p : Plain) (s : ℕ) → s < length p.waits → world_of (record p { waits = set p.waits s None }) ≡ stepped (world_of p) s
@@ -91,11 +86,6 @@ pub stays_so : (p q : Plain) (s : ℕ) (x y : Option PlainSession) → p ≡ q �
     → x ≡ get_or p.sessions s x → option_map open_of y ≡ option_map open_of x
     → world_of (record p { sessions = set p.sessions s y; waits = set p.waits s None }) ≡ stepped (world_of q) s
 stays_so p q s x y seen within within' is stays = world-same p s x y within within' stays is ∙ ap (λ (q : Plain). stepped (world_of q) s) seen
-
-pub get_or_twice : {A : Type 0} (xs : List A) (i : ℕ) (d : A) → get_or xs i d ≡ get_or xs i (get_or xs i d)
-get_or_twice [] i d = refl
-get_or_twice (x ∷ xs) zero d = refl
-get_or_twice (x ∷ xs) (suc i) d = get_or_twice xs i d
 
 -- a place of the marks, and an index of it
 pub too_new_in-set : (marks : List (List Bool)) (s : ℕ) (row : List Bool) → s < length marks → (t index : ℕ)

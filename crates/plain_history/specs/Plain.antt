@@ -6,6 +6,7 @@ use Rattle.plain_cursor.specs.Hands.{cursor_of}
 use Rattle.plain_history.specs.declared.plain.PlainSession.{PlainSession}
 use Rattle.plain_history.specs.declared.plain.PlainIsolation.{PlainIsolation}
 use Rattle.plain_history.specs.declared.plain.PlainIsolation.TheVariants.{BySnapshot, ByStatement}
+use Rattle.waits.specs.View.{wait_in}
 use Rattle.history.specs.History.{Write, Transaction}
 use Rattle.history.specs.World.{World, is_indexed, Isolation, by_snapshot, by_statement, OpenSession}
 
@@ -54,9 +55,6 @@ has_written ((write ∷ later) ∷ older) = true
 abbrev pub holds_any_key : Option OpenSession → Bool
 holds_any_key None = false
 holds_any_key (Some m) = has_written m.levels
-
-abbrev pub wait_in : List (Option ℕ) → ℕ → Option ℕ
-wait_in waits s = option_flatten (slice_get waits s)
 
 abbrev pub too_new_in : List (List Bool) → (session index : ℕ) → Bool
 too_new_in marks s index = slice_index_or (slice_index_or marks s []) index false

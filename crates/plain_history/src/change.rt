@@ -1,7 +1,6 @@
 //! What a step changes: one session, the waits, or the history.
 
-ghost use Rattle.history.specs.Cursors.{kept_where};
-ghost use Rattle.std.specs.Prelude.{◌==◌, map, not, ◌≡◌, OnOk, OnErr, Some, None};
+ghost use Rattle.std.specs.Prelude.{◌≡◌, OnOk, OnErr, Some, None};
 ghost use Rattle.std.specs.Option.{option_map};
 ghost use Rattle.history.specs.Moves.{stepped, put, change, free_to_scan, as_failed, with_write, with_savepoint, to_savepoint, without_savepoint, blocked_by, awaited_no_more, without_cursor};
 ghost use Rattle.plain_history.specs.Plain.{IsRowOf, open_of, world_of};
@@ -11,6 +10,7 @@ use crate::plain::{PlainHistory, PlainLevel, PlainSession, PlainWrite};
 use std::alloc::{AllocError, Global};
 use std::mem;
 use tuple_header::Row;
+use waits::wake_all;
 
 fn fail(session: &mut Option<PlainSession>)
     ensures { PlainBecomes session.old session.new as_failed }
@@ -171,23 +171,5 @@ impl PlainHistory {
     {
         self.history.push(transaction)?;
         Ok(())
-    }
-}
-
-fn wake_all(waits: &mut [Option<u8>], s: u8)
-    ensures { waits.new ≡ map (kept_where (λ o. not (o == s))) waits.old }
-{
-    for wait in waits.iter_mut() {
-        wake_one(wait, s);
-    }
-}
-
-fn wake_one(wait: &mut Option<u8>, s: u8)
-    ensures { wait.new ≡ kept_where (λ o. not (o == s)) wait.old }
-{
-    if let Some(o) = *wait {
-        if o == s {
-            *wait = None;
-        }
     }
 }

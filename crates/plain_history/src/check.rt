@@ -7,10 +7,11 @@ ghost use Rattle.calls.specs.Bars.{BarsOpen, BarsReady, BarsFree};
 ghost use Rattle.calls.specs.declared.step.TheConstants.{MOST_SESSIONS};
 ghost use Rattle.plain_history.specs.Answers.{RefusesInsert, RefusesReplace, MeetsWrite, MayInsert, MayReplace};
 
-use crate::lookup::{closes_ring, holder, is_late};
+use crate::lookup::{holder, is_late};
 use crate::plain::{PlainHistory, PlainSession};
 use crate::refusal::Refused;
 use calls::Refusal;
+use waits::closes_ring;
 
 impl PlainHistory {
     /// The session, which is open.

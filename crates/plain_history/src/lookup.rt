@@ -2,12 +2,11 @@
 
 ghost use Rattle.std.specs.Prelude.{◌≡◌, ◌≢◌, ℕ, ◌≤◌, ◌<◌, ◌↔◌, IsTrue, IsSome, MatchOption, length, IfOk, IfSome, OnOk, Some, ◌++◌};
 ghost use Rattle.history.specs.History.{said, written, latest, committed, IsLate};
-ghost use Rattle.history.specs.World.{joined, own_write, start_now, view, ClosesRing, OpenSession};
+ghost use Rattle.history.specs.World.{joined, own_write, start_now, view, OpenSession};
 ghost use Rattle.std.specs.Option.{option_map};
-ghost use Rattle.plain_history.specs.Plain.{IsRowOf, open_of, session_in, wait_in};
+ghost use Rattle.plain_history.specs.Plain.{IsRowOf, open_of, session_in};
 
 use crate::plain::{PlainIsolation, PlainLevel, PlainSession, PlainWrite};
-use arrayvec::ArrayVec;
 use std::alloc::{AllocError, Global};
 use tuple_header::Row;
 
@@ -227,35 +226,5 @@ fn holds(session: &Option<PlainSession>, key: u64) -> bool
     match session {
         Some(session) => session.own_write(key).is_some(),
         None => false,
-    }
-}
-
-/// Would a wait of s for o close a ring?
-pub(crate) fn closes_ring(waits: &[Option<u8>], s: u8, o: u8) -> bool
-    ensures { IsTrue result ↔ ClosesRing (wait_in waits.now) s o }
-{
-    let mut seen: ArrayVec<u8, 256> = ArrayVec::new();
-    let mut at = Some(o);
-    'walk: while let Some(t) = at {
-        if t == s {
-            return true;
-        }
-        if seen.contains(&t) {
-            break;
-        }
-        seen.push(t);
-        at = wait_of(waits, t);
-    }
-    false
-}
-
-fn wait_of(waits: &[Option<u8>], s: u8) -> Option<u8>
-    ensures value { result ≡ wait_in waits.now s }
-    ensures small { (o : ℕ) → result ≡ Some o → o < 256 }
-{
-    match waits.get(s as usize) {
-        Some(Some(o)) => Some(*o),
-        Some(None) => None,
-        None => None,
     }
 }

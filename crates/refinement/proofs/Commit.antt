@@ -26,7 +26,7 @@ use Rattle.refinement.proofs.Isolations.{SameSights, cursor_same, statement_deci
 use Rattle.refinement.proofs.Others.{SessionAgrees-commit_other}
 use Rattle.refinement.proofs.ByStatement.{own_or-some, own_or-none, SessionAgrees-commit_by_statement}
 use Rattle.refinement.proofs.SessionsLemmas.{opened-change, idle-change, owned-change, apart-change, alone-change}
-use Rattle.refinement.proofs.Steps.{OnlyIs, waits-aborted, own_traced}
+use Rattle.refinement.proofs.Steps.{OnlyIs, own_traced}
 
 -- to be seen is decided: what cannot be unseen is seen
 seen_or_not : (P : Type 0) → P ⊎ (¬ P) → ¬ (¬ P) → P
@@ -72,7 +72,6 @@ Agrees-commit h w s e m status' sees' session' only at there finishes same decid
       (λ k theirs ours. ne (agrees.alone o s k (n, there', theirs) (m, there, ours))) old)
       (λ e' at'. absurd (none-some e' (sym only.itself ∙ at')));
   idle = idle-change h h' w w' s agrees only.others models (λ at'. at_same s None (w.session s));
-  waits = waits-aborted w s agrees.waits;
   current = current;
   made = made;
   given = λ p y v at' touch. given-finish finishes y (agrees.given p y v at' touch);

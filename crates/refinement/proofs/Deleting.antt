@@ -22,7 +22,7 @@ use Rattle.refinement.proofs.Readers.{IsDeleted, wrote_before}
 use Rattle.refinement.proofs.Others.{SessionAgrees-delete_other}
 use Rattle.refinement.proofs.Itself.{IsCurrent, SessionAgrees-delete}
 use Rattle.refinement.proofs.SessionsLemmas.{Matches, opened-change, idle-change, alone-change}
-use Rattle.refinement.proofs.Steps.{waits-put, own_traced}
+use Rattle.refinement.proofs.Steps.{own_traced}
 
 -- the version is deleted under an id that the session has
 pub Agrees-delete : (h : Heap) (w : World) (s : ℕ) (e : SeenSession) (m : OpenSession) (x : ℕ) (place : Tid) (old new : Version) (store' : Tid → Option Version)
@@ -41,7 +41,6 @@ Agrees-delete h w s e m x place old new store' alters deleted at current there b
       subst (λ e. Matches h' w' s e) is
       (without_row w.history old.row.key m, at_same s (Some (without_row w.history old.row.key m)) (w.session s), SessionAgrees-delete x place old new alters deleted current bare seen in_time dead mine));
   idle = idle-change h h' w w' s agrees (λ o ne. refl) models (λ at'. absurd (none-some e (sym at' ∙ at)));
-  waits = waits-put w s agrees.waits;
   current = Shows-alter_same alters deleted.same_row still before (λ p v bt seen. seen) (λ p v bt seen. seen) agrees.current;
   made = λ p y v bt is done. elim (Alters-cases alters p v bt) [
     | inl same ↦ (let by : deleter v.header ≡ Some x = ap (λ (u : Version). deleter u.header) same.1 ∙ deleted.by in absurd (not_by y (sym is ∙ by) done))

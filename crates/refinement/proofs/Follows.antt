@@ -26,7 +26,7 @@ use Rattle.refinement.proofs.CursorsLemmas.{some_model}
 use Rattle.refinement.proofs.Itself.{new_session}
 use Rattle.refinement.proofs.Pruning.{Agrees-prune}
 use Rattle.refinement.proofs.Isolations.{SameSights}
-use Rattle.refinement.proofs.Steps.{OnlyIs, waits-put, Agrees-begin, Agrees-begin_by_statement, Agrees-abort}
+use Rattle.refinement.proofs.Steps.{OnlyIs, Agrees-begin, Agrees-begin_by_statement, Agrees-abort}
 use Rattle.refinement.proofs.Commit.{committed-is, Agrees-commit}
 
 -- a step that only passes
@@ -34,7 +34,6 @@ pub Agrees-stepped : (h : Heap) (w : World) (s : ℕ) → HeapAgrees h w → Hea
 Agrees-stepped h w s agrees = record {
   opened = agrees.opened;
   idle = agrees.idle;
-  waits = waits-put w s agrees.waits;
   current = agrees.current;
   made = agrees.made;
   given = agrees.given;
@@ -164,7 +163,6 @@ pub Agrees-sessions : (h : Heap) (w : World) (session' : ℕ → Option SeenSess
 Agrees-sessions h w session' same agrees = record {
   opened = λ s e at. agrees.opened s e (sym (same s) ∙ at);
   idle = λ s at. agrees.idle s (sym (same s) ∙ at);
-  waits = agrees.waits;
   current = agrees.current;
   made = agrees.made;
   given = agrees.given;

@@ -93,7 +93,6 @@ module _ (h : Heap) (status' : ℕ → Option Status) (sees' : Snap → ℕ → 
   Agrees-forgets w agrees = record {
     opened = λ s e at. let open_ = agrees.opened s e at in (open_.0, open_.1, SessionAgrees-forgets e open_.0 (statement_later s e at) (λ some. cursor_later s e at (open_.2.kept some)) open_.2);
     idle = agrees.idle;
-    waits = agrees.waits;
     current = Shows-same (λ p v there seen. VisibleBy-same (λ x touch done. f.touched p v x there touch ∙ done) (λ x touch done. known x Committed done) seen)
         (λ p v there seen. VisibleBy-same (λ x touch done. known x Committed done) (λ x touch done. f.touched p v x there touch ∙ done) seen) (λ k. refl) agrees.current;
     made = λ p y v there is done x makes. f.touched p v x there (made_by makes) ∙ agrees.made p y v there is (known y Committed done) x makes;

@@ -6,7 +6,7 @@ use Rattle.std.proofs.lemmas.Option.{same_Some, none-some}
 use Rattle.tuple_header.specs.declared.version.Row.{Row}
 use Rattle.history.specs.History.{IsLate}
 use Rattle.history.specs.World.{World, OpenSession, own_write, view, Holds, IsWriter, MayWrite, world_sessions, start_now}
-use Rattle.history.specs.Moves.{put, as_failed}
+use Rattle.history.specs.Moves.{put, change, as_failed}
 use Rattle.calls.specs.declared.step.Step.TheVariants as step
 use Rattle.calls.specs.declared.reply.Reply.TheVariants as reply
 use Rattle.calls.specs.declared.reply.Refusal.{Refusal}
@@ -93,12 +93,18 @@ late_for h w s e k at agrees some = subst (λ k. IsLate w.history (start_now w.h
 pub in_time : (h : Heap) (w : World) (s : ℕ) (e : SeenSession) (k : ℕ) (at : h.session s ≡ Some e) (agrees : HeapAgrees h w) → ¬ IsLateFor h e k → ¬ IsLate w.history (start_now w.history (agrees.opened s e at).0) k
 in_time h w s e k at agrees none late = none ((agrees.opened s e at).2.traces.late_missed k late)
 
+-- a session fails, as the model's does
+pub Agrees-fails : (h : Heap) (w : World) (s : ℕ) (e : SeenSession) (session' : ℕ → Option SeenSession) → OnlyIs h.session session' s (Some (record e { failed = true })) → h.session s ≡ Some e
+    → HeapAgrees h w → HeapAgrees (record h { session = session' }) (change w s as_failed)
+Agrees-fails h w s e session' only at agrees = let open_ = agrees.opened s e at in
+    subst (λ o. HeapAgrees (record h { session = session' }) (put w s (option_map as_failed o))) (sym open_.1)
+    (Agrees-fail h w s e open_.0 session' only at open_.1 open_.2 agrees)
+
 pub Follows-conflict : (h : Heap) (s : ℕ) (e : SeenSession) (write : WriteStep) (found : Option Row) (session' : ℕ → Option SeenSession) → BeginsWrite h s e (key_of write) found → Asks write found → IsLateFor h e (key_of write)
     → OnlyIs h.session session' s (Some (record e { failed = true })) → HeapFollows h (step_of s write) (reply.Refused refusal.Conflict) (record h { session = session' })
-Follows-conflict h s e write found session' b asks late only = Follows-refused h (record h { session = session' }) s refusal.Conflict write (λ w agrees. let open_ = agrees.opened s e b.at in (
-  (open_.0, suits h w s e write found b agrees asks, late_for h w s e (key_of write) b.at agrees late),
-  subst (λ o. HeapAgrees (record h { session = session' }) (put w s (option_map as_failed o))) (sym open_.1)
-      (Agrees-fail h w s e open_.0 session' only b.at open_.1 open_.2 agrees),
+Follows-conflict h s e write found session' b asks late only = Follows-refused h (record h { session = session' }) s refusal.Conflict write (λ w agrees. (
+  ((agrees.opened s e b.at).0, suits h w s e write found b agrees asks, late_for h w s e (key_of write) b.at agrees late),
+  Agrees-fails h w s e session' only b.at agrees,
 ))
 
 -- whoever has the id holds the key

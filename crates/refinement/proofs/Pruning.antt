@@ -150,7 +150,6 @@ pub Agrees-prune : (h : Heap) (w : World) (store' : Tid → Option Version) → 
 Agrees-prune h w store' removes agrees = record {
   opened = λ s e at. let open_ = agrees.opened s e at in (open_.0, open_.1, SessionAgrees-prune e open_.0 removes (λ own active. statement_reader h s e own at active) (λ some. cursor_reader h s e at (open_.2.kept some) open_.2.own_active) agrees.made open_.2);
   idle = agrees.idle;
-  waits = agrees.waits;
   current = Shows-removes removes unseen agrees.current;
   made = λ p y v at. agrees.made p y v (removes.kept p v at);
   given = λ p x v at. agrees.given p x v (removes.kept p v at);

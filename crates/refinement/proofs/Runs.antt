@@ -1,9 +1,9 @@
 -- A run of steps and replies is a run of the history.
 use Rattle.std.proofs.Common.{◌≡◌, ℕ, ◌<◌, ◌≤◌, length, arith, List, [], ◌∷◌, Option, Some, None, Bool, false, refl, sym, ap, ◌∙◌, subst}
-use Rattle.std.proofs.lemmas.Option.{none-some}
-use Rattle.history.specs.World.{World, OpenSession, beginning, MayIndex}
+use Rattle.std.proofs.lemmas.Option.{none-some, same_Some}
+use Rattle.history.specs.World.{World, OpenSession, beginning, MayIndex, IsBlocked, ClosesRing}
 use Rattle.history.specs.Moves.{free_to_scan, with_index_on}
-use Rattle.history.specs.Events.{Happens, passes, begins, begins_by_statement, conflicts, saves, rolls_back_to, releases, commits, aborts, opens_index, opens_heap, takes, closes, StepsReach, stays, goes_on}
+use Rattle.history.specs.Events.{Happens, passes, begins, begins_by_statement, conflicts, waits, deadlocks, saves, rolls_back_to, releases, commits, aborts, opens_index, opens_heap, takes, closes, StepsReach, stays, goes_on}
 use Rattle.history.specs.Events as events
 use Rattle.history.proofs.HistoryLemmas.{at_other}
 use Rattle.history.proofs.RunLemmas.{Lawful-beginning, Lawful-run, indexes-step, makes_on}
@@ -16,7 +16,7 @@ use Rattle.calls.specs.declared.reply.Refusal.TheVariants as refusal
 use Rattle.calls.specs.Words.{row_of}
 use Rattle.calls.specs.Writes.{WriteStep, inserts, updates, deletes, key_of}
 use Rattle.calls.specs.Steps.{session_of}
-use Rattle.refinement.specs.Allowed.{savepoints, passed, Allows, AllowsHindered, after_refused_write, next, IsRun, after, IsLawful}
+use Rattle.refinement.specs.Allowed.{savepoints, passed, Allows, AllowsHindered, after_refused_write, next, AllowsReply, waiting, failing, after_reply, IsRun, after, IsRunWithoutWaits, after_without_waits, IsLawful}
 
 refused_happens : (w : World) (s : ℕ) (write : WriteStep) (r : Refusal) → AllowsHindered w s r write → Happens w s (after_refused_write w s r)
 refused_happens w s write refusal.Conflict allows = conflicts (key_of write) allows.0 allows.1.writer allows.2
@@ -68,11 +68,52 @@ reached from w step run stays_so = run
 reached from w step run (by_making c is may) = makes_on from w c run may
 reached from w step run (by_session {after} s happens) = goes_on w after s run happens
 
+-- what Busy tells: another open session holds the key that the step would write
+pub record Blocked (w : World) (step : Step) (o : ℕ) : Type 0 where
+  pub session : ℕ
+  pub of : session_of step ≡ Some session
+  pub key : ℕ
+  pub model : OpenSession
+  pub blocked : IsBlocked w session key o model
+
+blocked_by_write : (w : World) (step : Step) (s o : ℕ) (write : WriteStep) → session_of step ≡ Some s → AllowsHindered w s (refusal.Busy o) write → Blocked w step o
+blocked_by_write w step s o write of allows = record { session = s; of = of; key = key_of write; model = allows.0; blocked = allows.2 }
+
+pub blocked_of : (w : World) (step : Step) (o : ℕ) → Allows w step (reply.Refused (refusal.Busy o)) → Blocked w step o
+blocked_of w (step.Insert s row) o allows = blocked_by_write w (step.Insert s row) s o (inserts row) refl allows
+blocked_of w (step.Update s row) o allows = blocked_by_write w (step.Update s row) s o (updates row) refl allows
+blocked_of w (step.Delete s k) o allows = blocked_by_write w (step.Delete s k) s o (deletes k) refl allows
+blocked_of w _ o allows = absurd allows
+
+-- a session is told that it waits, or that it would close a ring
+leads_to_wait : (w : World) (step : Step) (o : ℕ) → AllowsReply w step (reply.Refused (refusal.Busy o)) → LeadsTo w step (waiting w (session_of step) o)
+leads_to_wait w step o allows =
+    let b = blocked_of w step o allows.0 in
+    subst (λ t. LeadsTo w step (waiting w t o)) (sym b.of) (by_session b.session (waits b.key o b.model b.blocked (allows.1 b.session b.of)))
+
+leads_to_deadlock : (w : World) (step : Step) → AllowsReply w step (reply.Refused refusal.Deadlock) → LeadsTo w step (failing w (session_of step))
+leads_to_deadlock w step allows =
+    let b = blocked_of w step allows.1 allows.3 in
+    let same : allows.0 ≡ b.session = same_Some allows.0 b.session (sym allows.2 ∙ b.of) in
+    subst (λ t. LeadsTo w step (failing w t)) (sym b.of)
+    (by_session b.session (deadlocks b.key allows.1 b.model b.blocked (subst (λ s. ClosesRing w.waits_for s allows.1) same allows.4)))
+
+leads_on_reply : (w : World) (step : Step) (reply : Reply) → AllowsReply w step reply → LeadsTo w step (after_reply w step reply)
+leads_on_reply w step (reply.Refused (refusal.Busy o)) allows = leads_to_wait w step o allows
+leads_on_reply w step (reply.Refused refusal.Deadlock) allows = leads_to_deadlock w step allows
+leads_on_reply w step reply allows = leads_on w step reply allows
+
 leads : (from w : World) (steps : List Step) (replies : List Reply) → StepsReach from w → IsRun w steps replies → StepsReach from (after w steps replies)
 leads from w [] [] run ok = run
 leads from w [] (r ∷ rs) run ok = absurd ok
 leads from w (s ∷ ss) [] run ok = absurd ok
-leads from w (s ∷ ss) (r ∷ rs) run ok = leads from (next w s r) ss rs (reached from w s run (leads_on w s r ok.0)) ok.1
+leads from w (s ∷ ss) (r ∷ rs) run ok = leads from (after_reply w s r) ss rs (reached from w s run (leads_on_reply w s r ok.0)) ok.1
+
+leads_without_waits : (from w : World) (steps : List Step) (replies : List Reply) → StepsReach from w → IsRunWithoutWaits w steps replies → StepsReach from (after_without_waits w steps replies)
+leads_without_waits from w [] [] run ok = run
+leads_without_waits from w [] (r ∷ rs) run ok = absurd ok
+leads_without_waits from w (s ∷ ss) [] run ok = absurd ok
+leads_without_waits from w (s ∷ ss) (r ∷ rs) run ok = leads_without_waits from (next w s r) ss rs (reached from w s run (leads_on w s r ok.0)) ok.1
 
 -- the same indexes are there, and the same are too new for each session that is open
 pub record KeepsScans (w after : World) : Type 0 where
@@ -106,9 +147,16 @@ kept_scans w step none (by_making c is may) = absurd (subst MakesNoIndex is none
 pub same_indexes : (w : World) (step : Step) (reply : Reply) → MakesNoIndex step → Allows w step reply → KeepsScans w (next w step reply)
 same_indexes w step reply none allows = kept_scans w step none (leads_on w step reply allows)
 
-pub lawful : (columns : List Bool) (steps : List Step) (replies : List Reply) → IsRun (beginning columns) steps replies → IsLawful (after (beginning columns) steps replies)
-lawful columns steps replies run = let h = Lawful-run (leads (beginning columns) (beginning columns) steps replies stays run) (Lawful-beginning columns) in record {
+lawful_where : (columns : List Bool) (w : World) → StepsReach (beginning columns) w → IsLawful w
+lawful_where columns w reach = let h = Lawful-run reach (Lawful-beginning columns) in record {
   first_committer_wins = h.first;
   held_in_time = λ s m write at among. h.in_time s m write at among;
   held_once = h.once;
 }
+
+pub lawful : (columns : List Bool) (steps : List Step) (replies : List Reply) → IsRun (beginning columns) steps replies → IsLawful (after (beginning columns) steps replies)
+lawful columns steps replies run = lawful_where columns (after (beginning columns) steps replies) (leads (beginning columns) (beginning columns) steps replies stays run)
+
+pub lawful_without_waits : (columns : List Bool) (steps : List Step) (replies : List Reply) → IsRunWithoutWaits (beginning columns) steps replies → IsLawful (after_without_waits (beginning columns) steps replies)
+lawful_without_waits columns steps replies run =
+    lawful_where columns (after_without_waits (beginning columns) steps replies) (leads_without_waits (beginning columns) (beginning columns) steps replies stays run)

@@ -1,6 +1,6 @@
 -- What setting a savepoint, returning to it and releasing it do to the agreement.
 use Rattle.std.proofs.Common.{◌≡◌, ℕ, List, [], ◌∷◌, slice_get, Option, Some, None, false, refl, sym, ap, subst, inl, inr}
-use Rattle.std.specs.Prelude.{IsSome, Contains, not, ◌==◌}
+use Rattle.std.specs.Prelude.{IsSome, Contains}
 use Rattle.std.specs.Option.{option_map}
 use Rattle.std.proofs.lemmas.List.{append-nil}
 use Rattle.xid_circle.specs.declared.Tid.{Tid}
@@ -10,8 +10,7 @@ use Rattle.commit_status.specs.declared.status.Status.TheVariants.{Aborted}
 use Rattle.snapshot.specs.Snap.{Snap}
 use Rattle.history.specs.History.{Write, Transaction, written}
 use Rattle.history.specs.World.{World, OpenSession, joined, own_write, start_now}
-use Rattle.history.specs.Moves.{put, change, awaited_no_more, with_savepoint, empty_newest, to_savepoint, rolled_back_to, join_newest, without_savepoint}
-use Rattle.history.specs.Cursors.{kept_where}
+use Rattle.history.specs.Moves.{put, change, with_savepoint, empty_newest, to_savepoint, rolled_back_to, join_newest, without_savepoint}
 use Rattle.history.proofs.HistoryLemmas.{joined-join_newest}
 use Rattle.history.proofs.HistoryLemmas.{fewer-written}
 use Rattle.history.proofs.RunLemmas.{fewer-empty_newest}
@@ -26,7 +25,7 @@ use Rattle.refinement.proofs.Traces.{TracesAgree-same}
 use Rattle.refinement.proofs.Isolations.{SameSights, CursorReads-to, statement_same, committed_sight-abort}
 use Rattle.refinement.proofs.Others.{same_reader, reads_before, unseen-finished}
 use Rattle.refinement.proofs.Itself.{saved_within}
-use Rattle.refinement.proofs.Steps.{OnlyIs, same_sights, cases_Contains, Agrees-put}
+use Rattle.refinement.proofs.Steps.{OnlyIs, same_sights, cases_Contains, Agrees-put, Agrees-waits}
 
 -- without the newest level no more keys are written
 fewer_keys : (levels : List (List Write)) (k : ℕ) → IsSome (written (joined (empty_newest levels)) k) → IsSome (written (joined levels) k)
@@ -141,20 +140,6 @@ Agrees-change h w s e e' f status' sees' session' only at finishes same fewer ke
     subst (λ o. HeapAgrees (record h { status = status'; sees = sees'; session = session' }) (put w s (option_map f o))) (sym open_.1)
     (Agrees-put h w s e e' open_.0 (f open_.0) status' sees' session' only at open_.1 finishes same (fewer open_.0 open_.2) (kept open_.0) (mine open_.0 open_.2) agrees)
 
--- nobody waits for a session
-Agrees-awaited_no_more : (h : Heap) (w : World) (s : ℕ) → HeapAgrees h w → HeapAgrees h (awaited_no_more w s)
-Agrees-awaited_no_more h w s agrees = record {
-  opened = agrees.opened;
-  idle = agrees.idle;
-  waits = λ t. ap (λ o. kept_where (λ p. not (p == s)) o) (agrees.waits t);
-  current = agrees.current;
-  made = agrees.made;
-  given = agrees.given;
-  owned = agrees.owned;
-  apart = agrees.apart;
-  alone = agrees.alone;
-}
-
 -- a session sets a savepoint
 pub Agrees-save : (h : Heap) (w : World) (s : ℕ) (e : SeenSession) (session' : ℕ → Option SeenSession)
     → OnlyIs h.session session' s (Some (record e { saved = e.own ∷ e.saved })) → h.session s ≡ Some e
@@ -169,7 +154,7 @@ pub Agrees-roll_back : (h : Heap) (w : World) (s : ℕ) (e : SeenSession) (befor
     → FinishesIds h.status status' (λ x. Contains e.own x × (¬ Contains before x)) Aborted → SameSights h sees'
     → HeapAgrees h w → HeapAgrees (record h { status = status'; sees = sees'; session = session' }) (rolled_back_to w s)
 Agrees-roll_back h w s e before older status' sees' session' only at is bare finishes same agrees =
-    Agrees-awaited_no_more (record h { status = status'; sees = sees'; session = session' }) (change w s to_savepoint) s
+    Agrees-waits (record h { status = status'; sees = sees'; session = session' }) (change w s to_savepoint) (rolled_back_to w s).waits_for
     (Agrees-change h w s e (record e { own = before; failed = false }) to_savepoint status' sees' session' only at finishes same
     (λ m mine. saved_within before mine (ap (λ saved. slice_get saved 0) is))
     (λ m k wrote. fewer_keys m.levels k wrote) (λ m mine. SessionAgrees-roll_back before older is bare finishes (statement_same h status' sees' s e at same (committed_sight-abort (λ x. Contains e.own x × (¬ Contains before x)) finishes)) mine) agrees)

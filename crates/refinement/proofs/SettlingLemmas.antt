@@ -180,7 +180,6 @@ module _ (h : Heap) where
     Agrees-settles w agrees = record {
       opened = λ s e at. let open_ = agrees.opened s e at in (open_.0, open_.1, SessionAgrees-settles e open_.0 (statement_settles s e at) (λ some. cursor_settles s e at (open_.2.kept some)) open_.2);
       idle = agrees.idle;
-      waits = agrees.waits;
       current = Shows-settles (record { settled = λ x done all. done; none_aborted = λ x gone done. aborted_not_committed h.status x gone done }) agrees.current;
       made = λ p y u at is done x makes. let v = settles.back p u at in made p y v.0 u v.1 v.2.inserter v.2.deleter is done x makes;
       given = λ p x u at touch. let v = settles.back p u at in agrees.given p x v.0 v.1 (touch-back x v.0 u v.2 touch);

@@ -40,7 +40,6 @@ pub Agrees-sights : (h : Heap) (w : World) (sees' : Snap → ℕ → Type 0) →
 Agrees-sights h w sees' same agrees = record {
   opened = λ s e at. let open_ = agrees.opened s e at in (open_.0, open_.1, SessionAgrees-sights (statement_same h h.status sees' s e at same (λ x status is. (λ done. done, λ done. done))) (λ some. cursor_same h h.status sees' s e at same (open_.2.kept some)) open_.2);
   idle = agrees.idle;
-  waits = agrees.waits;
   current = agrees.current;
   made = agrees.made;
   given = agrees.given;

@@ -1,5 +1,5 @@
 -- Each step keeps the engine's agreement with the model.
-use Rattle.std.proofs.Common.{◌≡◌, ◌≢◌, ℕ, List, [], ◌∷◌, ◌++◌, length, Option, Some, None, Bool, true, cond, nat_eq, refl, sym, ap, ◌∙◌, subst, ◌⊎◌, inl, inr}
+use Rattle.std.proofs.Common.{◌≡◌, ◌≢◌, ℕ, List, [], ◌∷◌, ◌++◌, length, Option, Some, None, Bool, true, refl, sym, ap, ◌∙◌, subst, ◌⊎◌, inl, inr}
 use Rattle.std.specs.Prelude.{IsSome, Contains}
 use Rattle.std.proofs.lemmas.Bool.{cases_eq}
 use Rattle.std.proofs.lemmas.Option.{same_Some, none-some}
@@ -12,9 +12,7 @@ use Rattle.commit_status.specs.declared.status.Status.TheVariants.{InProgress, C
 use Rattle.snapshot.specs.Snap.{Snap}
 use Rattle.history.specs.History.{Write, Transaction, written, reading, IsLate}
 use Rattle.history.specs.World.{World, Isolation, by_snapshot, by_statement, OpenSession, joined, own_write, Holds, beginning, start_by, start_now}
-use Rattle.history.specs.Moves.{put, stepped, free_to_scan, new_session as new_model, begun, begun_by_statement, with_row, as_failed, aborted}
-use Rattle.history.specs.Cursors.{kept_where}
-use Rattle.std.specs.Prelude.{not, ◌==◌}
+use Rattle.history.specs.Moves.{put, free_to_scan, new_session as new_model, begun, begun_by_statement, with_row, as_failed, aborted}
 use Rattle.history.proofs.HistoryLemmas.{at_same, at_other, joined-add_write}
 use Rattle.refinement.specs.Heap.{SeenIsolation, seen_by_snapshot, seen_by_statement, SeenSession, Heap, SightOfStatement, SightOfCursor, StatementSees, CursorSees}
 use Rattle.visibility.specs.Seeing.{HasCommitted, IsRunning, Touches, deleter}
@@ -36,15 +34,6 @@ use Rattle.refinement.proofs.SessionsLemmas.{at_value, Matches, opened-change, i
 pub record OnlyIs (before after : ℕ → Option SeenSession) (s : ℕ) (now : Option SeenSession) : Type 0 where
   pub others : (o : ℕ) → o ≢ s → after o ≡ before o
   pub itself : after s ≡ now
-
-pub waits-put : (w : World) (s : ℕ) → ((t : ℕ) → w.waits_for t ≡ None) → (t : ℕ) → (stepped w s).waits_for t ≡ None
-waits-put w s none t = elim (cases_eq t s) [
-  | inl same ↦ ap (λ t. cond (nat_eq t s) None (w.waits_for t)) same ∙ at_same s None (w.waits_for s)
-  | inr ne ↦ at_other t s None (w.waits_for t) ne ∙ none t
-]
-
-pub waits-aborted : (w : World) (s : ℕ) → ((t : ℕ) → w.waits_for t ≡ None) → (t : ℕ) → (aborted w s).waits_for t ≡ None
-waits-aborted w s none t = ap (λ o. kept_where (λ p. not (p == s)) o) (waits-put w s none t)
 
 pub cases_Contains : (xs : List ℕ) (x : ℕ) → Contains xs x ⊎ (¬ Contains xs x)
 cases_Contains [] x = inr (Contains-none x)
@@ -74,12 +63,24 @@ pub own_traced : {status : ℕ → Option Status} {store : Tid → Option Versio
 own_traced {status} {store} {history} {sees} {cursor_sees} {start} {e} {m} h =
     levels_traced store e.own e.saved m.levels (nested_of status store history sees start e.own e.saved m.levels h.levels) h.level_traces
 
+-- whoever waits for whom
+pub Agrees-waits : (h : Heap) (w : World) (waits : ℕ → Option ℕ) → HeapAgrees h w → HeapAgrees h (record w { waits_for = waits })
+Agrees-waits h w waits agrees = record {
+  opened = agrees.opened;
+  idle = agrees.idle;
+  current = agrees.current;
+  made = agrees.made;
+  given = agrees.given;
+  owned = agrees.owned;
+  apart = agrees.apart;
+  alone = agrees.alone;
+}
+
 -- whatever indexes there are, and for whomever they are too new
 pub Agrees-indexes : (h : Heap) (w : World) (had : ℕ → Bool) (too_new : ℕ → ℕ → Bool) → HeapAgrees h w → HeapAgrees h (record w { has_index = had; too_new = too_new })
 Agrees-indexes h w had too_new agrees = record {
   opened = agrees.opened;
   idle = agrees.idle;
-  waits = agrees.waits;
   current = agrees.current;
   made = agrees.made;
   given = agrees.given;
@@ -101,7 +102,6 @@ Agrees-opens h w s isolation model session' only idle same start fresh agrees = 
             (SessionAgrees-begin isolation model same fresh agrees.current agrees.made),
       ));
   idle = idle-change h h' w w' s agrees only.others models (λ at. absurd (none-some (new_session isolation) (sym at ∙ only.itself)));
-  waits = waits-put w s agrees.waits;
   current = agrees.current;
   made = agrees.made;
   given = agrees.given;
@@ -145,7 +145,6 @@ Agrees-put h w s e e' m m' status' sees' session' only at there finishes same fe
       (λ some. cursor_same h status' sees' o f bt same (old.kept some)) (λ x p theirs. ne (agrees.apart o s f e x bt at theirs p.0)) old)
       (λ f. at_value (λ f. Matches h' w' s f) (session' s) e' f only.itself (m', at_same s (Some m') (w.session s), mine));
   idle = idle-change h h' w w' s agrees only.others models (λ at'. absurd (none-some e' (sym at' ∙ only.itself)));
-  waits = waits-put w s agrees.waits;
   current = Shows-same (λ p v at' seen. VisibleBy-same (λ y touch. to y) (λ y touch. back y) seen) (λ p v at' seen. VisibleBy-same (λ y touch. back y) (λ y touch. to y) seen) (λ k. refl) agrees.current;
   made = λ p y v at' is done z inserter. to z (agrees.made p y v at' is (back y done) z inserter);
   given = λ p y v at' touch. given-finish finishes y (agrees.given p y v at' touch);
@@ -202,7 +201,6 @@ Agrees-give_below h w s e n x status' sees' session' only at gives same unseen a
             (λ some. cursor_same h status' sees' s e at same (old.2.kept some)) (λ some. cursor_unseen h status' sees' s e x at unseen (old.2.kept some)) agrees.given old.2,
       ));
   idle = idle-change h h' w w s agrees only.others (λ o ne. refl) (λ at'. absurd (none-some new (sym at' ∙ only.itself)));
-  waits = agrees.waits;
   current = Shows-same (λ p v bt seen. VisibleBy-same (λ y touch. to y) (λ y touch. back y) seen) (λ p v bt seen. VisibleBy-same (λ y touch. back y) (λ y touch. to y) seen) (λ k. refl) agrees.current;
   made = λ p y v bt is done z inserter. to z (agrees.made p y v bt is (back y done) z inserter);
   given = λ p y v bt touch. given-give gives y (agrees.given p y v bt touch);
@@ -247,7 +245,6 @@ Agrees-insert h w s e m x place new store' adds is_new at current there bare non
       subst (λ e. Matches h' w' s e) is
       (with_row w.history new.row m, at_same s (Some (with_row w.history new.row m)) (w.session s), SessionAgrees-insert x place new adds is_new current bare none in_time mine));
   idle = idle-change h h' w w' s agrees (λ o ne. refl) models (λ at'. absurd (none-some e (sym at' ∙ at)));
-  waits = waits-put w s agrees.waits;
   current = Shows-add_unseen adds (λ p v bt seen. seen) (λ p v bt seen. seen) (λ seen. active_not_committed h.status x active (seen.made x is_new.made)) agrees.current;
   made = λ p y u at' is done. elim (Adds-cases adds p u at') [
     | inl old ↦ agrees.made p y u old is done
@@ -296,7 +293,6 @@ Agrees-abort h w s e status' sees' session' only at finishes same agrees = recor
       (λ some. cursor_same h status' sees' o f bt same (old.kept some)) (λ x mine theirs. ne (agrees.apart o s f e x bt at theirs mine)) old)
       (λ e' at'. absurd (none-some e' (sym only.itself ∙ at')));
   idle = idle-change h h' w w' s agrees only.others models (λ at'. at_same s None (w.session s));
-  waits = waits-aborted w s agrees.waits;
   current = Shows-same (λ p v at' seen. VisibleBy-same (λ y touch. to y) (λ y touch. back y) seen) (λ p v at' seen. VisibleBy-same (λ y touch. back y) (λ y touch. to y) seen) (λ k. refl) agrees.current;
   made = λ p y v at' is done z inserter. to z (agrees.made p y v at' is (back y done) z inserter);
   given = λ p y v at' touch. given-finish finishes y (agrees.given p y v at' touch);
@@ -326,7 +322,6 @@ pub Agrees-beginning : (h : Heap) (columns : List Bool) → ((p : Tid) → h.ver
 Agrees-beginning h columns bare unused idle = record {
   opened = λ s e at. absurd (none-some e (sym (idle s) ∙ at));
   idle = λ s at. refl;
-  waits = λ s. refl;
   current = record {
     sound = λ p v at seen. absurd (none-some v (sym (bare p) ∙ at));
     there = λ k r is. absurd (none-some r is);

@@ -19,7 +19,7 @@ use Rattle.refinement.proofs.Readers.{IsNew, IsDeleted, ReaderAgrees-same, writt
 use Rattle.refinement.proofs.Isolations.{CursorReads-to}
 use Rattle.refinement.proofs.LevelTraces.{Traced-same}
 use Rattle.refinement.proofs.Itself.{IsCurrent}
-use Rattle.refinement.proofs.Steps.{waits-put, Agrees-insert}
+use Rattle.refinement.proofs.Steps.{Agrees-insert}
 use Rattle.refinement.proofs.Deleting.{Agrees-delete}
 
 -- a write hides the one of its key before it
@@ -80,10 +80,10 @@ SessionAgrees-forget {status} {store} {history} {sees} {cursor_sees} {start} {e}
 }
 
 -- the engine cannot tell
-Agrees-forget : (h : Heap) (w w' : World) (s : ℕ) (old new : Write) (m : OpenSession) → new.key ≡ old.key → w'.history ≡ w.history → ((t : ℕ) → w'.waits_for t ≡ None)
+Agrees-forget : (h : Heap) (w w' : World) (s : ℕ) (old new : Write) (m : OpenSession) → new.key ≡ old.key → w'.history ≡ w.history
     → w.session s ≡ Some (adding new (adding old m)) → w'.session s ≡ Some (adding new m) → ((o : ℕ) → o ≢ s → w'.session o ≡ w.session o)
     → HeapAgrees h w → HeapAgrees h w'
-Agrees-forget h w w' s old new m same history waits there now others agrees = record {
+Agrees-forget h w w' s old new m same history there now others agrees = record {
   opened = λ o e at. let before = agrees.opened o e at in elim (cases_eq o s) [
     | inl is ↦ (let model : before.0 ≡ adding new (adding old m) = same_Some before.0 (adding new (adding old m)) (sym before.1 ∙ (ap w.session is ∙ there)) in (
       adding new m,
@@ -97,7 +97,6 @@ Agrees-forget h w w' s old new m same history waits there now others agrees = re
     | inl is ↦ absurd (none-some (adding new (adding old m)) (sym (agrees.idle o at) ∙ (ap w.session is ∙ there)))
     | inr ne ↦ others o ne ∙ agrees.idle o at
   ];
-  waits = waits;
   current = rw history agrees.current;
   made = agrees.made;
   given = agrees.given;
@@ -122,7 +121,7 @@ pub Agrees-replace : (h : Heap) (w : World) (s : ℕ) (e : SeenSession) (m : Ope
     → HeapAgrees h w → HeapAgrees (record h { version = store' }) (put w s (Some (with_row w.history new.row m)))
 Agrees-replace h w s e m x place q old old' new between store' alters deleted adds is_new key at current there bare seen in_time unheld mine agrees =
     Agrees-forget (record h { version = store' }) w₂ (put w s (Some (with_row w.history new.row m))) s (record { start = start_now w.history m; key = old.row.key; row = None }) (record { start = start_now w.history m; key = new.row.key; row = Some new.row }) m key
-    refl (waits-put w s agrees.waits) (at_same s (Some (with_row w.history new.row m₁)) (w₁.session s)) (at_same s (Some (with_row w.history new.row m)) (w.session s))
+    refl (at_same s (Some (with_row w.history new.row m₁)) (w₁.session s)) (at_same s (Some (with_row w.history new.row m)) (w.session s))
     (λ o ne. at_other o s (Some (with_row w.history new.row m)) (w.session o) ne ∙ (sym (at_other o s (Some m₁) (w.session o) ne) ∙ sym (at_other o s (Some (with_row w.history new.row m₁)) (w₁.session o) ne)))
     inserted
   where

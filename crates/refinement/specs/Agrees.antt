@@ -94,8 +94,6 @@ pub record HeapAgrees (h : Heap) (w : World) : Type 0 where
       × SessionAgrees h.status h.version w.history (StatementSees h e.isolation) (start_now w.history m) (CursorSees h e.isolation) e m
   -- same sessions
   pub idle : (s : ℕ) → h.session s ≡ None → w.session s ≡ None
-  -- no wait is recorded yet
-  pub waits : (s : ℕ) → w.waits_for s ≡ None
   -- a new session would read what is committed
   pub current : Shows h.version (λ v. VisibleBy (HasCommitted h.status) v.header) (committed w.history (length w.history))
   -- whose deletion is committed, its making is

@@ -1,9 +1,9 @@
 -- Which replies the history allows to a step, and what the world is after each.
 use Rattle.std.specs.Prelude.{◌≡◌, ℕ, ◌-◌, ◌<◌, ◌≤◌, List, [], ◌∷◌, length, Option, Some, None, Bool, true, false, IsSome, ◌<ℤ◌, ◌≤ℤ◌}
 use Rattle.history.specs.History.{IsLate}
-use Rattle.history.specs.World.{World, OpenSession, Cursor, beginning, start_now, view, LacksIndex, MayIndex, MayScan, IsReady, IsWriter, MayWrite, IsBlocked, world_sessions}
+use Rattle.history.specs.World.{World, OpenSession, Cursor, beginning, start_now, view, LacksIndex, MayIndex, MayScan, ClosesRing, IsReady, IsWriter, MayWrite, IsBlocked, world_sessions}
 use Rattle.history.specs.Cursors.{keys_of, IsOver, HandsOutPart}
-use Rattle.history.specs.Moves.{stepped, begun, begun_by_statement, change, with_row, without_row, as_failed, with_savepoint, rolled_back_to, without_savepoint, aborted, committed_by, with_index_cursor, with_heap_cursor, with_taken, without_cursor, with_index_on}
+use Rattle.history.specs.Moves.{stepped, begun, begun_by_statement, blocked_by, change, with_row, without_row, as_failed, with_savepoint, rolled_back_to, without_savepoint, aborted, committed_by, with_index_cursor, with_heap_cursor, with_taken, without_cursor, with_index_on}
 use Rattle.history.specs.Laws.{FirstCommitterWins, HeldInTime, HeldOnce}
 use Rattle.calls.specs.declared.step.Step.{Step}
 use Rattle.calls.specs.declared.step.Step.TheVariants as step
@@ -154,16 +154,51 @@ next w (step.Close s) reply.Done = change w s without_cursor
 next w (step.CreateIndex c) reply.Done = with_index_on w c
 next w step reply = passed w (session_of step)
 
+-- Who waits for whom. All that is said above is so whoever waits. Where another open session holds the key, the session waits for
+-- it, unless that wait would close a ring: then the answer is Deadlock, and the session has failed
+abbrev pub AllowsReply : World → Step → Reply → Type 0
+AllowsReply w step (reply.Refused (refusal.Busy o)) = Allows w step (reply.Refused (refusal.Busy o))
+    × ((s : ℕ) → session_of step ≡ Some s → ¬ ClosesRing w.waits_for s o)
+AllowsReply w step (reply.Refused refusal.Deadlock) = (s o : ℕ) × (session_of step ≡ Some s)
+    × Allows w step (reply.Refused (refusal.Busy o)) × ClosesRing w.waits_for s o
+AllowsReply w step reply = Allows w step reply
+
+-- the session of the step waits for o
+abbrev pub waiting : World → Option ℕ → (o : ℕ) → World
+waiting w None o = w
+waiting w (Some s) o = blocked_by w s o
+
+-- the session of the step has failed
+abbrev pub failing : World → Option ℕ → World
+failing w None = w
+failing w (Some s) = change w s as_failed
+
+-- the world after the reply, and who waits then
+abbrev pub after_reply : World → Step → Reply → World
+after_reply w step (reply.Refused (refusal.Busy o)) = waiting w (session_of step) o
+after_reply w step (reply.Refused refusal.Deadlock) = failing w (session_of step)
+after_reply w step reply = next w step reply
+
 -- the history allows the replies to the steps, one after another
 abbrev pub IsRun : World → List Step → List Reply → Type 0
 IsRun w [] [] = Unit {0}
-IsRun w (step ∷ steps) (reply ∷ replies) = Allows w step reply × IsRun (next w step reply) steps replies
+IsRun w (step ∷ steps) (reply ∷ replies) = AllowsReply w step reply × IsRun (after_reply w step reply) steps replies
 IsRun w steps replies = ⊥
 
 -- the world after them
 abbrev pub after : World → List Step → List Reply → World
-after w (step ∷ steps) (reply ∷ replies) = after (next w step reply) steps replies
+after w (step ∷ steps) (reply ∷ replies) = after (after_reply w step reply) steps replies
 after w steps replies = w
+
+-- the same of an engine that lets nobody wait, and never answers Deadlock
+abbrev pub IsRunWithoutWaits : World → List Step → List Reply → Type 0
+IsRunWithoutWaits w [] [] = Unit {0}
+IsRunWithoutWaits w (step ∷ steps) (reply ∷ replies) = Allows w step reply × IsRunWithoutWaits (next w step reply) steps replies
+IsRunWithoutWaits w steps replies = ⊥
+
+abbrev pub after_without_waits : World → List Step → List Reply → World
+after_without_waits w (step ∷ steps) (reply ∷ replies) = after_without_waits (next w step reply) steps replies
+after_without_waits w steps replies = w
 
 -- what is so of the world after any run from a beginning
 pub record IsLawful (w : World) : Type 0 where
@@ -174,3 +209,7 @@ pub record IsLawful (w : World) : Type 0 where
 abbrev pub RunsAreLawful : Type 0
 RunsAreLawful = (columns : List Bool) (steps : List Step) (replies : List Reply) → IsRun (beginning columns) steps replies
     → IsLawful (after (beginning columns) steps replies)
+
+abbrev pub RunsWithoutWaitsAreLawful : Type 0
+RunsWithoutWaitsAreLawful = (columns : List Bool) (steps : List Step) (replies : List Reply)
+    → IsRunWithoutWaits (beginning columns) steps replies → IsLawful (after_without_waits (beginning columns) steps replies)

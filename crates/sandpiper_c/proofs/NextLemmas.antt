@@ -42,9 +42,9 @@ hands-rows old new s places after answer next same = record {
   exact = next.exact;
   vacuum = next.vacuum;
   same_reply = same;
-  status = ap number_of_status (status-same old.engine.core new.engine.core s (length places) answer next.reply next.exact next.written.answers);
+  status = ap number_of_status (status-same old.engine.engine.core new.engine.engine.core s (length places) answer next.reply next.exact next.written.answers);
   rows = next.written.rows;
-  number = count-same old.engine.core new.engine.core s (length places) answer next.reply next.exact next.written.answers;
+  number = count-same old.engine.engine.core new.engine.engine.core s (length places) answer next.reply next.exact next.written.answers;
 }
 
 -- where there is a place

@@ -62,7 +62,7 @@ page_numbered st number = slice_get st.heap.pages.pages number
 
 abbrev pub page_by : Option Held → PageNo → Option PageView
 page_by None number = None
-page_by (Some held) number = page_numbered held.engine.core number
+page_by (Some held) number = page_numbered held.engine.engine.core number
 
 abbrev pub ShowsBytesOf : Sandpiper → PageNo → List ℕ → (code : ℕ) → List ℕ → Type 0
 ShowsBytesOf table number old code new = ShowsBytes (page_by (held_by table) number) old code new

@@ -54,6 +54,7 @@ number_of_refusal refusal.VacuumRunning = 34
 number_of_refusal refusal.NoVacuum = 35
 number_of_refusal refusal.IndexTooNew = 36
 number_of_refusal refusal.IndexBusy = 37
+number_of_refusal refusal.Deadlock = 38
 -- the other session is in the lower byte
 number_of_refusal (refusal.Busy session) = 256 + session
 

@@ -10,9 +10,7 @@ use Rattle.calls.specs.declared.reply.Reply.{Reply}
 use Rattle.calls.specs.declared.reply.Reply.TheVariants as reply
 use Rattle.calls.specs.declared.reply.Refusal.TheVariants as refusal
 use Rattle.calls.specs.Words.{RowToWrite, FirstFault}
-use Rattle.vacuum_engine.specs.Clauses.{EngineFollows}
-use Rattle.vacuum_engine.specs.Exact.{EngineExact}
-use Rattle.vacuum_engine.specs.New.{IsNewEngine}
+use Rattle.waiting_engine.specs.Clauses.{WaitingFollows, WaitingExact, IsNewWaiting}
 use Rattle.sandpiper_c.specs.declared.database.Sandpiper.{Sandpiper}
 use Rattle.sandpiper_c.specs.declared.held.Held.{Held}
 use Rattle.sandpiper_c.specs.declared.settings.SandpiperSettings.{SandpiperSettings}
@@ -30,7 +28,7 @@ settings_of s = record { max_pages = s.max_pages; stop_age = s.stop_age; freeze_
 -- a new engine of these settings, which has answered nothing yet, or the first fault
 abbrev pub OpensHeld : Settings → Option Held → ℕ → Option Held → Type 0
 OpensHeld asked (Some held) code new = (code ≡ number_of_status status.HasEngine) × (new ≡ Some held)
-OpensHeld asked None code (Some held) = (code ≡ number_of_status status.Done) × IsNewEngine asked held.engine × (held.reply ≡ reply.Done)
+OpensHeld asked None code (Some held) = (code ≡ number_of_status status.Done) × IsNewWaiting asked held.engine × (held.reply ≡ reply.Done)
 OpensHeld asked None code None = (fault : SettingsFault) × FirstFault asked fault × (code ≡ number_of_status (status_of_fault fault))
 
 abbrev pub OpensTable : SandpiperSettings → Sandpiper → ℕ → Sandpiper → Type 0
@@ -46,8 +44,8 @@ ClosesTable old code new = ClosesHeld (held_by old) code (held_by new)
 
 -- the engine did the step, as its own contract says, and the status is the number of its reply
 pub record TakesStep (old : Held) (step : Step) (code : ℕ) (new : Held) : Type 0 where
-  pub follows : EngineFollows old.engine step new.reply new.engine
-  pub exact : EngineExact old.engine step new.reply new.engine
+  pub follows : WaitingFollows old.engine step new.reply new.engine
+  pub exact : WaitingExact old.engine step new.reply new.engine
   pub status : code ≡ number_of_status (status_of_reply new.reply)
 
 abbrev pub DoesHeld : Option Held → Step → ℕ → Option Held → Type 0

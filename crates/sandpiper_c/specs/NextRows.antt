@@ -8,7 +8,7 @@ use Rattle.calls.specs.declared.reply.Reply.{Reply}
 use Rattle.calls.specs.declared.reply.Refusal.{Refusal}
 use Rattle.session_steps.specs.NextRows.{rows_in, ExactNextRows}
 use Rattle.vacuum_engine.specs.State.{noted}
-use Rattle.vacuum_engine.specs.Clauses.{EngineFollows}
+use Rattle.waiting_engine.specs.Clauses.{WaitingFollows}
 use Rattle.sandpiper_c.specs.declared.database.Sandpiper.{Sandpiper}
 use Rattle.sandpiper_c.specs.declared.held.Held.{Held}
 use Rattle.sandpiper_c.specs.declared.status.CallStatus.{CallStatus}
@@ -31,9 +31,9 @@ count_of (Err r) = 0
 -- rows are in the first places, all others and the bytes behind each body are as they were, and the status is the reply's number.
 pub record HandsRows (old : Held) (s : SessionNo) (places : List RowPlace) (code : ℕ) (after : List RowPlace) (count : Count) (new : Held) : Type 0 where
   pub reply : Reply
-  pub follows : EngineFollows old.engine (step.Next s (length places)) reply new.engine
-  pub exact : ExactNextRows old.engine.core s (length places) reply new.engine.core
-  pub vacuum : new.engine.vacuum ≡ (noted true old.engine).vacuum
+  pub follows : WaitingFollows old.engine (step.Next s (length places)) reply new.engine
+  pub exact : ExactNextRows old.engine.engine.core s (length places) reply new.engine.engine.core
+  pub vacuum : new.engine.engine.vacuum ≡ (noted true old.engine).vacuum
   pub same_reply : new.reply ≡ old.reply
   pub status : code ≡ number_of_status (status_of_reply reply)
   pub rows : after ≡ places_with (rows_in reply) places

@@ -26,7 +26,7 @@ head_in st number = option_map (shown_page st number) (slice_get st.heap.pages.p
 
 abbrev pub head_by : Option Held → ℕ → Option SandpiperPage
 head_by None number = None
-head_by (Some held) number = head_in held.engine.core number
+head_by (Some held) number = head_in held.engine.engine.core number
 
 -- C's place has the head, if there is one, and is else as it was; the status says which
 abbrev pub ShowsHead : Option SandpiperPage → SandpiperPage → ℕ → SandpiperPage → Type 0
@@ -48,7 +48,7 @@ page_slot st page number = option_and_then (λ p. slot_at p.slots number) (slice
 
 abbrev pub slot_by : Option Held → ℕ → ℕ → Option Slot
 slot_by None page number = None
-slot_by (Some held) page number = page_slot held.engine.core page number
+slot_by (Some held) page number = page_slot held.engine.engine.core page number
 
 -- C's place has the slot, if there is one, and is else as it was; the status says which
 abbrev pub ShowsSlot : Option Slot → SandpiperSlot → ℕ → SandpiperSlot → Type 0

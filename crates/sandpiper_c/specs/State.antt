@@ -8,7 +8,7 @@ use Rattle.calls.specs.declared.vacuum.Mode.{Mode}
 use Rattle.calls.specs.declared.vacuum.Mode.TheVariants.{Normal, Aggressive}
 use Rattle.session_steps.specs.State.{State, engine_index, open_bits}
 use Rattle.vacuum_passes.specs.View.{VacuumView}
-use Rattle.vacuum_engine.specs.State.{EngineView}
+use Rattle.waiting_engine.specs.State.{WaitingView}
 use Rattle.sandpiper_c.specs.declared.database.Sandpiper.{Sandpiper}
 use Rattle.sandpiper_c.specs.declared.held.Held.{Held}
 use Rattle.sandpiper_c.specs.declared.state.SandpiperState.{SandpiperState}
@@ -25,8 +25,8 @@ abbrev pub has_index : State → ℕ → Bool
 has_index st number = is_some (engine_index st number)
 
 -- the mode of the vacuum that is running, if one is
-abbrev pub vacuum_mode : EngineView → Option Mode
-vacuum_mode engine = option_map (λ (v : VacuumView). v.mode) engine.vacuum
+abbrev pub vacuum_mode : WaitingView → Option Mode
+vacuum_mode engine = option_map (λ (v : VacuumView). v.mode) engine.engine.vacuum
 
 -- the number that C has for the mode of a vacuum, or for none
 abbrev pub number_of_mode : Option Mode → ℕ
@@ -35,15 +35,15 @@ number_of_mode (Some Normal) = 1
 number_of_mode (Some Aggressive) = 2
 
 -- C's place has what the engine is like
-pub record ShowsState (engine : EngineView) (state : SandpiperState) : Type 0 where
-  pub next : state.next_id ≡ next_id engine.core.heap.statuses
-  pub oldest : state.oldest_id ≡ engine.core.heap.statuses.first
+pub record ShowsState (engine : WaitingView) (state : SandpiperState) : Type 0 where
+  pub next : state.next_id ≡ next_id engine.engine.core.heap.statuses
+  pub oldest : state.oldest_id ≡ engine.engine.core.heap.statuses.first
   -- so many ids can be given, one after another, and no more
-  pub left : (n : ℕ) → CanGive engine.core.heap.statuses n ↔ (n ≤ state.ids_left)
-  pub pages : state.pages ≡ length engine.core.heap.pages.pages
-  pub sessions : state.open_sessions ≡ open_bits engine.core.sessions
-  pub entries : state.entries ≡ map (entry_count engine.core) (0 ∷ 1 ∷ 2 ∷ 3 ∷ 4 ∷ [])
-  pub indexes : state.has_index ≡ map (has_index engine.core) (0 ∷ 1 ∷ 2 ∷ 3 ∷ 4 ∷ [])
+  pub left : (n : ℕ) → CanGive engine.engine.core.heap.statuses n ↔ (n ≤ state.ids_left)
+  pub pages : state.pages ≡ length engine.engine.core.heap.pages.pages
+  pub sessions : state.open_sessions ≡ open_bits engine.engine.core.sessions
+  pub entries : state.entries ≡ map (entry_count engine.engine.core) (0 ∷ 1 ∷ 2 ∷ 3 ∷ 4 ∷ [])
+  pub indexes : state.has_index ≡ map (has_index engine.engine.core) (0 ∷ 1 ∷ 2 ∷ 3 ∷ 4 ∷ [])
   pub vacuum : state.vacuum ≡ number_of_mode (vacuum_mode engine)
 
 -- C's place has it, if there is an engine, and is else as it was; the status says which

@@ -34,7 +34,7 @@ fn put_page_if_enough(page: &Page, bytes: &mut [u8]) -> u32
 
 /// Writes the bytes of the page of this number, if it is in use.
 fn put_page_of(engine: &Engine, number: u32, bytes: &mut [u8]) -> u32
-    ensures { ShowsBytes (page_numbered engine.now.core number) bytes.old result bytes.new }
+    ensures { ShowsBytes (page_numbered engine.now.engine.core number) bytes.old result bytes.new }
 {
     match engine.page(number) {
         Some(page) => put_page_if_enough(page, bytes),

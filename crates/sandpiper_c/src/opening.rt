@@ -3,7 +3,7 @@
 ghost use Rattle.std.specs.Prelude.{◌≡◌, IfOk, IfErr};
 ghost use Rattle.calls.specs.declared.reply.Reply.TheVariants as reply;
 ghost use Rattle.calls.specs.Words.{FirstFault};
-ghost use Rattle.vacuum_engine.specs.New.{IsNewEngine};
+ghost use Rattle.waiting_engine.specs.Clauses.{IsNewWaiting};
 ghost use Rattle.sandpiper_c.specs.Calls.{settings_of, OpensTable, ClosesTable};
 
 use crate::database::Sandpiper;
@@ -15,7 +15,7 @@ use std::alloc::Global;
 
 /// An engine of these settings, on the heap.
 fn new_held(alloc: Global, settings: &SandpiperSettings) -> Result<Box<Held>, SettingsFault>
-    ensures new { IfOk result (λ b. IsNewEngine (settings_of settings.now) b.value.engine) }
+    ensures new { IfOk result (λ b. IsNewWaiting (settings_of settings.now) b.value.engine) }
     ensures reply { IfOk result (λ b. b.value.reply ≡ reply.Done) }
     ensures fault { IfErr result (λ fault. FirstFault (settings_of settings.now) fault) }
 {

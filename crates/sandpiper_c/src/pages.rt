@@ -24,7 +24,7 @@ pub struct SandpiperPage {
 
 /// The head of the page of this number, counted from 0, if it is in use.
 fn head_of_page(engine: &Engine, number: u32) -> Option<SandpiperPage>
-    ensures { result ≡ head_in engine.now.core number }
+    ensures { result ≡ head_in engine.now.engine.core number }
 {
     match (engine.page(number), engine.page_bits(number)) {
         (Some(page), Some(bits)) => Some(SandpiperPage {
@@ -115,7 +115,7 @@ fn of_slot(slot: Slot) -> SandpiperSlot
 
 /// The slot of this number, counted from 1, of the page of this number, counted from 0.
 fn slot_of_page(engine: &Engine, page: u32, number: u16) -> Option<Slot>
-    ensures { result ≡ page_slot engine.now.core page number }
+    ensures { result ≡ page_slot engine.now.engine.core page number }
 {
     match engine.page(page) {
         Some(page) => page.slot(number),

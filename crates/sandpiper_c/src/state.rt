@@ -33,7 +33,7 @@ pub struct SandpiperState {
 
 /// How many entries the index of this number has: 0 where there is none.
 fn entries(engine: &Engine, number: u8) -> u64
-    ensures { result ≡ entry_count engine.now.core number }
+    ensures { result ≡ entry_count engine.now.engine.core number }
 {
     match engine.index(number) {
         Some(index) => index.len(),
@@ -43,7 +43,7 @@ fn entries(engine: &Engine, number: u8) -> u64
 
 /// Whether there is an index of this number.
 fn has_index(engine: &Engine, number: u8) -> bool
-    ensures { result ≡ has_index engine.now.core number }
+    ensures { result ≡ has_index engine.now.engine.core number }
 {
     match engine.index(number) {
         Some(_) => true,

@@ -75,6 +75,7 @@ fn of_refusal(refusal: Refusal) -> u32
         Refusal::NoVacuum => 35,
         Refusal::IndexTooNew => 36,
         Refusal::IndexBusy => 37,
+        Refusal::Deadlock => 38,
         Refusal::Busy(session) => 256 + session as u32,
     }
 }

@@ -7,7 +7,7 @@ use Rattle.std.proofs.lemmas.List.{append-nil}
 use Rattle.std.specs.Io.KnownBytes.{Appends}
 use Rattle.calls.specs.Words.{AreSettings}
 use Rattle.calls.specs.declared.settings.Settings.{Settings}
-use Rattle.script.specs.Engine.{EngineView, IsNewEngine, beginning, SettingsFault, FirstFault, MaxPages, StopAge, FreezeMinAge, FirstXid, DeadLimit, NoMemoryForSettings}
+use Rattle.script.specs.Engine.{WaitingView, IsNewWaiting, beginning, SettingsFault, FirstFault, MaxPages, StopAge, FreezeMinAge, FirstXid, DeadLimit, NoMemoryForSettings}
 use Rattle.script_text.specs.Grammar.{IsAllowed, SettingsFit, heading, with_feed}
 use Rattle.script.specs.Pieces.{TakesText, GivesText}
 use Rattle.script.specs.Script.{Event, ScriptOutcome, IsBadHeading, IsScriptRun, EventsLead, WritesBeginning, line_of, answers_of, lines_of}
@@ -58,7 +58,7 @@ begun_first : (a b c : Option (List ℕ)) (x : List ℕ) → Appends a b [] → 
 begun_first a b c x h k = (k.0, (k.1.0, nothing_first a b c k.1.0 h k.1.1, k.1.2))
 
 -- a new engine of the settings, which a first line can spell, leads on
-ran_from : (s : Settings) (from : EngineView) (events : List Event) (last : EngineView) → AreSettings s → length s.indexed ≡ 4 → IsNewEngine s from
+ran_from : (s : Settings) (from : WaitingView) (events : List Event) (last : WaitingView) → AreSettings s → length s.indexed ≡ 4 → IsNewWaiting s from
     → AllByRecursion (λ e. IsAllowed (line_of e)) events → EventsLead from events last → IsScriptRun s events
 ran_from s from events last fits columns new allowed led = record {
   in_range = fits;
@@ -71,7 +71,7 @@ ran_from s from events last fits columns new allowed led = record {
   leads = led;
 }
 
-outcome_is : (s : Settings) (from : EngineView) (input bytes : List ℕ) (w0 w1 w2 : Option (List ℕ)) (r : Result (Unit {0}) ShellFault) → AreSettings s → length s.indexed ≡ 4 → IsNewEngine s from
+outcome_is : (s : Settings) (from : WaitingView) (input bytes : List ℕ) (w0 w1 w2 : Option (List ℕ)) (r : Result (Unit {0}) ShellFault) → AreSettings s → length s.indexed ≡ 4 → IsNewWaiting s from
     → Appends w0 w1 [] → input ≡ with_feed (heading s) ++ bytes → Advance from bytes w1 w2 [] r → ScriptOutcome r input w0 w2
 outcome_is s from input bytes w0 w1 w2 (Ok u) fits columns new q e h = (
   s,
@@ -129,8 +129,8 @@ outcome_is s from input bytes w0 w1 w2 (Err TooManyLines) fits columns new q e h
   begun_first w0 w1 w2 (answers_of h.events) q h.ends.1,
 )
 
-pub outcome_from : (before now : Option (List ℕ)) (p text : List ℕ) (from : EngineView) (s : Settings) (w0 w1 w2 : Option (List ℕ)) (r : Result (Unit {0}) ShellFault)
-    → Uses before now [] (with_feed (heading s)) p → AreSettings s → length s.indexed ≡ 4 → Appends w0 w1 [] → IsNewEngine s from → text ≡ [] → Advances from now w1 w2 p text r → IfSome before (λ input. ScriptOutcome r input w0 w2)
+pub outcome_from : (before now : Option (List ℕ)) (p text : List ℕ) (from : WaitingView) (s : Settings) (w0 w1 w2 : Option (List ℕ)) (r : Result (Unit {0}) ShellFault)
+    → Uses before now [] (with_feed (heading s)) p → AreSettings s → length s.indexed ≡ 4 → Appends w0 w1 [] → IsNewWaiting s from → text ≡ [] → Advances from now w1 w2 p text r → IfSome before (λ input. ScriptOutcome r input w0 w2)
 outcome_from before now p text from s w0 w1 w2 r u fits columns q new none h =
     IfSome_then before (Uses-known before now [] (with_feed (heading s)) p u) (λ input k.
     outcome_is s from input (p ++ k.0) w0 w1 w2 r fits columns new q k.2 (rw (k.1, none) at h))

@@ -5,7 +5,7 @@ use Rattle.std.specs.List.{AllByRecursion}
 use Rattle.std.proofs.lemmas.List.{append-nil, length-take-le}
 use Rattle.std.proofs.lemmas.Grind.{flat_map-append}
 use Rattle.std.specs.Io.KnownBytes.{Appends}
-use Rattle.script.specs.Engine.{World, EngineView, next, IsRun, after, EngineAgrees}
+use Rattle.script.specs.Engine.{World, WaitingView, after_reply, IsRun, after, WaitingAgrees}
 use Rattle.script_text.specs.Grammar.{IsAllowed, LineFits, spelling, with_feed}
 use Rattle.script.specs.Pieces.{TakesText, GivesText, HasNoLine}
 use Rattle.script.specs.Script.{Event, did, finished, vacuum_steps, vacuum_replies, showed_ids, showed_page, showed_entries, line_of, answer_of, steps_of, replies_of, lines_of, answers_of, Moves, EventsLead, IsBadLine, WritesBeginning}
@@ -51,8 +51,8 @@ pub Gives-push : (a b : Option (List ℕ)) (text left more new : List ℕ) → G
 Gives-push a b text left more new h e = (h.0, h.1, ap (λ r. r ++ more) h.2 ∙ append_assoc h.0 left more ∙ ap (λ r. h.0 ++ r) (sym e))
 
 -- one more event
-Leads-push : (old : EngineView) (events : List Event) (mid : EngineView) (e : Event) (new : EngineView) → EventsLead old events mid → Moves mid e new → EventsLead old (events ++ e ∷ []) new
-Leads-push old [] mid e new led moves = (new, subst (λ (st : EngineView). Moves st e new) (sym led) moves, refl)
+Leads-push : (old : WaitingView) (events : List Event) (mid : WaitingView) (e : Event) (new : WaitingView) → EventsLead old events mid → Moves mid e new → EventsLead old (events ++ e ∷ []) new
+Leads-push old [] mid e new led moves = (new, subst (λ (st : WaitingView). Moves st e new) (sym led) moves, refl)
 Leads-push old (x ∷ xs) mid e new led moves = (led.0, led.1, Leads-push led.0 xs mid e new led.2 moves)
 
 -- one run after another is a run
@@ -60,21 +60,21 @@ IsRun-append : (w : World) (steps more : List Step) (replies others : List Reply
 IsRun-append w [] more [] others h k = k
 IsRun-append w [] more (r ∷ rs) others h k = absurd h
 IsRun-append w (s ∷ ss) more [] others h k = absurd h
-IsRun-append w (s ∷ ss) more (r ∷ rs) others h k = (h.0, IsRun-append (next w s r) ss more rs others h.1 k)
+IsRun-append w (s ∷ ss) more (r ∷ rs) others h k = (h.0, IsRun-append (after_reply w s r) ss more rs others h.1 k)
 
 -- of an engine that agrees with a world, the steps and replies are a run from there
-pub Leads-run : (w : World) (old : EngineView) (events : List Event) (new : EngineView) → EngineAgrees old w → EventsLead old events new → IsRun w (steps_of events) (replies_of events)
+pub Leads-run : (w : World) (old : WaitingView) (events : List Event) (new : WaitingView) → WaitingAgrees old w → EventsLead old events new → IsRun w (steps_of events) (replies_of events)
 Leads-run w old [] new agrees led = tt
 Leads-run w old (did step reply ∷ events) new agrees led =
     let now = led.1.0 w agrees in
-    (now.0, Leads-run (next w step reply) led.0 events new now.1 led.2)
+    (now.0, Leads-run (after_reply w step reply) led.0 events new now.1 led.2)
 Leads-run w old (finished pieces last ∷ events) new agrees led =
     let now = Replies-run w old (vacuum_steps pieces) (vacuum_replies pieces last) led.0 agrees led.1.0 in
     IsRun-append w (vacuum_steps pieces) (steps_of events) (vacuum_replies pieces last) (replies_of events) now.0
     (Leads-run (after w (vacuum_steps pieces) (vacuum_replies pieces last)) led.0 events new now.1 led.2)
-Leads-run w old (showed_ids n below ∷ events) new agrees led = Leads-run w led.0 events new (subst (λ (st : EngineView). EngineAgrees st w) led.1.0 agrees) led.2
-Leads-run w old (showed_page p shown ∷ events) new agrees led = Leads-run w led.0 events new (subst (λ (st : EngineView). EngineAgrees st w) led.1.0 agrees) led.2
-Leads-run w old (showed_entries i entries ∷ events) new agrees led = Leads-run w led.0 events new (subst (λ (st : EngineView). EngineAgrees st w) led.1.0 agrees) led.2
+Leads-run w old (showed_ids n below ∷ events) new agrees led = Leads-run w led.0 events new (subst (λ (st : WaitingView). WaitingAgrees st w) led.1.0 agrees) led.2
+Leads-run w old (showed_page p shown ∷ events) new agrees led = Leads-run w led.0 events new (subst (λ (st : WaitingView). WaitingAgrees st w) led.1.0 agrees) led.2
+Leads-run w old (showed_entries i entries ∷ events) new agrees led = Leads-run w led.0 events new (subst (λ (st : WaitingView). WaitingAgrees st w) led.1.0 agrees) led.2
 
 pub allowed-push : (events : List Event) (e : Event) → AllByRecursion (λ e. IsAllowed (line_of e)) events → IsAllowed (line_of e) → AllByRecursion (λ e. IsAllowed (line_of e)) (events ++ e ∷ [])
 allowed-push [] e h k = (k, tt)
@@ -87,7 +87,7 @@ pub answers_of-push : (events : List Event) (e : Event) → answers_of (events +
 answers_of-push events e = flat_map-append (λ e. with_feed (answer_of e)) events (e ∷ []) ∙ ap (λ x. answers_of events ++ x) (append-nil (with_feed (answer_of e)))
 
 -- how far the lines have come
-pub record Progress (from : EngineView) (state : EngineView) (before now : Option (List ℕ)) (old new : List ℕ) (w0 w1 : Option (List ℕ)) (text left : List ℕ) (number : ℕ) : Type 0 where
+pub record Progress (from : WaitingView) (state : WaitingView) (before now : Option (List ℕ)) (old new : List ℕ) (w0 w1 : Option (List ℕ)) (text left : List ℕ) (number : ℕ) : Type 0 where
   pub events : List Event
   pub allowed : AllByRecursion (λ e. IsAllowed (line_of e)) events
   pub leads : EventsLead from events state
@@ -96,7 +96,7 @@ pub record Progress (from : EngineView) (state : EngineView) (before now : Optio
   pub number_is : number ≡ length events + 2
 
 -- more is read, and some of the text is written
-pub Progress-more : (from state : EngineView) (before now now' : Option (List ℕ)) (old new new' : List ℕ) (w0 w1 w2 : Option (List ℕ)) (text left left' : List ℕ) (number : ℕ)
+pub Progress-more : (from state : WaitingView) (before now now' : Option (List ℕ)) (old new new' : List ℕ) (w0 w1 w2 : Option (List ℕ)) (text left left' : List ℕ) (number : ℕ)
     → Progress from state before now old new w0 w1 text left number → TakesText now now' new new' → GivesText w1 w2 left left' → Progress from state before now' old new' w0 w2 text left' number
 Progress-more from state before now now' old new new' w0 w1 w2 text left left' number h t g = record {
   events = h.events;
@@ -114,7 +114,7 @@ position-split p n h =
     s ∙ sym (append_assoc (take n p) (10 ∷ []) (drop (n + 1) p))
 
 -- a line is used, and its answer stands behind the text
-pub Progress-line : (from state state' : EngineView) (before now : Option (List ℕ)) (old new : List ℕ) (w0 w1 : Option (List ℕ)) (text left left' : List ℕ) (number n : ℕ)
+pub Progress-line : (from state state' : WaitingView) (before now : Option (List ℕ)) (old new : List ℕ) (w0 w1 : Option (List ℕ)) (text left left' : List ℕ) (number n : ℕ)
     → Progress from state before now old new w0 w1 text left number → position (λ b. b == 10) new ≡ Some n → n ≤ 4096 → n < length new → DoesLine (take n new) state state' left left'
     → Progress from state' before now old (drop (n + 1) new) w0 w1 text left' (number + 1)
 Progress-line from state state' before now old new w0 w1 text left left' number n h at short within d =
@@ -209,7 +209,7 @@ closed_caused r end log c caused = elim c [
 pub refused_growth : (e : ShellFault) (log : Refusals) → e ≡ NoMemory → log.memory ≡ true → IsRefused e log
 refused_growth e log is noted = rw is noted
 
-pub adv_fault : (from state : EngineView) (before now : Option (List ℕ)) (old new : List ℕ) (w0 w1 w2 : Option (List ℕ)) (text left : List ℕ) (number : ℕ) (e : ShellFault) (log : Refusals)
+pub adv_fault : (from state : WaitingView) (before now : Option (List ℕ)) (old new : List ℕ) (w0 w1 w2 : Option (List ℕ)) (text left : List ℕ) (number : ℕ) (e : ShellFault) (log : Refusals)
     → Progress from state before now old new w0 w1 text left number → IsRefused e log → WritesBeginning w1 w2 left → IfSome before (λ bytes. Advance from (old ++ bytes) w0 w2 text (Err e))
 adv_fault from state before now old new w0 w1 w2 text left number e log h f b =
     IfSome_then before (Uses-known before now old (lines_of h.events) new h.uses) (λ input k. record {
@@ -223,7 +223,7 @@ adv_fault from state before now old new w0 w1 w2 text left number e log h f b =
     })
 
 -- the numbers of lines ran out
-pub adv_over : (from state : EngineView) (before now : Option (List ℕ)) (old new : List ℕ) (w0 w1 : Option (List ℕ)) (text left : List ℕ) (number : ℕ)
+pub adv_over : (from state : WaitingView) (before now : Option (List ℕ)) (old new : List ℕ) (w0 w1 : Option (List ℕ)) (text left : List ℕ) (number : ℕ)
     → Progress from state before now old new w0 w1 text left number → number ≡ 18446744073709551615 → IfSome before (λ bytes. Advance from (old ++ bytes) w0 w1 text (Err TooManyLines))
 adv_over from state before now old new w0 w1 text left number h last =
     IfSome_then before (Uses-known before now old (lines_of h.events) new h.uses) (λ input k. record {
@@ -239,12 +239,12 @@ adv_over from state before now old new w0 w1 text left number h last =
 Gives-rest : (a b c : Option (List ℕ)) (text left : List ℕ) → GivesText a b text left → Appends b c left → Appends a c text
 Gives-rest a b c text left h k = rw h.2 (Appends-Appends a b c h.0 left h.1 k)
 
-closed_fault : (from state : EngineView) (before now : Option (List ℕ)) (old new : List ℕ) (w0 w1 w2 : Option (List ℕ)) (text left : List ℕ) (number : ℕ) (r : Result (Unit {0}) ShellFault) (log : Refusals)
+closed_fault : (from state : WaitingView) (before now : Option (List ℕ)) (old new : List ℕ) (w0 w1 w2 : Option (List ℕ)) (text left : List ℕ) (number : ℕ) (r : Result (Unit {0}) ShellFault) (log : Refusals)
     → Progress from state before now old new w0 w1 text left number → IsErrAnd r (λ e. IsRefused e log) → WritesBeginning w1 w2 left → IfSome before (λ bytes. Advance from (old ++ bytes) w0 w2 text r)
 closed_fault from state before now old new w0 w1 w2 text left number (Ok u) log h f b = absurd f
 closed_fault from state before now old new w0 w1 w2 text left number (Err e) log h f b = adv_fault from state before now old new w0 w1 w2 text left number e log h f b
 
-pub adv_close : (from state : EngineView) (before now : Option (List ℕ)) (old new : List ℕ) (w0 w1 w2 : Option (List ℕ)) (text left : List ℕ) (number : ℕ) (end r : Result (Unit {0}) ShellFault) (log : Refusals)
+pub adv_close : (from state : WaitingView) (before now : Option (List ℕ)) (old new : List ℕ) (w0 w1 w2 : Option (List ℕ)) (text left : List ℕ) (number : ℕ) (end r : Result (Unit {0}) ShellFault) (log : Refusals)
     → (h : Progress from state before now old new w0 w1 text left number)
     → ((r ≡ end) × Appends w1 w2 left) ⊎ (IsErrAnd r (λ e. IsRefused e log) × WritesBeginning w1 w2 left)
     → ((rest : List ℕ) (T : List ℕ) → now ≡ Some rest → Appends w0 w2 T → EndsLines end (length h.events) (new ++ rest) w0 w2 T)

@@ -11,7 +11,7 @@ use Rattle.calls.specs.declared.step.Step.{Step}
 use Rattle.calls.specs.declared.step.Step.TheVariants as step
 use Rattle.calls.specs.declared.vacuum.Piece.{Piece}
 use Rattle.index_nodes.specs.declared.entry.Entry.{Entry}
-use Rattle.script.specs.Engine.{EngineView, IsNewEngine, EngineFollows, EngineExact, RepliesLead, beginning, engine_index, bits_of, mark_on, next_id, IsRun}
+use Rattle.script.specs.Engine.{WaitingView, IsNewWaiting, WaitingFollows, WaitingExact, RepliesLead, beginning, engine_index, bits_of, mark_on, next_id, IsRun}
 use Rattle.script.specs.Pieces.{GivesText}
 use Rattle.script_text.specs.Grammar.{heading, spelling, with_feed, IsAllowed}
 use Rattle.script_text.specs.Answers.{reply_text, ids_text, Shown, shown_text, index_text}
@@ -77,12 +77,12 @@ abbrev pub answers_of : List Event → List ℕ
 answers_of events = flat_map (λ e. with_feed (answer_of e)) events
 
 -- what a page, if it is in use, is shown as, with its bits of the visibility map
-abbrev pub shown_of : EngineView → ℕ → Option Shown
+abbrev pub shown_of : WaitingView → ℕ → Option Shown
 shown_of st p = option_map (λ page. record {
   change = page.change;
-  visible = bits_of (mark_on st.core.heap.pages.marks p);
+  visible = bits_of (mark_on st.engine.core.heap.pages.marks p);
   slots = page.slots;
-}) (slice_get st.core.heap.pages.pages p)
+}) (slice_get st.engine.core.heap.pages.pages p)
 
 -- the steps of a vacuum end at the first that did no work, of 2^64 - 1 at most
 abbrev pub EndsVacuum : List Piece → Reply → Type 0
@@ -91,18 +91,18 @@ EndsVacuum pieces last = (length pieces < 18446744073709551615)
 
 -- a step leads the engine on, as the history allows, and in what that leaves open exactly, and so
 -- does each step that finishes a vacuum; a look shows what is there
-abbrev pub Moves : EngineView → Event → EngineView → Type 0
-Moves old (did step reply) new = EngineFollows old step reply new × EngineExact old step reply new
+abbrev pub Moves : WaitingView → Event → WaitingView → Type 0
+Moves old (did step reply) new = WaitingFollows old step reply new × WaitingExact old step reply new
 Moves old (finished pieces last) new =
     RepliesLead old (vacuum_steps pieces) (vacuum_replies pieces last) new × EndsVacuum pieces last
-Moves old (showed_ids next frozen_below) new = (old ≡ new) × (next ≡ next_id old.core.heap.statuses) × (frozen_below ≡ old.core.heap.statuses.first)
+Moves old (showed_ids next frozen_below) new = (old ≡ new) × (next ≡ next_id old.engine.core.heap.statuses) × (frozen_below ≡ old.engine.core.heap.statuses.first)
 Moves old (showed_page p shown) new = (old ≡ new) × (shown ≡ shown_of old p)
-Moves old (showed_entries i entries) new = (old ≡ new) × (entries ≡ option_map (λ index. index.entries) (engine_index old.core i))
+Moves old (showed_entries i entries) new = (old ≡ new) × (entries ≡ option_map (λ index. index.entries) (engine_index old.engine.core i))
 
 -- the engine's states from event to event
-abbrev pub EventsLead : EngineView → List Event → EngineView → Type 0
+abbrev pub EventsLead : WaitingView → List Event → WaitingView → Type 0
 EventsLead old [] new = old ≡ new
-EventsLead old (e ∷ events) new = (st : EngineView) × Moves old e st × EventsLead st events new
+EventsLead old (e ∷ events) new = (st : WaitingView) × Moves old e st × EventsLead st events new
 
 -- Allowed lines behind a first one with these settings. Their steps and replies are a run of the history from its beginning, and
 -- all that was answered comes from an engine that is made by the settings.
@@ -111,9 +111,9 @@ pub record IsScriptRun (settings : Settings) (events : List Event) : Type 0 wher
   pub columns : length settings.indexed ≡ 4
   pub allowed : AllByRecursion (λ e. IsAllowed (line_of e)) events
   pub run : IsRun (beginning settings.indexed) (steps_of events) (replies_of events)
-  pub first : EngineView
-  pub new : IsNewEngine settings first
-  pub last : EngineView
+  pub first : WaitingView
+  pub new : IsNewWaiting settings first
+  pub last : WaitingView
   pub leads : EventsLead first events last
 
 abbrev pub script : Settings → List Event → List ℕ

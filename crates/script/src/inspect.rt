@@ -16,7 +16,8 @@ pub(crate) fn show_ids(text: &mut Vec<u8>, engine: &Engine) -> Result<(), Refuse
         (text.new.items
         ≡ text.old.items
         ++ with_feed
-        (ids_text (next_id engine.now.core.heap.statuses) engine.now.core.heap.statuses.first)) }
+        (ids_text (next_id engine.now.engine.core.heap.statuses)
+        engine.now.engine.core.heap.statuses.first)) }
 {
     let (next, frozen_below) = engine.ids();
     tell_ids(text, next, frozen_below)
@@ -49,7 +50,7 @@ pub(crate) fn show_index(
         ≡ text.old.items
         ++ with_feed
         (index_text number
-        (option_map (λ index. index.entries) (engine_index engine.now.core number)))) }
+        (option_map (λ index. index.entries) (engine_index engine.now.engine.core number)))) }
 {
     match engine.index(number) {
         Some(index) => tell_index(text, number, index),

@@ -6,7 +6,7 @@ ghost use Rattle.std.specs.Io.{ReadsAtMost, WritesAtMost};
 ghost use Rattle.std.specs.IoError.{error_kind};
 ghost use Rattle.std.specs.declared.io.ErrorKind.TheVariants.{Interrupted};
 ghost use Rattle.calls.specs.Words.{AreSettings};
-ghost use Rattle.script.specs.Engine.{IsNewEngine};
+ghost use Rattle.script.specs.Engine.{IsNewWaiting};
 ghost use Rattle.script.specs.Refusals.{IsOneMore, IsRefused};
 ghost use Rattle.script.specs.Threads.{lists_for, with_work};
 ghost use Rattle.shared_heap.specs.Books.{IsBookOf};
@@ -137,7 +137,7 @@ impl<R, W> IoLog<R, W> {
     ) -> Result<Option<Engine>, ShellFault>
         ensures made { IfOk result
             (λ made. MatchOption made (AreSettings settings → ⊥)
-            (λ e. IsNewEngine settings e × AreSettings settings)) }
+            (λ e. IsNewWaiting settings e × AreSettings settings)) }
         ensures valid { OnErr result (AreSettings settings) }
         ensures fault { IfErr result (λ e. IsRefused e self.new) }
         ensures input { self.new.input ≡ self.old.input }

@@ -5,7 +5,7 @@ ghost use Rattle.std.specs.Bool.{OnTrue, OnFalse};
 ghost use Rattle.std.specs.Io.KnownBytes.{Appends};
 ghost use Rattle.calls.specs.Words.{AreSettings};
 ghost use Rattle.calls.specs.declared.settings.Settings.{Settings};
-ghost use Rattle.script.specs.Engine.{IsNewEngine};
+ghost use Rattle.script.specs.Engine.{IsNewWaiting};
 ghost use Rattle.script_text.specs.Grammar.{LineFits, spelling, heading, with_feed};
 ghost use Rattle.script.specs.Script.{ScriptOutcome, WritesBeginning};
 ghost use Rattle.script.specs.Refusals.{IsRefused, IsCaused};
@@ -207,7 +207,7 @@ fn first_line<R: Read, W: Write>(
 ) -> Result<Engine, ShellFault>
     requires { (pending.old ≡ []) × (text.old.items ≡ []) }
     ensures begins { IfOk result
-        (λ e. (s : Settings) × IsNewEngine s e × AreSettings s × (length s.indexed ≡ 4)
+        (λ e. (s : Settings) × IsNewWaiting s e × AreSettings s × (length s.indexed ≡ 4)
         × Uses (R.remaining reader.old) (R.remaining reader.new) []
         (with_feed (heading s)) pending.new) }
     ensures quiet { Appends (W.contents writer.old) (W.contents writer.new) [] }

@@ -25,6 +25,7 @@ refusal_text refusal.AlreadyThere = codes "4 AlreadyThere"
 refusal_text refusal.NotThere = codes "5 NotThere"
 refusal_text refusal.Conflict = codes "6 Conflict"
 refusal_text (refusal.Busy s) = codes "7 Busy" ++ spaced (decimal s)
+refusal_text refusal.Deadlock = codes "8 Deadlock"
 refusal_text refusal.CursorOpen = codes "9 CursorOpen"
 refusal_text refusal.NoCursor = codes "10 NoCursor"
 refusal_text refusal.TooDeep = codes "11 TooDeep"

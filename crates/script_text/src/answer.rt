@@ -116,6 +116,7 @@ fn refusal(out: &mut Vec<u8>, refusal: Refusal) -> Result<(), RefusedGrowth>
             extend(out, b"7 Busy ")?;
             put_unsigned(out, u64::from(s))
         }
+        Refusal::Deadlock => extend(out, b"8 Deadlock"),
         Refusal::CursorOpen => extend(out, b"9 CursorOpen"),
         Refusal::NoCursor => extend(out, b"10 NoCursor"),
         Refusal::TooDeep => extend(out, b"11 TooDeep"),

@@ -1,5 +1,5 @@
 -- The next rows of a cursor, beside a vacuum that may be running.
-use Rattle.std.proofs.Common.{◌≡◌, ℕ, true, false, List, length, Some, refl}
+use Rattle.std.proofs.Common.{◌≡◌, ◌∙◌, ℕ, true, false, List, length, Option, Some, None, set, refl, sym, subst}
 use Rattle.std.specs.Prelude.{Result}
 use Rattle.std.specs.Option.{option_map}
 use Rattle.tuple_header.specs.declared.row_place.RowPlace.{RowPlace}
@@ -12,9 +12,13 @@ use Rattle.session_steps.specs.State as core
 use Rattle.session_steps.specs.State.{with_cursor}
 use Rattle.session_steps.specs.NextRows.{ExactNextRows, AnswersNextRows}
 use Rattle.vacuum_passes.specs.View.{disturbed}
-use Rattle.vacuum_engine.specs.State.{EngineView}
+use Rattle.refinement.specs.Allowed.{Allows}
 use Rattle.vacuum_engine.specs.Between.{KeepsOrTakes, Changes}
 use Rattle.vacuum_engine.proofs.Others.{sessions-follow}
+use Rattle.waiting_engine.specs.State.{WaitingView, freed}
+use Rattle.waiting_engine.specs.Clauses.{WaitingFollows}
+use Rattle.waiting_engine.specs.Laws.{with_waits}
+use Rattle.waiting_engine.proofs.Waiting.{unblocked-follows}
 use Rattle.session_core.specs.NextRows.{EngineNextRows}
 
 -- the cursor of one session alone moves, or nothing changes
@@ -25,12 +29,22 @@ next-change old new s n (reply.Refused refusal.NoMemory) e = absurd e
 next-change old new s n (reply.Refused refusal) e = Changes.nothing e
 next-change old new s n reply e = absurd e
 
-pub engine-next_rows : (old new : EngineView) (s : ℕ) (places : List RowPlace) (answer : Result ℕ Refusal) (after : List RowPlace) → AnswersNextRows old.core s places answer after new.core
-    → new.vacuum ≡ option_map (disturbed true) old.vacuum → EngineNextRows old s places answer after new
-engine-next_rows old new s places answer after does vacuum = record {
-  reply = does.reply;
-  written = does.written;
-  follows = sessions-follow old new (step.Next s (length places)) does.reply refl does.follows (next-change old.core new.core s (length places) does.reply does.exact) vacuum;
-  exact = does.exact;
-  vacuum = vacuum;
-}
+-- it gives back no key
+freed-next : (s n : ℕ) (reply : Reply) (waits : List (Option ℕ)) → freed (step.Next s n) reply waits ≡ waits
+freed-next s n (reply.Refused r) waits = refl
+freed-next s n reply waits = refl
+
+pub engine-next_rows : (old new : WaitingView) (s : ℕ) (places : List RowPlace) (answer : Result ℕ Refusal) (after : List RowPlace) → AnswersNextRows old.engine.core s places answer after new.engine.core
+    → new.engine.vacuum ≡ option_map (disturbed true) old.engine.vacuum → new.waits ≡ set old.waits s None → EngineNextRows old s places answer after new
+engine-next_rows old new s places answer after does vacuum waits =
+    let n = length places in
+    let below = sessions-follow old.engine new.engine (step.Next s n) does.reply refl does.follows (next-change old.engine.core new.engine.core s n does.reply does.exact) vacuum in
+    let noted = unblocked-follows old (step.Next s n) does.reply new.engine (λ w o allows busy. subst (Allows w (step.Next s n)) busy allows) below in
+    record {
+      reply = does.reply;
+      written = does.written;
+      follows = subst (λ waits. WaitingFollows old (step.Next s n) does.reply (with_waits new.engine waits)) (freed-next s n does.reply (set old.waits s None) ∙ sym waits) noted;
+      exact = does.exact;
+      vacuum = vacuum;
+      waits = waits;
+    }

@@ -5,12 +5,9 @@ use Rattle.calls.specs.declared.settings.Settings.{Settings}
 use Rattle.calls.specs.declared.step.Step.{Step}
 use Rattle.calls.specs.declared.reply.Reply.{Reply}
 use Rattle.history.specs.World.{World, beginning}
-use Rattle.refinement.specs.Allowed.{IsRun, next, after}
-use Rattle.vacuum_engine.specs.State.{EngineView}
-use Rattle.vacuum_engine.specs.Exact.{EngineExact}
-use Rattle.vacuum_engine.specs.Agrees.{EngineAgrees}
-use Rattle.vacuum_engine.specs.Clauses.{EngineFollows}
-use Rattle.vacuum_engine.specs.New.{IsNewEngine}
+use Rattle.refinement.specs.Allowed.{IsRun, after_reply, after}
+use Rattle.waiting_engine.specs.State.{WaitingView, WaitingAgrees}
+use Rattle.waiting_engine.specs.Clauses.{WaitingFollows, WaitingExact, IsNewWaiting}
 use Rattle.session_core.specs.Runs.{RepliesLead, Ran}
 
 -- a list before, at and behind a place
@@ -23,36 +20,36 @@ pub positive : (n : ℕ) → (n ≡ 0 → false ≡ true) → 0 < n
 positive zero some = absurd (let e = some refl in cc)
 positive (suc n) some = omega arith
 
-Leads-push : (old : EngineView) (steps : List Step) (replies : List Reply) (mid : EngineView) (step : Step) (reply : Reply) (new : EngineView) → RepliesLead old steps replies mid
-    → EngineFollows mid step reply new → EngineExact mid step reply new → RepliesLead old (steps ++ step ∷ []) (replies ++ reply ∷ []) new
+Leads-push : (old : WaitingView) (steps : List Step) (replies : List Reply) (mid : WaitingView) (step : Step) (reply : Reply) (new : WaitingView) → RepliesLead old steps replies mid
+    → WaitingFollows mid step reply new → WaitingExact mid step reply new → RepliesLead old (steps ++ step ∷ []) (replies ++ reply ∷ []) new
 Leads-push old [] [] mid step reply new led follows exact =
-    (new, subst (λ (st : EngineView). EngineFollows st step reply new) (sym led) follows, subst (λ (st : EngineView). EngineExact st step reply new) (sym led) exact, refl)
+    (new, subst (λ (st : WaitingView). WaitingFollows st step reply new) (sym led) follows, subst (λ (st : WaitingView). WaitingExact st step reply new) (sym led) exact, refl)
 Leads-push old [] (r ∷ rs) mid step reply new led follows exact = absurd led
 Leads-push old (s ∷ ss) [] mid step reply new led follows exact = absurd led
 Leads-push old (s ∷ ss) (r ∷ rs) mid step reply new led follows exact =
     (led.0, led.1, led.2, Leads-push led.0 ss rs mid step reply new led.3 follows exact)
 
-pub Leads-more : (old : EngineView) (steps : List Step) (replies : List Reply) (st st' : EngineView) (i : ℕ) (d : Step) (reply : Reply) → i < length steps
-    → RepliesLead old (take i steps) replies st → EngineFollows st (get_or steps i d) reply st' → EngineExact st (get_or steps i d) reply st'
+pub Leads-more : (old : WaitingView) (steps : List Step) (replies : List Reply) (st st' : WaitingView) (i : ℕ) (d : Step) (reply : Reply) → i < length steps
+    → RepliesLead old (take i steps) replies st → WaitingFollows st (get_or steps i d) reply st' → WaitingExact st (get_or steps i d) reply st'
     → RepliesLead old (take (i + 1) steps) (replies ++ reply ∷ []) st'
 Leads-more old steps replies st st' i d reply within led follows exact =
     rw (take_more steps i d within) (Leads-push old (take i steps) replies st (get_or steps i d) reply st' led follows exact)
 
 -- after the last step
-pub Leads-all : (old : EngineView) (steps : List Step) (replies : List Reply) (st : EngineView) (i : ℕ) → length steps ≤ i → RepliesLead old (take i steps) replies st → RepliesLead old steps replies st
+pub Leads-all : (old : WaitingView) (steps : List Step) (replies : List Reply) (st : WaitingView) (i : ℕ) → length steps ≤ i → RepliesLead old (take i steps) replies st → RepliesLead old steps replies st
 Leads-all old steps replies st i all led = subst (λ (ss : List Step). RepliesLead old ss replies st) (take_all i steps all) led
 
 -- the history allows what was replied, and the engine agrees with the world after it
-pub Leads-run : (w : World) (old : EngineView) (steps : List Step) (replies : List Reply) (new : EngineView) → EngineAgrees old w → RepliesLead old steps replies new
-    → IsRun w steps replies × EngineAgrees new (after w steps replies)
-Leads-run w old [] [] new agrees led = (tt, subst (λ (st : EngineView). EngineAgrees st w) led agrees)
+pub Leads-run : (w : World) (old : WaitingView) (steps : List Step) (replies : List Reply) (new : WaitingView) → WaitingAgrees old w → RepliesLead old steps replies new
+    → IsRun w steps replies × WaitingAgrees new (after w steps replies)
+Leads-run w old [] [] new agrees led = (tt, subst (λ (st : WaitingView). WaitingAgrees st w) led agrees)
 Leads-run w old [] (r ∷ rs) new agrees led = absurd led
 Leads-run w old (s ∷ ss) [] new agrees led = absurd led
 Leads-run w old (s ∷ ss) (r ∷ rs) new agrees led =
     let now = led.1 w agrees in
-    let more = Leads-run (next w s r) led.0 ss rs new now.1 led.3 in
+    let more = Leads-run (after_reply w s r) led.0 ss rs new now.1 led.3 in
     ((now.0, more.0), more.1)
 
-pub Leads-ran : (settings : Settings) (old : EngineView) (steps : List Step) (replies : List Reply) (new : EngineView) → IsNewEngine settings old → RepliesLead old steps replies new → Ran settings steps replies
+pub Leads-ran : (settings : Settings) (old : WaitingView) (steps : List Step) (replies : List Reply) (new : WaitingView) → IsNewWaiting settings old → RepliesLead old steps replies new → Ran settings steps replies
 Leads-ran settings old steps replies new is led =
     record { first = old; new = is; last = new; leads = led; agrees = (Leads-run (beginning settings.indexed) old steps replies new is.agrees led).1 }

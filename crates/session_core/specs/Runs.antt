@@ -10,38 +10,35 @@ use Rattle.calls.specs.Writes.{HasBody}
 use Rattle.refinement.specs.Allowed.{after}
 use Rattle.session_core.specs.declared.runs.RunFault.{RunFault}
 use Rattle.session_core.specs.declared.runs.RunFault.TheVariants as fault
-use Rattle.vacuum_engine.specs.State.{EngineView}
-use Rattle.vacuum_engine.specs.Exact.{EngineExact}
-use Rattle.vacuum_engine.specs.Agrees.{EngineAgrees}
-use Rattle.vacuum_engine.specs.Clauses.{EngineFollows}
-use Rattle.vacuum_engine.specs.New.{IsNewEngine}
+use Rattle.waiting_engine.specs.State.{WaitingView, WaitingAgrees}
+use Rattle.waiting_engine.specs.Clauses.{WaitingFollows, WaitingExact, IsNewWaiting}
 
 -- the engine's states one after another: by each step and its reply it follows the history, and does what the history leaves
 -- to it exactly
-abbrev pub RepliesLead : EngineView → List Step → List Reply → EngineView → Type 0
+abbrev pub RepliesLead : WaitingView → List Step → List Reply → WaitingView → Type 0
 RepliesLead old [] [] new = old ≡ new
-RepliesLead old (step ∷ steps) (reply ∷ replies) new = (e : EngineView)
-    × EngineFollows old step reply e × EngineExact old step reply e × RepliesLead e steps replies new
+RepliesLead old (step ∷ steps) (reply ∷ replies) new = (e : WaitingView)
+    × WaitingFollows old step reply e × WaitingExact old step reply e × RepliesLead e steps replies new
 RepliesLead old steps replies new = ⊥
 
 -- a new engine of these settings did the steps, and gave these replies
 pub record Ran (settings : Settings) (steps : List Step) (replies : List Reply) : Type 0 where
-  pub first : EngineView
-  pub new : IsNewEngine settings first
-  pub last : EngineView
+  pub first : WaitingView
+  pub new : IsNewWaiting settings first
+  pub last : WaitingView
   pub leads : RepliesLead first steps replies last
-  pub agrees : EngineAgrees last (after (beginning settings.indexed) steps replies)
+  pub agrees : WaitingAgrees last (after (beginning settings.indexed) steps replies)
 
 -- What had to grow, where memory was refused: the list of the replies, before the first step, or the copy of a step with a body,
 -- when those before it were done.
-pub data WantsMemory (old : EngineView) (steps : List Step) (new : EngineView) : Type 0 where
+pub data WantsMemory (old : WaitingView) (steps : List Step) (new : WaitingView) : Type 0 where
   for_replies : 0 < length steps → old ≡ new → WantsMemory old steps new
   for_copy : (done more : List Step) (step : Step) (replies : List Reply) → steps ≡ done ++ step ∷ more → RepliesLead old done replies new → HasBody step → WantsMemory old steps new
 
 -- memory was refused to a new engine, or when there was one
 pub data WantsToRun (settings : Settings) (steps : List Step) : Type 0 where
   for_engine : AreSettings settings → WantsToRun settings steps
-  for_steps : (first last : EngineView) → IsNewEngine settings first → AreSettings settings → WantsMemory first steps last → WantsToRun settings steps
+  for_steps : (first last : WaitingView) → IsNewWaiting settings first → AreSettings settings → WantsMemory first steps last → WantsToRun settings steps
 
 -- a setting is the first out of its range, or all are in theirs and memory was refused
 abbrev pub FirstRunFault : Settings → List Step → RunFault → Type 0

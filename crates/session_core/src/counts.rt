@@ -12,28 +12,28 @@ use calls::Mode;
 impl Engine {
     /// How many pages are in use.
     pub fn pages(&self) -> u32
-        ensures { result ≡ length self.now.core.heap.pages.pages }
+        ensures { result ≡ length self.now.engine.core.heap.pages.pages }
     {
         self.core.pages()
     }
 
     /// How many more ids can be given, one after another, before NeedsFreeze.
     pub fn ids_left(&self) -> u32
-        ensures { (n : ℕ) → CanGive self.now.core.heap.statuses n ↔ (n ≤ result) }
+        ensures { (n : ℕ) → CanGive self.now.engine.core.heap.statuses n ↔ (n ≤ result) }
     {
         self.core.ids_left()
     }
 
     /// Which sessions are open: a bit for each, the lowest for session 0.
     pub fn open_sessions(&self) -> u64
-        ensures { result ≡ open_bits self.now.core.sessions }
+        ensures { result ≡ open_bits self.now.engine.core.sessions }
     {
         self.core.open_sessions()
     }
 
     /// The mode of the vacuum that is running, if one is.
     pub fn vacuum_mode(&self) -> Option<Mode>
-        ensures { result ≡ option_map (λ (v : VacuumView). v.mode) self.now.vacuum }
+        ensures { result ≡ option_map (λ (v : VacuumView). v.mode) self.now.engine.vacuum }
     {
         let vacuum = self.vacuum.as_ref()?;
         match vacuum.forgets_before() {

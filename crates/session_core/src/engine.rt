@@ -10,10 +10,12 @@ ghost use Rattle.calls.specs.Bars.{BarsOpen};
 ghost use Rattle.session_steps.specs.State.{engine_index, bits_of};
 ghost use Rattle.session_steps.specs.Agrees.{Agrees};
 ghost use Rattle.vacuum_passes.specs.View.{disturbed};
+ghost use Rattle.calls.specs.Steps.{session_of};
 ghost use Rattle.vacuum_engine.specs.State.{is_session};
 ghost use Rattle.vacuum_engine.specs.Exact.{EngineExact};
 ghost use Rattle.vacuum_engine.specs.Clauses.{EngineFollows};
-ghost use Rattle.vacuum_engine.specs.New.{IsNewEngine};
+ghost use Rattle.waiting_engine.specs.Clauses.{WaitingFollows, WaitingExact, IsNewWaiting};
+ghost use Rattle.waiting_engine.specs.Notes.{gives_back};
 ghost use Rattle.session_core.specs.NextRows.{EngineNextRows};
 
 use calls::{Refusal, Reply, Row, Settings, SettingsFault, Step};
@@ -24,21 +26,26 @@ use std::alloc::Global;
 use std::marker::Model;
 use tuple_header::RowPlace;
 use vacuum_passes::Vacuum;
+use waits::Waits;
 use xid_circle::Xid;
 
-/// A table with its sessions, of which there may be 64 open at a time, and a vacuum.
+/// A table with its sessions, of which there may be 64 open at a time, and a vacuum. It is kept for whom each session waits.
 #[derive(Drop)]
 pub struct Engine {
     pub(crate) core: SessionEngine,
     pub(crate) vacuum: Option<Vacuum>,
+    pub(crate) waits: Waits,
 }
 
 impl Model for Engine {
-    ghost use Rattle.vacuum_engine.specs.State.{EngineView};
+    ghost use Rattle.waiting_engine.specs.State.{WaitingView};
 
-    ghost Value = { EngineView };
+    ghost Value = { WaitingView };
 
-    ghost view = { λ e. record { core = e.core; vacuum = e.vacuum } };
+    ghost view = { λ e. record {
+      engine = record { core = e.core; vacuum = e.vacuum };
+      waits = e.waits;
+    } };
 }
 
 /// Whether a step is a session's, be that open or not.
@@ -55,27 +62,69 @@ fn is_session(step: &Step) -> bool
     }
 }
 
+/// The session whose step it is, be that open or not.
+fn session_of(step: &Step) -> Option<u8>
+    ensures { result ≡ session_of step.now }
+{
+    match step {
+        Step::Begin(s)
+        | Step::BeginReadCommitted(s)
+        | Step::Get(s, _)
+        | Step::Insert(s, _)
+        | Step::Update(s, _)
+        | Step::Delete(s, _)
+        | Step::Savepoint(s)
+        | Step::RollbackTo(s)
+        | Step::Release(s)
+        | Step::Commit(s)
+        | Step::Abort(s)
+        | Step::OpenIndex(s, _, _, _)
+        | Step::OpenHeap(s)
+        | Step::Next(s, _)
+        | Step::Close(s) => Some(*s),
+        Step::Prune(_)
+        | Step::VacuumBegin(_)
+        | Step::VacuumStep
+        | Step::VacuumCancel
+        | Step::CreateIndex(_) => None,
+    }
+}
+
+/// Whether a step gives back the keys of a level, or of all, where it is done.
+fn gives_back(step: &Step) -> bool
+    ensures { result ≡ gives_back step.now }
+{
+    matches!(step, Step::RollbackTo(_) | Step::Commit(_) | Step::Abort(_))
+}
+
 impl Engine {
     /// An engine of these settings, without sessions, pages, entries or a vacuum. The fault names the first setting that is out of
     /// its range, or memory.
     pub fn new(alloc: Global, settings: Settings) -> Result<Engine, SettingsFault>
-        ensures new { IfOk result (λ e. IsNewEngine settings e) }
+        ensures new { IfOk result (λ e. IsNewWaiting settings e) }
         ensures fault { IfErr result (λ fault. FirstFault settings fault) }
         ensures valid { OnOk result (AreSettings settings) }
     {
         match SessionEngine::new(alloc, settings) {
-            Ok(core) => Ok(Engine { core, vacuum: None }),
+            Ok(core) => {
+                let waits = Waits::new();
+                Ok(Engine {
+                    core,
+                    vacuum: None,
+                    waits,
+                })
+            }
             Err(fault) => Err(fault),
         }
     }
 
     /// Does one step, and gives its reply: whatever world of the history the engine agrees with, the history allows the reply, and
-    /// the engine agrees with the next world; no index entry leads to a slot that was given to another row; and a vacuum that ends
-    /// leaves nothing that was dead before the horizon of its beginning. A step that is refused names the first reason that holds, in
-    /// the order of the table in docs/rules.md, or NoMemory, as is said below that table.
+    /// the engine agrees with the world after it, where the same sessions wait; no index entry leads to a slot that was given to
+    /// another row; and a vacuum that ends leaves nothing that was dead before the horizon of its beginning. A step that is refused
+    /// names the first reason that holds, in the order of the table in docs/rules.md, or NoMemory, as is said below that table.
     pub fn step(&mut self, step: Step) -> Reply
-        ensures follows { EngineFollows self.old step result self.new }
-        ensures exact { EngineExact self.old step result self.new }
+        ensures follows { WaitingFollows self.old step result self.new }
+        ensures exact { WaitingExact self.old step result self.new }
     {
         let mut reply = Reply::Done;
         self.step_into(step, &mut reply);
@@ -87,8 +136,24 @@ impl Engine {
     /// answers of a cursor may be in memory at once.
     #[inline(always)]
     pub fn step_into(&mut self, step: Step, reply: &mut Reply)
-        ensures follows { EngineFollows self.old step reply.new self.new }
-        ensures exact { EngineExact self.old step reply.new self.new }
+        ensures follows { WaitingFollows self.old step reply.new self.new }
+        ensures exact { WaitingExact self.old step reply.new self.new }
+    {
+        let session = session_of(&step);
+        let gives = gives_back(&step);
+        self.step_below(step, reply);
+        let Some(s) = session else {
+            return;
+        };
+        self.note(s, gives, reply);
+    }
+
+    /// Does one step without a look at who waits for whom.
+    #[inline(always)]
+    fn step_below(&mut self, step: Step, reply: &mut Reply)
+        ensures follows { EngineFollows self.old.engine step reply.new self.new.engine }
+        ensures exact { EngineExact self.old.engine step reply.new self.new.engine }
+        ensures waits { self.new.waits ≡ self.old.waits }
     {
         self.core.fact_set_up();
         match step {
@@ -105,8 +170,10 @@ impl Engine {
 
     /// Notes in the vacuum that is running, if one is, that a step came which is not its own, and whether it is a session's.
     pub(crate) fn disturb(&mut self, session: bool)
-        ensures core { self.new.core ≡ self.old.core }
-        ensures vacuum { self.new.vacuum ≡ option_map (disturbed session) self.old.vacuum }
+        ensures core { self.new.engine.core ≡ self.old.engine.core }
+        ensures vacuum { self.new.engine.vacuum
+            ≡ option_map (disturbed session) self.old.engine.vacuum }
+        ensures waits { self.new.waits ≡ self.old.waits }
     {
         if let Some(vacuum) = &mut self.vacuum {
             vacuum.disturb(session);
@@ -122,13 +189,14 @@ impl Engine {
         ensures { EngineNextRows self.old s places.old result places.new self.new }
     {
         self.disturb(true);
+        self.waits.end(s);
         self.core.next_rows(s, places)
     }
 
     /// The row of the key that the session reads, also in a transaction that has failed. It is no step, and takes no
     /// memory. Refusals in order: NoSuchSession, NotOpen.
     pub fn read(&self, s: u8, key: u64) -> Result<Option<Row>, Refusal>
-        ensures { (w : World) → Agrees self.now.core w → MatchResult result
+        ensures { (w : World) → Agrees self.now.engine.core w → MatchResult result
             (λ row. (m : OpenSession) × (w.session s ≡ Some m) × (row ≡ view w.history m key))
             (λ refusal. BarsOpen (world_sessions w) s refusal) }
     {
@@ -137,15 +205,15 @@ impl Engine {
 
     /// The next id to be given, and the oldest that is remembered.
     pub fn ids(&self) -> (Xid, Xid)
-        ensures next { result.0.0 ≡ next_id self.now.core.heap.statuses }
-        ensures first { result.1.0 ≡ self.now.core.heap.statuses.first }
+        ensures next { result.0.0 ≡ next_id self.now.engine.core.heap.statuses }
+        ensures first { result.1.0 ≡ self.now.engine.core.heap.statuses.first }
     {
         self.core.ids()
     }
 
     /// The page of this number, counted from 0, if it is in use.
     pub fn page(&self, number: u32) -> Option<&Page>
-        ensures { option_copied result ≡ slice_get self.now.core.heap.pages.pages number }
+        ensures { option_copied result ≡ slice_get self.now.engine.core.heap.pages.pages number }
     {
         self.core.page(number)
     }
@@ -153,7 +221,7 @@ impl Engine {
     /// The index of this number, if there is one: index 0 is the primary index, by key, and index `c + 1` is that of
     /// column `c`, where the settings ask for it or since it was made.
     pub fn index(&self, number: u8) -> Option<&RootIndex>
-        ensures { option_copied result ≡ engine_index self.now.core number }
+        ensures { option_copied result ≡ engine_index self.now.engine.core number }
     {
         self.core.index(number)
     }
@@ -161,8 +229,8 @@ impl Engine {
     /// The visibility map's bits of the page, if it is in use: 1 where it is all-visible, 2 where it is all-frozen too, else 0.
     pub fn page_bits(&self, number: u32) -> Option<u8>
         ensures { result
-            ≡ option_map (λ _. bits_of (mark_on self.now.core.heap.pages.marks number))
-            (slice_get self.now.core.heap.pages.pages number) }
+            ≡ option_map (λ _. bits_of (mark_on self.now.engine.core.heap.pages.marks number))
+            (slice_get self.now.engine.core.heap.pages.pages number) }
     {
         self.core.page_bits(number)
     }

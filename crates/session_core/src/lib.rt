@@ -1,9 +1,9 @@
 //! The engine: sessions that read and write a table, step by step, while it is vacuumed.
 //!
-//! An [`Engine`] keeps the engine of `session_steps`, whose state the steps of sessions change, and beside it the vacuum that is running.
-//! Callers see it as an `EngineView` (`vacuum_engine/specs/State.antt`). For every world of the history that it agrees with,
-//! [`Engine::step`] gives a reply that the history allows, and agrees with the next world (`EngineFollows`), and does to ids, pages and
-//! the vacuum exactly what `EngineExact` says. [`run`] does a list of steps (`specs/Runs.antt`).
+//! An [`Engine`] keeps the engine of `session_steps`, whose state the steps of sessions change, and beside it the vacuum that is running
+//! and for whom each session waits. Callers see it as a `WaitingView` (`waiting_engine/specs/State.antt`). For every world of the
+//! history that it agrees with, [`Engine::step`] gives a reply that the history allows, and agrees with the world after it
+//! (`WaitingFollows`), and does to ids, pages, the vacuum and the waits exactly what `WaitingExact` says. [`run`] does a list of steps (`specs/Runs.antt`).
 #![tactic(auto)]
 
 mod counts;
@@ -11,6 +11,7 @@ mod engine;
 mod making;
 mod runs;
 mod vacuuming;
+mod waiting;
 
 pub use calls::{Mode, Piece, Refusal, Reply, Row, RowIn, Settings, SettingsFault, Step};
 pub use engine::Engine;

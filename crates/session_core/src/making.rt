@@ -1,6 +1,6 @@
 //! The making of an index, which no vacuum runs beside.
 
-ghost use Rattle.std.specs.Prelude.{◌↔◌, IsTrue, IsSome};
+ghost use Rattle.std.specs.Prelude.{◌≡◌, ◌↔◌, IsTrue, IsSome};
 ghost use Rattle.session_steps.specs.Making.{LacksIndexOn};
 ghost use Rattle.vacuum_engine.specs.Exact.{ExactCreateIndex};
 
@@ -10,7 +10,8 @@ use calls::{Refusal, Reply};
 impl Engine {
     /// Whether a vacuum bars the making of the index by a column: one runs, and the index is not there and may be made.
     fn vacuum_bars_index(&self, column: u8) -> bool
-        ensures { IsTrue result ↔ (IsSome self.now.vacuum × LacksIndexOn self.now.core column) }
+        ensures { IsTrue result
+            ↔ (IsSome self.now.engine.vacuum × LacksIndexOn self.now.engine.core column) }
     {
         self.vacuum.is_some() && self.core.lacks_index(column)
     }
@@ -19,7 +20,8 @@ impl Engine {
     /// it. Refusals in order: NoSuchIndex; VacuumRunning, which notes in that vacuum that it is not alone; IndexBusy, while an open
     /// session has an id; NoMemory, which changes nothing.
     pub(crate) fn create_index(&mut self, column: u8, reply: &mut Reply)
-        ensures { ExactCreateIndex self.old column reply.new self.new }
+        ensures exact { ExactCreateIndex self.old.engine column reply.new self.new.engine }
+        ensures waits { self.new.waits ≡ self.old.waits }
     {
         let barred = self.vacuum_bars_index(column);
         self.disturb(false);

@@ -12,7 +12,8 @@ impl Engine {
     /// Begins a vacuum of this mode. It fixes the horizon, the cutoff, the pages that it visits and how many entries the indexes have.
     /// Refusals: VacuumRunning. It takes no memory.
     pub(crate) fn begin_vacuum(&mut self, mode: Mode, reply: &mut Reply)
-        ensures { ExactVacuumBegin self.old mode reply.new self.new }
+        ensures exact { ExactVacuumBegin self.old.engine mode reply.new self.new.engine }
+        ensures waits { self.new.waits ≡ self.old.waits }
     {
         if let Some(vacuum) = &mut self.vacuum {
             vacuum.disturb(false);
@@ -25,7 +26,8 @@ impl Engine {
 
     /// Does the next step of the vacuum, and answers what it did, or that it has ended. Refusals: NoVacuum. It takes no memory.
     pub(crate) fn step_vacuum(&mut self, reply: &mut Reply)
-        ensures { ExactVacuumStep self.old reply.new self.new }
+        ensures exact { ExactVacuumStep self.old.engine reply.new self.new.engine }
+        ensures waits { self.new.waits ≡ self.old.waits }
     {
         let Some(vacuum) = &mut self.vacuum else {
             *reply = Reply::Refused(Refusal::NoVacuum);
@@ -43,10 +45,11 @@ impl Engine {
     /// Drops the vacuum, which has ended, and forgets the ids before the cutoff, if there is one. It answers the oldest that is
     /// remembered then.
     fn end_vacuum(&mut self, cutoff: Option<Xid>) -> u32
-        ensures none { self.new.vacuum ≡ None }
-        ensures core { MatchOption cutoff (self.new.core ≡ self.old.core)
-            (λ x. Forgets self.old.core self.new.core x.0) }
-        ensures first { result ≡ self.new.core.heap.statuses.first }
+        ensures none { self.new.engine.vacuum ≡ None }
+        ensures core { MatchOption cutoff (self.new.engine.core ≡ self.old.engine.core)
+            (λ x. Forgets self.old.engine.core self.new.engine.core x.0) }
+        ensures first { result ≡ self.new.engine.core.heap.statuses.first }
+        ensures waits { self.new.waits ≡ self.old.waits }
     {
         self.vacuum = None;
         if let Some(cutoff) = cutoff {
@@ -58,7 +61,8 @@ impl Engine {
 
     /// Drops the vacuum. What it did stays. Refusals: NoVacuum. It takes no memory.
     pub(crate) fn cancel_vacuum(&mut self, reply: &mut Reply)
-        ensures { ExactVacuumCancel self.old reply.new self.new }
+        ensures exact { ExactVacuumCancel self.old.engine reply.new self.new.engine }
+        ensures waits { self.new.waits ≡ self.old.waits }
     {
         if self.vacuum.is_none() {
             *reply = Reply::Refused(Refusal::NoVacuum);

@@ -318,7 +318,7 @@ Follows-too_large st s e write at sound bare large =
     Follows-same st (step_of s write) (reply.Refused refusal.TooLarge) (no_making s write) (hindrances.Follows-too_large (seen st) s (reader_of e) write (reader-is st s e at) sound (ap position_of bare) large)
 
 -- a session that holds back what it held back
-same-back : (xs : List (Option Session)) (s : ℕ) (e now : Session) → open_at xs s ≡ Some e → holds_back now ≡ holds_back e → held_back (set xs s (Some now)) ≡ held_back xs
+pub same-back : (xs : List (Option Session)) (s : ℕ) (e now : Session) → open_at xs s ≡ Some e → holds_back now ≡ holds_back e → held_back (set xs s (Some now)) ≡ held_back xs
 same-back [] s e now at same = absurd (none-some e at)
 same-back (None ∷ xs) zero e now at same = absurd (none-some e at)
 same-back (Some f ∷ xs) zero e now at same = ap (λ back. back ++ held_back xs) (same ∙ ap holds_back (sym (same_Some f e at)))

@@ -7,6 +7,7 @@ use Rattle.xid_circle.specs.declared.Tid.{Tid}
 use Rattle.root_index.specs.declared.index.PositionHint.{PositionHint}
 use Rattle.tuple_header.specs.declared.version.Row.{Row}
 use Rattle.history.specs.World.{World}
+use Rattle.history.specs.Moves.{change, as_failed}
 use Rattle.calls.specs.declared.step.Step.TheVariants as step
 use Rattle.calls.specs.declared.reply.Reply.TheVariants as reply
 use Rattle.calls.specs.declared.reply.Refusal.{Refusal}
@@ -17,13 +18,13 @@ use Rattle.calls.specs.Bars.{BarsOpen, BarsFree}
 use Rattle.refinement.specs.Finds.{BeginsWrite}
 use Rattle.refinement.proofs.Hindrances as hindrances
 use Rattle.session_steps.specs.declared.session.Session.{Session}
-use Rattle.session_steps.specs.State.{State, session_at, put_session, refused_state, seen, reader_of, failed_session, engine_sessions}
+use Rattle.session_steps.specs.State.{State, session_at, put_session, with_failed, refused_state, seen, reader_of, failed_session, engine_sessions}
 use Rattle.session_steps.specs.Agrees.{Agrees, Follows}
 use Rattle.session_steps.specs.Tests.{ReadsPlace, IsLateKey, IsHeld, RefusesInsertOfKey, RefusesChangeOfKey, MayWriteKey}
 use Rattle.session_steps.specs.Tests.{MayAct, BarsBegin}
 use Rattle.session_steps.specs.Exact.{ExactInsert, ExactUpdate, ExactDelete, Exact}
 use Rattle.session_steps.specs.Follows.{FollowsInsert, FollowsUpdate}
-use Rattle.refinement.proofs.Runs.{same_indexes}
+use Rattle.refinement.proofs.Runs.{same_indexes, unmade}
 use Rattle.session_steps.proofs.InUse.{SameMarks, used-still, marks-put, agree}
 use Rattle.session_steps.proofs.OwnIdsLemmas.{open-within}
 use Rattle.session_steps.proofs.StateLemmas.{only-set}
@@ -37,9 +38,18 @@ use Rattle.session_steps.proofs.Follows.{Follows-same, stays-so, no_making, led-
 marks-fail : (st : State) (s : ℕ) (e : Session) → session_at st s ≡ Some e → SameMarks st.sessions (put_session st s (option_map failed_session (session_at st s))).sessions
 marks-fail st s e at = subst (λ o. SameMarks st.sessions (put_session st s (option_map failed_session o)).sessions) (sym at) (marks-put st.sessions s e (failed_session e) at refl)
 
+-- where the world has an open session fail, the engine agrees whose session fails
+pub fails-agree : (st : State) (w : World) (s : ℕ) (e : Session) → session_at st s ≡ Some e → Agrees st w → Agrees (with_failed st s) (change w s as_failed)
+fails-agree st w s e at agrees =
+    let only = only-set st s (option_map failed_session (session_at st s)) (open-within st.sessions s e at) in
+    agree agrees (used-still st.heap.indexes) (marks-fail st s e at) (unmade refl refl)
+    (hindrances.Agrees-fails (seen st) w s (reader_of e) (seen (with_failed st s)).session
+    (record { others = only.others; itself = only.itself ∙ ap (λ o. option_map reader_of (option_map failed_session o)) at }) (reader-is st s e at) agrees.found)
+    (Sound-fails st s e at agrees.sound)
+
 conflicts : (st : State) (s : ℕ) (e : Session) (write : WriteStep) → session_at st s ≡ Some e → IsLateKey st e (key_of write)
     → ((w : World) → Agrees st w → (o : Option Row) × BeginsWrite (seen st) s (reader_of e) (key_of write) o × Asks write o)
-    → Follows st (step_of s write) (reply.Refused refusal.Conflict) (put_session st s (option_map failed_session (session_at st s)))
+    → Follows st (step_of s write) (reply.Refused refusal.Conflict) (with_failed st s)
 conflicts st s e write at late begins w agrees =
     let b = begins w agrees in
     let within = open-within st.sessions s e at in

@@ -1,16 +1,19 @@
 -- The state of an engine as its own changes leave it.
-use Rattle.std.proofs.Common.{◌≡◌, ◌≢◌, ℕ, ◌<◌, List, [], length, set, replicate, zero, suc, Option, Some, None, refl, sym, ap, ◌∙◌, arith}
+use Rattle.std.proofs.Common.{◌≡◌, ◌≢◌, ℕ, ◌<◌, List, [], ◌∷◌, length, set, replicate, zero, suc, Option, Some, None, refl, sym, ap, ◌∙◌, arith}
 use Rattle.std.proofs.Math.ListN.{length-set}
-use Rattle.std.specs.Option.{option_map}
-use Rattle.std.proofs.lemmas.Option.{none-some}
+use Rattle.std.specs.Option.{option_map, option_flatten}
+use Rattle.std.proofs.lemmas.Option.{none-some, slice_get_past}
 use Rattle.commit_status.specs.declared.status.Status.{Status}
 use Rattle.commit_status.specs.declared.status.Status.TheVariants.{InProgress}
 use Rattle.commit_status.specs.Window.{Window, place}
 use Rattle.commit_status.proofs.Places.{place-lt, some-from_is}
 use Rattle.commit_status.specs.Changes.{Finishes}
+use Rattle.calls.specs.declared.reply.Refusal.{Refusal}
+use Rattle.calls.specs.declared.reply.Refusal.TheVariants as refusal
+use Rattle.calls.specs.Bars.{BarsOpen}
 use Rattle.refinement.proofs.Steps.{OnlyIs}
 use Rattle.session_steps.specs.declared.session.Session.{Session}
-use Rattle.session_steps.specs.State.{State, put_session, reader_of, seen}
+use Rattle.session_steps.specs.State.{State, session_at, put_session, reader_of, failed_session, with_failed, engine_sessions, seen}
 use Rattle.session_steps.specs.Keeps.{open_at, EngineKeeps}
 use Rattle.session_steps.proofs.OwnIdsLemmas.{open-set_same, open-set_other, keep-open, keep-close, keep-idle, keep-same}
 
@@ -47,6 +50,23 @@ keeps-shut xs w s within idle h = record { count = length-set xs s None ∙ h.co
 -- one becomes another with the same ids
 pub keeps-ids : (xs : List (Option Session)) (w : Window) (s : ℕ) (e e' : Session) → open_at xs s ≡ Some e → e'.own.ids ≡ e.own.ids → EngineKeeps xs w → EngineKeeps (set xs s (Some e')) w
 keeps-ids xs w s e e' at same h = record { count = length-set xs s (Some e') ∙ h.count; own = keep-same xs w s e e' at same h.own }
+
+-- no session is open that is barred for not being so
+pub barred-idle : (st : State) (s : ℕ) (r : Refusal) → length st.sessions ≡ 64 → BarsOpen (engine_sessions st) s r → session_at st s ≡ None
+barred-idle st s refusal.NoSuchSession count over = ap option_flatten (slice_get_past st.sessions s (omega (arith, over, count)))
+barred-idle st s refusal.NotOpen count idle = idle.1
+barred-idle st s _ count is = absurd is
+
+-- and its place stays as it is
+still-idle : (xs : List (Option Session)) (s : ℕ) → open_at xs s ≡ None → set xs s None ≡ xs
+still-idle [] s idle = refl
+still-idle (None ∷ xs) zero idle = refl
+still-idle (Some e ∷ xs) zero idle = absurd (none-some e (sym idle))
+still-idle (x ∷ xs) (suc s) idle = ap (λ ys. x ∷ ys) (still-idle xs s idle)
+
+pub none-failed : (st : State) (s : ℕ) → session_at st s ≡ None → with_failed st s ≡ st
+none-failed st s idle =
+    ap (λ o. put_session st s (option_map failed_session o)) idle ∙ ap (λ sessions. record st { sessions = sessions }) (still-idle st.sessions s idle)
 
 -- of the sessions that readers see, one changes
 pub only-set : (st : State) (s : ℕ) (now : Option Session) → s < length st.sessions → OnlyIs (seen st).session (seen (put_session st s now)).session s (option_map reader_of now)

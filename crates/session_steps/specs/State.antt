@@ -163,9 +163,13 @@ with_kept kept e = record e { isolation = keeping kept e.isolation }
 abbrev pub failed_session : Session → Session
 failed_session e = record e { failed = true }
 
+-- the session has failed, if it is open
+abbrev pub with_failed : State → ℕ → State
+with_failed st s = put_session st s (option_map failed_session (session_at st s))
+
 -- the engine after the refusal of a write: a conflict makes the session fail
 abbrev pub refused_state : State → ℕ → Refusal → State
-refused_state st s refusal.Conflict = put_session st s (option_map failed_session (session_at st s))
+refused_state st s refusal.Conflict = with_failed st s
 refused_state st s refusal = st
 
 -- whether a step is answered above the sessions: each of a vacuum's, which is kept there; and the making of an index, which none may run beside

@@ -4,7 +4,7 @@ ghost use Rattle.std.specs.Prelude.{◌≡◌, ◌≢◌, ◌<◌, ◌≤◌, �
 ghost use Rattle.calls.specs.Words.{FitsRow, row_of};
 ghost use Rattle.session_steps.specs.Keeps.{open_at};
 ghost use Rattle.session_steps.specs.Tests.{MayAct};
-ghost use Rattle.session_steps.specs.State.{session_at, refused_state};
+ghost use Rattle.session_steps.specs.State.{refused_state, with_failed};
 ghost use Rattle.session_steps.specs.Tests.{FindsPlace, IsUncontested, ConflictsWrite, MayWriteKey, RefusesInsertOfKey, RefusesChangeOfKey};
 ghost use Rattle.calls.specs.declared.step.TheConstants.{MOST_SESSIONS};
 
@@ -121,13 +121,22 @@ impl SessionEngine {
 
     /// Answers the refusal of a write. A conflict makes the session fail: it can only be rolled back.
     pub(crate) fn refuse(&mut self, s: u8, refusal: Refusal) -> Result<Ack, Refusal>
-        requires { refusal ≡ Refusal.Conflict → session_at self.old s ≢ None }
         ensures answer { result ≡ Err refusal }
         ensures state { self.new ≡ refused_state self.old s refusal }
     {
         if let Refusal::Conflict = refusal {
-            self.sessions.open_mut(s).failed = true;
+            self.fail(s);
         }
         Err(refusal)
+    }
+
+    /// Makes the session fail, if it is open: it can only be rolled back, or return to a savepoint.
+    pub fn fail(&mut self, s: u8)
+        ensures { self.new ≡ with_failed self.old s }
+    {
+        if let Err(_) = self.open_session(s) {
+            return;
+        }
+        self.sessions.open_mut(s).failed = true;
     }
 }

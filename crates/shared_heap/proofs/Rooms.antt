@@ -14,10 +14,8 @@ use Rattle.table_scans.specs.declared.progress.Scan.TheVariants.{Index, Heap}
 use Rattle.table_scans.specs.Scans.{Sight}
 use Rattle.table_scans.specs.Takes.{Takes}
 use Rattle.session_steps.specs.Takes.{session_sight}
-use Rattle.vacuum_engine.specs.State.{EngineView}
-use Rattle.vacuum_engine.specs.Exact.{EngineExact}
-use Rattle.vacuum_engine.specs.Agrees.{EngineAgrees}
-use Rattle.vacuum_engine.specs.Clauses.{EngineFollows}
+use Rattle.waiting_engine.specs.State.{WaitingView, WaitingAgrees}
+use Rattle.waiting_engine.specs.Clauses.{WaitingExact, WaitingFollows}
 use Rattle.shared_heap.specs.Replies.{RowsFit, HasRoomFor}
 
 -- no step but a cursor's is answered rows
@@ -34,8 +32,8 @@ few t (Heap from) n rows after takes = let most = takes.2.few in omega arith
 
 pub room-next : (s n room : ℕ) → max n MOST_SLOTS ≤ room → HasRoomFor (step.Next s n) room
 room-next s n room enough w old new (reply.Rows rows) agrees follows exact =
-    let hands = exact.core in
-    let most = few (session_sight old.core hands.session) hands.before n rows.items hands.after hands.takes in omega arith
+    let hands = exact.0.core in
+    let most = few (session_sight old.engine.core hands.session) hands.before n rows.items hands.after hands.takes in omega arith
 room-next s n room enough w old new _ agrees follows exact = tt
 
 pub room-other : (step : Step) (room : ℕ) → (IsNext step → ⊥) → HasRoomFor step room

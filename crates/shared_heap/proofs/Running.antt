@@ -5,30 +5,27 @@ use Rattle.calls.specs.declared.settings.Settings.{Settings}
 use Rattle.calls.specs.declared.step.Step.{Step}
 use Rattle.calls.specs.declared.reply.Reply.{Reply}
 use Rattle.refinement.specs.Allowed.{after}
-use Rattle.vacuum_engine.specs.State.{EngineView}
-use Rattle.vacuum_engine.specs.Exact.{EngineExact}
-use Rattle.vacuum_engine.specs.Agrees.{EngineAgrees}
-use Rattle.vacuum_engine.specs.Clauses.{EngineFollows}
-use Rattle.vacuum_engine.specs.New.{IsNewEngine}
+use Rattle.waiting_engine.specs.State.{WaitingView, WaitingAgrees}
+use Rattle.waiting_engine.specs.Clauses.{WaitingExact, WaitingFollows, IsNewWaiting}
 use Rattle.session_core.specs.Runs.{RepliesLead}
 use Rattle.session_core.proofs.Running.{Leads-run}
 use Rattle.shared_heap.specs.Books.{BookView, noted_steps, noted_replies, IsBookOf, IsRunOf, IsBook, HasRun, Appends}
 
-Leads-push : (old : EngineView) (entries : List (Step × Reply)) (mid : EngineView) (step : Step) (reply : Reply) (new : EngineView)
-    → RepliesLead old (noted_steps entries) (noted_replies entries) mid → EngineFollows mid step reply new → EngineExact mid step reply new
+Leads-push : (old : WaitingView) (entries : List (Step × Reply)) (mid : WaitingView) (step : Step) (reply : Reply) (new : WaitingView)
+    → RepliesLead old (noted_steps entries) (noted_replies entries) mid → WaitingFollows mid step reply new → WaitingExact mid step reply new
     → RepliesLead old (noted_steps (entries ++ (step, reply) ∷ [])) (noted_replies (entries ++ (step, reply) ∷ [])) new
 Leads-push old [] mid step reply new led follows exact =
-    (new, subst (λ (st : EngineView). EngineFollows st step reply new) (sym led) follows, subst (λ (st : EngineView). EngineExact st step reply new) (sym led) exact, refl)
+    (new, subst (λ (st : WaitingView). WaitingFollows st step reply new) (sym led) follows, subst (λ (st : WaitingView). WaitingExact st step reply new) (sym led) exact, refl)
 Leads-push old (e ∷ es) mid step reply new led follows exact =
     (led.0, led.1, led.2, Leads-push led.0 es mid step reply new led.3 follows exact)
 
 -- a new engine with no entries
-pub IsBookOf-new : (settings : Settings) (st : EngineView) (entries : List (Step × Reply)) → IsNewEngine settings st → entries ≡ [] → IsBookOf settings (record { engine = st; journal = entries })
+pub IsBookOf-new : (settings : Settings) (st : WaitingView) (entries : List (Step × Reply)) → IsNewWaiting settings st → entries ≡ [] → IsBookOf settings (record { engine = st; journal = entries })
 IsBookOf-new settings st entries new empty =
     record { first = st; new = new; leads = subst (λ (es : List (Step × Reply)). RepliesLead st (noted_steps es) (noted_replies es) st) (sym empty) refl }
 
 pub IsBookOf-more : (settings : Settings) (old new : BookView) (step : Step) (reply : Reply) → IsBookOf settings old → new.journal ≡ old.journal ++ (step, reply) ∷ []
-    → EngineFollows old.engine step reply new.engine → EngineExact old.engine step reply new.engine → IsBookOf settings new
+    → WaitingFollows old.engine step reply new.engine → WaitingExact old.engine step reply new.engine → IsBookOf settings new
 IsBookOf-more settings old new step reply made journal follows exact = record {
   first = made.first;
   new = made.new;
@@ -40,7 +37,7 @@ pub IsBookOf-appends : (settings : Settings) (old new : BookView) (step : Step) 
 IsBookOf-appends settings old new step reply made appends = IsBookOf-more settings old new step appends.noted made appends.journal appends.follows appends.exact
 
 pub IsBook-more : (old new : BookView) (step : Step) (reply : Reply) → IsBook old → new.journal ≡ old.journal ++ (step, reply) ∷ []
-    → EngineFollows old.engine step reply new.engine → EngineExact old.engine step reply new.engine → IsBook new
+    → WaitingFollows old.engine step reply new.engine → WaitingExact old.engine step reply new.engine → IsBook new
 IsBook-more old new step reply book journal follows exact =
     record { settings = book.settings; made = IsBookOf-more book.settings old new step reply book.made journal follows exact }
 
@@ -57,5 +54,5 @@ IsBook-run book is = (is.settings, IsBookOf-run is.settings book is.made)
 abbrev pub world_of : (book : BookView) → IsBook book → World
 world_of book is = after (beginning is.settings.indexed) (noted_steps book.journal) (noted_replies book.journal)
 
-pub IsBook-agrees : (book : BookView) (is : IsBook book) → EngineAgrees book.engine (world_of book is)
+pub IsBook-agrees : (book : BookView) (is : IsBook book) → WaitingAgrees book.engine (world_of book is)
 IsBook-agrees book is = (IsBookOf-run is.settings book is.made).agrees

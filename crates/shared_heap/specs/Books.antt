@@ -12,15 +12,12 @@ use Rattle.refinement.specs.Allowed.{IsRun, after}
 use Rattle.session_core.specs.declared.runs.RunFault.{RunFault}
 use Rattle.session_core.specs.declared.runs.RunFault.TheVariants as fault
 use Rattle.session_core.specs.Runs.{RepliesLead}
-use Rattle.vacuum_engine.specs.State.{EngineView}
-use Rattle.vacuum_engine.specs.Exact.{EngineExact}
-use Rattle.vacuum_engine.specs.Agrees.{EngineAgrees}
-use Rattle.vacuum_engine.specs.Clauses.{EngineFollows}
-use Rattle.vacuum_engine.specs.New.{IsNewEngine}
+use Rattle.waiting_engine.specs.State.{WaitingView, WaitingAgrees}
+use Rattle.waiting_engine.specs.Clauses.{WaitingExact, WaitingFollows, IsNewWaiting}
 use Rattle.shared_heap.specs.Replies.{IsSame}
 
 pub record BookView : Type 0 where
-  pub engine : EngineView
+  pub engine : WaitingView
   -- each step with its reply, the oldest first
   pub journal : List (Step × Reply)
 
@@ -32,14 +29,14 @@ noted_replies entries = map (λ (e : Step × Reply). e.1) entries
 
 -- a new engine of these settings did the steps of the journal, gave its replies, and is at their end
 pub record IsBookOf (settings : Settings) (book : BookView) : Type 0 where
-  pub first : EngineView
-  pub new : IsNewEngine settings first
+  pub first : WaitingView
+  pub new : IsNewWaiting settings first
   pub leads : RepliesLead first (noted_steps book.journal) (noted_replies book.journal) book.engine
 
 -- the journal is a run of the history from its beginning, and the engine agrees with the world at its end
 pub record IsRunOf (settings : Settings) (book : BookView) : Type 0 where
   pub run : IsRun (beginning settings.indexed) (noted_steps book.journal) (noted_replies book.journal)
-  pub agrees : EngineAgrees book.engine
+  pub agrees : WaitingAgrees book.engine
       (after (beginning settings.indexed) (noted_steps book.journal) (noted_replies book.journal))
 
 -- what every book keeps: so it is for some settings
@@ -55,8 +52,8 @@ pub record Appends (old : BookView) (step : Step) (reply : Reply) (new : BookVie
   pub noted : Reply
   pub same : IsSame noted reply
   pub journal : new.journal ≡ old.journal ++ (step, noted) ∷ []
-  pub follows : EngineFollows old.engine step noted new.engine
-  pub exact : EngineExact old.engine step noted new.engine
+  pub follows : WaitingFollows old.engine step noted new.engine
+  pub exact : WaitingExact old.engine step noted new.engine
 
 -- or it was not stepped, and memory was refused
 abbrev pub Calls : BookView → Step → Reply → BookView → Type 0

@@ -5,10 +5,8 @@ use Rattle.calls.specs.declared.step.Step.{Step}
 use Rattle.calls.specs.declared.reply.Reply.{Reply}
 use Rattle.calls.specs.declared.reply.Reply.TheVariants as reply
 use Rattle.calls.specs.declared.reply.Refusal.TheVariants as refusal
-use Rattle.vacuum_engine.specs.State.{EngineView}
-use Rattle.vacuum_engine.specs.Exact.{EngineExact}
-use Rattle.vacuum_engine.specs.Agrees.{EngineAgrees}
-use Rattle.vacuum_engine.specs.Clauses.{EngineFollows}
+use Rattle.waiting_engine.specs.State.{WaitingView, WaitingAgrees}
+use Rattle.waiting_engine.specs.Clauses.{WaitingExact, WaitingFollows}
 
 -- the same reply: a list of rows by its rows, wherever they are
 abbrev pub IsSame : Reply → Reply → Type 0
@@ -22,8 +20,8 @@ RowsFit reply room = Unit {0}
 
 -- there is room for any reply that an engine may give to the step
 abbrev pub HasRoomFor : Step → ℕ → Type 0
-HasRoomFor step room = (w : World) (old new : EngineView) (reply : Reply) → EngineAgrees old w
-    → EngineFollows old step reply new → EngineExact old step reply new → RowsFit reply room
+HasRoomFor step room = (w : World) (old new : WaitingView) (reply : Reply) → WaitingAgrees old w
+    → WaitingFollows old step reply new → WaitingExact old step reply new → RowsFit reply room
 
 abbrev pub is_busy_reply : Reply → Bool
 is_busy_reply (reply.Refused (refusal.Busy o)) = true

@@ -338,7 +338,8 @@ impl Pair {
     // Whether a version of this size fits on no page, and there may be no further page.
     fn is_full(&self, size: usize) -> bool
         ensures { IsTrue result
-            ↔ AreFull self.now.engine.core.heap.pages.pages self.now.settings.max_pages size }
+            ↔ AreFull self.now.engine.engine.core.heap.pages.pages
+            self.now.settings.max_pages size }
     {
         for number in 0..self.settings.max_pages {
             if !is_full_page(self.engine.page(number), size) {

@@ -114,7 +114,7 @@ fn place_of_refusal(refusal: Refusal) -> Option<usize>
         Refusal::IndexBusy => Some(43),
         Refusal::VacuumRunning => Some(31),
         Refusal::NoVacuum => Some(32),
-        Refusal::NoMemory => None,
+        Refusal::Deadlock | Refusal::NoMemory => None,
     }
 }
 

@@ -6,6 +6,10 @@
 #[cfg(test)]
 mod lists;
 #[cfg(test)]
+mod replay;
+#[cfg(test)]
+mod rings;
+#[cfg(test)]
 mod rows;
 #[cfg(test)]
 mod threads;

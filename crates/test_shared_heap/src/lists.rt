@@ -1,13 +1,14 @@
 //! Workers that do lists of steps, each in a thread of its own.
 
-use crate::rows::{SETTINGS, are_same, row};
-use session_core::{Refusal, Reply, Step, run};
-use shared_heap::{Book, Gate, Line, run_gated, run_threads};
+use crate::replay::replay;
+use crate::rows::{SETTINGS, row};
+use session_core::Step;
+use shared_heap::{Gate, Line, run_gated, run_threads};
 use std::alloc::{AllocError, Global};
 use std::sync::atomic::{AtomicU64, Ordering};
 use std::test::Fail;
 
-fn line(wait: bool, step: Step) -> Line {
+pub(crate) fn line(wait: bool, step: Step) -> Line {
     Line { wait, step }
 }
 
@@ -25,29 +26,6 @@ fn list_of(alloc: Global, s: u8) -> Result<Vec<Line>, AllocError> {
     Ok(lines)
 }
 
-/// The steps of a journal.
-fn steps_of(alloc: Global, book: &Book) -> Result<Vec<Step>, AllocError> {
-    let mut steps = Vec::new(alloc);
-    for entry in book.journal() {
-        steps.push(entry.0.copy(alloc)?)?;
-    }
-    Ok(steps)
-}
-
-/// How many entries were answered Busy, if each was answered as the replies say.
-fn busy_entries(book: &Book, replies: &[Reply]) -> Option<usize> {
-    let mut busy = 0usize;
-    for (entry, reply) in book.journal().iter().zip(replies.iter()) {
-        if !are_same(&entry.1, reply) {
-            return None;
-        }
-        if matches!(&entry.1, Reply::Refused(Refusal::Busy(_))) {
-            busy = busy.saturating_add(1);
-        }
-    }
-    Some(busy)
-}
-
 // One thread that does the steps of the journal gets the same replies.
 #[test]
 fn eight_workers_replay(rt: HostRuntime) -> Result<(), Fail> {
@@ -57,11 +35,8 @@ fn eight_workers_replay(rt: HostRuntime) -> Result<(), Fail> {
         lists.push(list_of(alloc, s)?)?;
     }
     let book = run_threads(&rt, alloc, SETTINGS, lists)?;
-    let steps = steps_of(alloc, &book)?;
-    let replies = run(alloc, SETTINGS, steps.as_slice())?;
-    assert_eq!(rt; replies.len(), book.journal().len());
-    match busy_entries(&book, replies.as_slice()) {
-        Some(busy) => assert_eq!(rt; book.journal().len(), busy.saturating_add(48)),
+    match replay(alloc, &book)? {
+        Some(entries) => assert_eq!(rt; entries.others, 48),
         None => assert!(rt; false),
     }
     Ok(())

@@ -18,7 +18,7 @@ returns-in_ok-tell_reply-in-Some-VacuumFinish-clause-done c =
 pub returns-in_ok-show_ids-in-Some-Ids-clause-done : goal.returns-in_ok-show_ids-in-Some-Ids-clause-done
 returns-in_ok-show_ids-in-Some-Ids-clause-done c =
     let says = rw (c.in-Some-Ids.is, c.in-Some-Ids.field-0-is) at c.in_ok-step.ensures in
-    (showed_ids (next_id c.args.engine.now.core.heap.statuses) c.args.engine.now.core.heap.statuses.first, says.0, says.1, (refl, refl, refl), c.in_ok-show_ids-in-Some-Ids.ensures)
+    (showed_ids (next_id c.args.engine.now.engine.core.heap.statuses) c.args.engine.now.engine.core.heap.statuses.first, says.0, says.1, (refl, refl, refl), c.in_ok-show_ids-in-Some-Ids.ensures)
 
 pub returns-in_ok-show_page-in-Some-Page-clause-done : goal.returns-in_ok-show_page-in-Some-Page-clause-done
 returns-in_ok-show_page-in-Some-Page-clause-done c =
@@ -28,7 +28,7 @@ returns-in_ok-show_page-in-Some-Page-clause-done c =
 pub returns-in_ok-show_index-in-Some-Entries-clause-done : goal.returns-in_ok-show_index-in-Some-Entries-clause-done
 returns-in_ok-show_index-in-Some-Entries-clause-done c =
     let says = rw (c.in-Some-Entries.is, c.in-Some-Entries.field-0-is) at c.in_ok-step.ensures in
-    (showed_entries c.in-Some-Entries.number (option_map (λ index. index.entries) (engine_index c.args.engine.now.core c.in-Some-Entries.number)), says.0, says.1, (refl, refl), c.in_ok-show_index-in-Some-Entries.ensures)
+    (showed_entries c.in-Some-Entries.number (option_map (λ index. index.entries) (engine_index c.args.engine.now.engine.core c.in-Some-Entries.number)), says.0, says.1, (refl, refl), c.in_ok-show_index-in-Some-Entries.ensures)
 
 pub returns-in-None-clause-bad : goal.returns-in-None-clause-bad
 returns-in-None-clause-bad c = rw c.in-None.is at c.in_ok-step.ensures

@@ -3,7 +3,8 @@ use Rattle.std.specs.Prelude.{IsSome}
 use Rattle.plain_history.specs.declared.plain.PlainSession.{PlainSession}
 use Rattle.history.specs.History.{Transaction, IsLate}
 use Rattle.history.specs.World.{OpenSession, own_write, start_now, ClosesRing}
-use Rattle.plain_history.specs.Plain.{Plain, open_of, session_in, wait_in}
+use Rattle.plain_history.specs.Plain.{Plain, open_of, session_in}
+use Rattle.waits.specs.View.{wait_in}
 use Rattle.plain_history.proofs.plain.PlainHistory.check_conflicts.Goals as goal
 
 pub returns-then-is_late-clause-err : goal.returns-then-is_late-clause-err

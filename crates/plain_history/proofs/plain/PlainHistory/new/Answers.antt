@@ -5,7 +5,9 @@ use Rattle.std.specs.Option.{option_map, option_flatten}
 use Rattle.history.specs.History.{Transaction}
 use Rattle.history.specs.World.{OpenSession, World, beginning, is_indexed}
 use Rattle.plain_history.specs.declared.plain.PlainSession.{PlainSession}
-use Rattle.plain_history.specs.Plain.{Plain, open_of, session_in, wait_in, too_new_in, world_of}
+use Rattle.plain_history.specs.Plain.{Plain, open_of, session_in, too_new_in, world_of}
+use Rattle.waits.specs.View.{wait_in}
+use Rattle.waits.proofs.WaitLemmas.{nobody_waits}
 use Rattle.plain_history.proofs.Worlds.{none_marked}
 use Rattle.plain_history.proofs.plain.PlainHistory.new.Goals as goal
 
@@ -15,12 +17,6 @@ nobody_sits zero zero = refl
 nobody_sits zero (suc s) = refl
 nobody_sits (suc count) zero = refl
 nobody_sits (suc count) (suc s) = nobody_sits count s
-
-nobody_waits : (count s : ℕ) → wait_in (replicate count None) s ≡ None
-nobody_waits zero zero = refl
-nobody_waits zero (suc s) = refl
-nobody_waits (suc count) zero = refl
-nobody_waits (suc count) (suc s) = nobody_waits count s
 
 nothing_is_marked : (count n s index : ℕ) → too_new_in (replicate count (replicate n false)) s index ≡ false
 nothing_is_marked zero n s index = refl

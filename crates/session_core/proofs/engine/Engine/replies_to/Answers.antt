@@ -1,8 +1,7 @@
 use Rattle.std.proofs.Common.{◌∙◌, List, sym, subst, take, drop, ◌+◌, arith, refl, length}
 use Rattle.calls.specs.declared.step.Step.{Step}
 use Rattle.calls.specs.declared.reply.Reply.{Reply}
-use Rattle.vacuum_engine.specs.Exact.{EngineExact}
-use Rattle.vacuum_engine.specs.Clauses.{EngineFollows}
+use Rattle.waiting_engine.specs.Clauses.{WaitingFollows, WaitingExact}
 use Rattle.session_core.specs.Runs.{RepliesLead, for_replies, for_copy}
 use Rattle.session_core.proofs.Running.{Leads-more, Leads-all, split_at, positive}
 use Rattle.session_core.proofs.engine.Engine.replies_to.Goals as goal
@@ -27,8 +26,8 @@ pub loop-step-preserved : goal.loop-step-preserved
 loop-step-preserved c =
     let i = c.loop-step.step-index in
     let copied = c.in-Ok-copy.ensures.copy ∙ c.step-item.is in
-    let follows = subst (λ (step : Step). EngineFollows c.loop-step.self step c.step.result c.step.new.self) copied c.step.ensures.follows in
-    let exact = subst (λ (step : Step). EngineExact c.loop-step.self step c.step.result c.step.new.self) copied c.step.ensures.exact in (
+    let follows = subst (λ (step : Step). WaitingFollows c.loop-step.self step c.step.result c.step.new.self) copied c.step.ensures.follows in
+    let exact = subst (λ (step : Step). WaitingExact c.loop-step.self step c.step.result c.step.new.self) copied c.step.ensures.exact in (
       subst (λ (rs : List Reply). RepliesLead c.args.self.now (take (i + 1) c.args.steps.now) rs c.step.new.self) (sym c.push_reserved.ensures.items)
           (Leads-more c.args.self.now c.args.steps.now c.loop-step.replies.items c.loop-step.self c.step.new.self i c.step-item.result c.step.result c.loop-step-test.true c.loop-step.invariant.0 follows exact),
       omega (arith, c.push_reserved.ensures.len, c.loop-step.invariant.1),

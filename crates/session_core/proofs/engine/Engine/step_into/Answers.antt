@@ -1,43 +1,24 @@
-use Rattle.std.proofs.Common.{◌≡◌, ◌∙◌, false, rules, refl, ap, sym, subst}
-use Rattle.std.specs.Option.{option_map}
-use Rattle.calls.specs.declared.step.Step.{Step}
-use Rattle.calls.specs.declared.step.Step.TheVariants as step
-use Rattle.vacuum_passes.specs.View.{disturbed}
-use Rattle.session_steps.specs.Vacuums.{IsSetUp}
-use Rattle.session_steps.specs.State.{State, is_answered_above}
-use Rattle.session_steps.specs.Exact.{AnswersStep}
-use Rattle.vacuum_engine.specs.State.{EngineView}
-use Rattle.vacuum_engine.specs.Clauses.{EngineFollows}
-use Rattle.vacuum_engine.proofs.Vacuums.{above-follows}
-use Rattle.vacuum_engine.proofs.Others.{others-follow}
-use Rattle.session_core.proofs.Stepping.{beside-exact}
+use Rattle.std.proofs.Common.{◌≡◌, ◌∙◌, Bool, List, Option, ℕ, Some, None, sym, subst}
+use Rattle.calls.specs.Steps.{session_of}
+use Rattle.waiting_engine.specs.Laws.{with_waits}
+use Rattle.waiting_engine.specs.Notes.{NotesWait}
+use Rattle.waiting_engine.proofs.Noting.{Follows, noted-follows, ownerless-follows}
 use Rattle.session_core.proofs.engine.Engine.step_into.Goals as goal
 
-pub returns-in-VacuumBegin-clause-follows : goal.returns-in-VacuumBegin-clause-follows
-returns-in-VacuumBegin-clause-follows c = subst (λ (step : Step). EngineFollows c.args.self.now step c.begin_vacuum.new.reply c.begin_vacuum.new.self) (sym c.in-VacuumBegin.is)
-    (above-follows c.args.self.now c.begin_vacuum.new.self (step.VacuumBegin c.in-VacuumBegin.mode) c.begin_vacuum.new.reply refl (subst (λ (e : EngineView). IsSetUp e.core) c.self.view_is c.fact_set_up.ensures) c.begin_vacuum.ensures)
-
-pub returns-in-VacuumStep-clause-follows : goal.returns-in-VacuumStep-clause-follows
-returns-in-VacuumStep-clause-follows c = subst (λ (step : Step). EngineFollows c.args.self.now step c.step_vacuum.new.reply c.step_vacuum.new.self) (sym c.in-VacuumStep.is)
-    (above-follows c.args.self.now c.step_vacuum.new.self step.VacuumStep c.step_vacuum.new.reply refl (subst (λ (e : EngineView). IsSetUp e.core) c.self.view_is c.fact_set_up.ensures) c.step_vacuum.ensures)
-
-pub returns-in-VacuumCancel-clause-follows : goal.returns-in-VacuumCancel-clause-follows
-returns-in-VacuumCancel-clause-follows c = subst (λ (step : Step). EngineFollows c.args.self.now step c.cancel_vacuum.new.reply c.cancel_vacuum.new.self) (sym c.in-VacuumCancel.is)
-    (above-follows c.args.self.now c.cancel_vacuum.new.self step.VacuumCancel c.cancel_vacuum.new.reply refl (subst (λ (e : EngineView). IsSetUp e.core) c.self.view_is c.fact_set_up.ensures) c.cancel_vacuum.ensures)
-
-pub returns-in-CreateIndex-clause-follows : goal.returns-in-CreateIndex-clause-follows
-returns-in-CreateIndex-clause-follows c = subst (λ (step : Step). EngineFollows c.args.self.now step c.create_index.new.reply c.create_index.new.self) (sym c.in-CreateIndex.is)
-    (above-follows c.args.self.now c.create_index.new.self (step.CreateIndex c.in-CreateIndex.column) c.create_index.new.reply refl (subst (λ (e : EngineView). IsSetUp e.core) c.self.view_is c.fact_set_up.ensures) c.create_index.ensures)
+pub returns : goal.returns
+returns c =
+    let below = c.step_below.new.self.engine in
+    let is = sym c.session_of-session.ensures ∙ c.in-Some.is in
+    let P : List (Option ℕ) → Bool → Type 0 = λ waits gives. NotesWait (with_waits below waits) c.in-Some.s gives c.step_below.new.reply c.note.new.self c.note.new.reply in
+    let notes = subst (λ waits. P waits c.gives_back-gives.result) c.step_below.ensures.waits c.note.ensures in
+    let f = noted-follows c.args.self.now c.note.new.self c.args.step c.in-Some.s below c.step_below.new.reply c.note.new.reply is c.step_below.ensures.follows c.step_below.ensures.exact
+    (subst (λ gives. P c.args.self.now.waits gives) c.gives_back-gives.ensures notes) in
+    record { follows = f.0; exact = f.1 }
 
 pub returns-in_default : goal.returns-in_default
 returns-in_default c =
-    let step = c.args.step in
-    let other : is_answered_above step ≡ false = search rules in
-    let core = ap (λ (e : EngineView). e.core) c.self-in_default.view_is ∙ c.disturb.ensures.core in
-    let vacuum = ap (λ (e : EngineView). e.vacuum) c.self-in_default.view_is ∙ (c.disturb.ensures.vacuum ∙ ap (λ b. option_map (disturbed b) c.args.self.now.vacuum) c.is_session.ensures) in
-    let does = subst (λ (st : State). AnswersStep st step c.step_into.new.reply c.step_into.new.self) core (c.step_into.ensures.answers other) in
-    let new : EngineView = record { core = c.step_into.new.self; vacuum = c.self-in_default.inside.vacuum } in
-    record {
-      follows = others-follow c.args.self.now new step c.step_into.new.reply other does.follows (record { core = does.exact; vacuum = vacuum });
-      exact = beside-exact c.args.self.now new step c.step_into.new.reply other (record { core = does.exact; vacuum = vacuum });
-    }
+    let below = c.step_below.new.self.engine in
+    let is = sym c.session_of-session.ensures ∙ c.in_default.is in
+    let f = subst (λ waits. Follows c.args.self.now c.args.step c.step_below.new.reply (with_waits below waits)) (sym c.step_below.ensures.waits)
+    (ownerless-follows c.args.self.now c.args.step below c.step_below.new.reply is c.step_below.ensures.follows c.step_below.ensures.exact) in
+    record { follows = f.0; exact = f.1 }

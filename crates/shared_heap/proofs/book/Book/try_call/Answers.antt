@@ -1,8 +1,7 @@
 use Rattle.std.proofs.Common.{List, [], ◌∷◌, ◌++◌, ap, sym, subst, ◌∙◌}
 use Rattle.calls.specs.declared.step.Step.{Step}
 use Rattle.calls.specs.declared.reply.Reply.{Reply}
-use Rattle.vacuum_engine.specs.Exact.{EngineExact}
-use Rattle.vacuum_engine.specs.Clauses.{EngineFollows}
+use Rattle.waiting_engine.specs.Clauses.{WaitingExact, WaitingFollows}
 use Rattle.shared_heap.specs.Books.{BookView, Appends}
 use Rattle.shared_heap.proofs.Running.{IsBook-more, IsBook-agrees, world_of}
 use Rattle.shared_heap.proofs.book.Book.try_call.Goals as goal
@@ -16,8 +15,8 @@ pub invariant_of-self-2 : goal.invariant_of-self-2
 invariant_of-self-2 c =
     let old = c.self.inside in
     let pushed = c.push_reserved.ensures.items ∙ ap (λ (es : List (Step × Reply)). es ++ (c.in_ok-copy.copy, c.step-reply.result) ∷ []) c.reserve.ensures.items in
-    let follows = subst (λ (step : Step). EngineFollows old.engine step c.step-reply.result c.step-reply.new.self) (sym c.in_ok-copy.ensures.copy) c.step-reply.ensures.follows in
-    let exact = subst (λ (step : Step). EngineExact old.engine step c.step-reply.result c.step-reply.new.self) (sym c.in_ok-copy.ensures.copy) c.step-reply.ensures.exact in
+    let follows = subst (λ (step : Step). WaitingFollows old.engine step c.step-reply.result c.step-reply.new.self) (sym c.in_ok-copy.ensures.copy) c.step-reply.ensures.follows in
+    let exact = subst (λ (step : Step). WaitingExact old.engine step c.step-reply.result c.step-reply.new.self) (sym c.in_ok-copy.ensures.copy) c.step-reply.ensures.exact in
     IsBook-more (record { engine = old.engine; journal = old.journal.items }) _ c.in_ok-copy.copy c.step-reply.result c.self.invariant pushed follows exact
 
 pub returns : goal.returns

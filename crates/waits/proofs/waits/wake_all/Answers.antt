@@ -1,8 +1,8 @@
 use Rattle.std.proofs.Common.{◌∙◌, ap, set, not, nat_eq, None}
 use Rattle.std.proofs.lemmas.List.Edits.{map_over_more}
 use Rattle.history.specs.Cursors.{kept_where}
-use Rattle.plain_history.proofs.Worlds.{get_or_twice}
-use Rattle.plain_history.proofs.change.wake_all.Goals as goal
+use Rattle.waits.proofs.WaitLemmas.{get_or_twice}
+use Rattle.waits.proofs.waits.wake_all.Goals as goal
 
 pub loop-wait-preserved : goal.loop-wait-preserved
 loop-wait-preserved c =

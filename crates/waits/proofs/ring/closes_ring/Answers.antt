@@ -1,7 +1,7 @@
 use Rattle.std.proofs.Common.{◌≡◌, ◌<◌, sym, subst, true, false, Some, length, arith}
-use Rattle.plain_history.specs.Plain.{wait_in}
-use Rattle.plain_history.proofs.Rings.{Walk, walk-none, walk-more, walk-room, walk-back, among-from_contains}
-use Rattle.plain_history.proofs.lookup.closes_ring.Goals as goal
+use Rattle.waits.specs.View.{wait_in}
+use Rattle.waits.proofs.Rings.{Walk, walk-none, walk-more, walk-room, walk-back, among-from_contains}
+use Rattle.waits.proofs.ring.closes_ring.Goals as goal
 
 pub walk-init : goal.walk-init
 walk-init c = rw c.new-seen.ensures (walk-none (wait_in c.args.waits.now) c.args.s c.args.o (omega arith))

@@ -1,8 +1,8 @@
 use Rattle.std.proofs.Common.{◌-◌}
 use Rattle.arrayvec.specs.ArrayVec.{array_vec_len}
-use Rattle.plain_history.proofs.Rings.{Walk}
-use Rattle.plain_history.specs.Plain.{wait_in}
-use Rattle.plain_history.proofs.lookup.closes_ring.Given as goal
+use Rattle.waits.proofs.Rings.{Walk}
+use Rattle.waits.specs.View.{wait_in}
+use Rattle.waits.proofs.ring.closes_ring.Given as goal
 
 abbrev pub invariant-walk : goal.invariant-walk
 invariant-walk l = Walk (wait_in l.waits) l.s l.o l.seen.items l.at

@@ -1,0 +1,121 @@
+//! Rings of waits: whoever would close one is told Deadlock, and the others go on once it has aborted.
+
+use crate::lists::line;
+use crate::replay::replay;
+use crate::rows::{SETTINGS, row};
+use session_core::{Refusal, Reply, Step};
+use shared_heap::{Gate, Line, Shared, run_gated};
+use std::alloc::{AllocError, Global};
+use std::sync::Wait;
+use std::sync::atomic::{AtomicU64, Ordering};
+use std::test::Fail;
+use std::thread;
+use std::thread::Threads;
+
+/// Holds each worker, after its second entry, until all have come so far.
+#[derive(Drop)]
+struct SecondEntry {
+    workers: u64,
+    arrived: AtomicU64,
+    passes: [AtomicU64; 3],
+}
+
+impl SecondEntry {
+    fn new(workers: u64) -> SecondEntry {
+        SecondEntry {
+            workers,
+            arrived: AtomicU64::new(0),
+            passes: [AtomicU64::new(0), AtomicU64::new(0), AtomicU64::new(0)],
+        }
+    }
+}
+
+impl Gate for SecondEntry {
+    fn pass(&self, worker: u8) {
+        let Some(passes) = self.passes.get(usize::from(worker)) else {
+            return;
+        };
+        if passes.fetch_add(1, Ordering::SeqCst) != 1 {
+            return;
+        }
+        self.arrived.fetch_add(1, Ordering::SeqCst);
+        for _ in 0..200_000_000u64 {
+            if self.arrived.load(Ordering::SeqCst) >= self.workers {
+                return;
+            }
+        }
+    }
+}
+
+/// A session inserts the key of its number, and then the next session's, waiting; and aborts.
+fn list_of(alloc: Global, s: u8, sessions: u8) -> Result<Vec<Line>, AllocError> {
+    let next = if s + 1 < sessions { s + 1 } else { 0 };
+    let own = row(alloc, u64::from(s), 1);
+    let other = row(alloc, u64::from(next), 1);
+    let mut lines = Vec::new(alloc);
+    lines.push(line(false, Step::Begin(s)))?;
+    lines.push(line(false, Step::Insert(s, own)))?;
+    lines.push(line(true, Step::Insert(s, other)))?;
+    lines.push(line(false, Step::Abort(s)))?;
+    Ok(lines)
+}
+
+// One of the workers is told Deadlock, and no more; each does its four lines.
+#[test]
+fn one_worker_closes_the_ring(rt: HostRuntime) -> Result<(), Fail> {
+    let alloc = rt.alloc();
+    for workers in [2u8, 3] {
+        let gate = SecondEntry::new(u64::from(workers));
+        let mut lists = Vec::new(alloc);
+        for s in 0..workers {
+            lists.push(list_of(alloc, s, workers)?)?;
+        }
+        let book = run_gated(&rt, alloc, SETTINGS, lists, &gate)?;
+        match replay(alloc, &book)? {
+            Some(entries) => {
+                assert_eq!(rt; entries.deadlocks, 1);
+                assert_eq!(rt; entries.others, usize::from(workers) * 4 - 1);
+            }
+            None => assert!(rt; false),
+        }
+    }
+    Ok(())
+}
+
+/// The session inserts another's key, waiting for it, and aborts.
+fn take_and_leave<R: Wait>(rt: &R, alloc: Global, shared: &Shared, s: u8, key: u64) -> Reply {
+    let waited = shared.call_waiting(rt, Step::Insert(s, row(alloc, key, 7)));
+    shared.call(rt, Step::Abort(s));
+    waited
+}
+
+/// Sessions 0 and 1 take each other's key.
+fn take_both<'x, R: Threads + Wait + Sync>(
+    rt: &'x R,
+    alloc: Global,
+    shared: &'x Shared,
+) -> (Reply, Reply) {
+    thread::join(
+        rt,
+        move || take_and_leave(rt, alloc, shared, 0, 1),
+        move || take_and_leave(rt, alloc, shared, 1, 0),
+    )
+}
+
+// A waiting call ends by Deadlock too.
+#[test]
+fn one_call_closes_the_ring(rt: HostRuntime) -> Result<(), Fail> {
+    let alloc = rt.alloc();
+    let shared = Shared::new(alloc, SETTINGS)?;
+    for s in 0..2u8 {
+        shared.call(&rt, Step::Begin(s));
+        shared.call(&rt, Step::Insert(s, row(alloc, u64::from(s), 5)));
+    }
+    let ends = match take_both(&rt, alloc, &shared) {
+        (Reply::Done, Reply::Refused(Refusal::Deadlock)) => true,
+        (Reply::Refused(Refusal::Deadlock), Reply::Done) => true,
+        _ => false,
+    };
+    assert!(rt; ends);
+    Ok(())
+}

@@ -1,0 +1,3 @@
+pub mod WaitsAfter
+pub mod Waiting
+pub mod Noting

@@ -1,0 +1,4 @@
+pub mod State
+pub mod Clauses
+pub mod Laws
+pub mod Notes
