@@ -11,13 +11,16 @@
  * No call waits: after SANDPIPER_BUSY let go of the lock, and try again or abort. No call may be made from a signal handler, from the
  * forked child of a process with threads, or from within malloc, realloc or free. Two handles are independent.
  *
+ * WAITS. After SANDPIPER_BUSY it is noted that the session waits for the other, until its own next step, whatever that answers, or until
+ * the other is committed, aborted or returned to a savepoint. Where a wait would close a ring, the answer is SANDPIPER_DEADLOCK.
+ *
  * MEMORY comes from the program's malloc, realloc and free. Where that is refused, the call says SANDPIPER_NO_MEMORY and has changed
  * nothing; it may be repeated. sandpiper_get, _rollback_to, _release, _commit, _abort, _prune, _close, _next, _close_cursor,
  * _slot_at, _page_at, _page_bytes, _check_page, _state, _version, _vacuum_begin, _vacuum_step and _vacuum_cancel ask for none.
  * Nor do _open_heap, _open_by_key and _open_index, unless the session reads by statement and more than 8 ids are in progress.
  *
  * STATUSES. Each call returns one of those below. From 16 on something was refused. Whatever the status is, also where nobody reads
- * it, the table is whole and usable. A refused call leaves everything as it was, but for two: after SANDPIPER_CONFLICT the
+ * it, the table is whole and usable. A refused call leaves all rows as they were. After SANDPIPER_CONFLICT and SANDPIPER_DEADLOCK the
  * session's transaction has failed, and an update may have pruned a page, which no session can tell.
  */
 #ifndef SANDPIPERCOT_H

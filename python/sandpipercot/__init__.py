@@ -8,7 +8,7 @@
 
 A session is a transaction: its `with` block commits it at the end, and aborts it where an exception leaves the block. It reads what
 was committed when it began, and its own writes over that. What the table refuses is raised, each refusal as a class of its own under
-`Refused`; the session goes on after all but `Conflict`. A table stays on the thread that opened it. The numbers are those of
+`Refused`; the session goes on after all but `Conflict` and `Deadlock`. A table stays on the thread that opened it. The numbers are those of
 sandpipercot.h, which says more of each call.
 """
 from __future__ import annotations

@@ -106,8 +106,8 @@ class Session:
         return count
 
     def insert(self, row: Row) -> None:
-        """Writes a row of a key that has none. Refusals: CursorOpen, TooLarge, AlreadyThere, Conflict, Busy, NeedsFreeze, NoRoom,
-        NoMemory."""
+        """Writes a row of a key that has none. Refusals: CursorOpen, TooLarge, AlreadyThere, Conflict, Busy, Deadlock, NeedsFreeze,
+        NoRoom, NoMemory."""
         self._write("insert", row)
 
     def insert_many(self, rows: Iterable[Row]) -> int:
@@ -125,7 +125,7 @@ class Session:
         return self._write_many("update_many", rows)
 
     def delete(self, key: int) -> None:
-        """Takes the row of the key away. Refusals: CursorOpen, NotThere, Conflict, Busy, NeedsFreeze, NoMemory."""
+        """Takes the row of the key away. Refusals: CursorOpen, NotThere, Conflict, Busy, Deadlock, NeedsFreeze, NoMemory."""
         self._ready()
         status = _c.CALLS["delete"](self._table._address, self._number, fits(key, 64))
         if status:

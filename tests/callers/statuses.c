@@ -126,10 +126,9 @@ static const struct {
     CASE(NO_ROOM, no_room), CASE(NEEDS_FREEZE, needs_freeze), CASE(BAD_BOUNDS, bad_bounds), CASE(NO_MEMORY, no_memory),
     CASE(NO_SUCH_PAGE, no_such_page), CASE(NO_SUCH_INDEX, no_such_index), CASE(NO_SUCH_SESSION, no_such_session),
     CASE(VACUUM_RUNNING, vacuum_running), CASE(NO_VACUUM, no_vacuum), CASE(INDEX_TOO_NEW, index_too_new), CASE(INDEX_BUSY, index_busy),
-    CASE(DEADLOCK, deadlock), CASE(NO_ENGINE, no_engine), CASE(HAS_ENGINE, has_engine), CASE(NO_PLACE, no_place),
-    CASE(BAD_MAX_PAGES, bad_max_pages),
+    CASE(NO_ENGINE, no_engine), CASE(HAS_ENGINE, has_engine), CASE(NO_PLACE, no_place), CASE(BAD_MAX_PAGES, bad_max_pages),
     CASE(BAD_STOP_AGE, bad_stop_age), CASE(BAD_FREEZE_MIN_AGE, bad_freeze_min_age), CASE(BAD_FIRST_XID, bad_first_xid), CASE(BAD_DEAD_LIMIT, bad_dead_limit),
-    CASE(BUSY, busy),
+    CASE(DEADLOCK, deadlock), CASE(BUSY, busy),
 };
 
 /* Each status has words of its own, and no other number has any. */

@@ -77,6 +77,29 @@ static void a_session_keeps_its_view(void) {
     close_table();
 }
 
+static void a_ring_of_two_waits_is_a_deadlock(void) {
+    open_table();
+    CHECK(sandpiper_begin(&t, 1) == SANDPIPER_DONE && sandpiper_begin(&t, 2) == SANDPIPER_DONE);
+    CHECK(sandpiper_update(&t, 1, set_row(row, 3, 333, "one")) == SANDPIPER_DONE);
+    CHECK(sandpiper_update(&t, 2, set_row(row, 4, 444, "two")) == SANDPIPER_DONE);
+
+    /* the get of session 1 ends its wait, so that 2 only waits for it; then 1 would close the ring */
+    CHECK(sandpiper_delete(&t, 1, 4) == SANDPIPER_BUSY + 2);
+    CHECK(sandpiper_get(&t, 1, 4, place) == SANDPIPER_FOUND && place->cols[0] == 40);
+    CHECK(sandpiper_delete(&t, 2, 3) == SANDPIPER_BUSY + 1);
+    CHECK(sandpiper_delete(&t, 1, 4) == SANDPIPER_DEADLOCK);
+    CHECK(sandpiper_get(&t, 1, 3, place) == SANDPIPER_FAILED);
+
+    /* a failed session keeps its keys, until it has ended */
+    CHECK(sandpiper_delete(&t, 2, 3) == SANDPIPER_BUSY + 1);
+    CHECK(sandpiper_commit(&t, 1) == SANDPIPER_ROLLED_BACK);
+    CHECK(sandpiper_delete(&t, 2, 3) == SANDPIPER_DONE && sandpiper_commit(&t, 2) == SANDPIPER_COMMITTED);
+    CHECK(sandpiper_begin(&t, 1) == SANDPIPER_DONE);
+    CHECK(sandpiper_get(&t, 1, 3, place) == SANDPIPER_NO_ROW);
+    CHECK(sandpiper_get(&t, 1, 4, place) == SANDPIPER_FOUND && place->cols[0] == 444 && has_body(place, "two"));
+    close_table();
+}
+
 static void cursors_hand_out_what_the_session_reads(void) {
     int64_t sum;
     open_table();
@@ -199,6 +222,7 @@ int main(void) {
     place = new_place();
     a_row_comes_back_as_it_was_written();
     a_session_keeps_its_view();
+    a_ring_of_two_waits_is_a_deadlock();
     cursors_hand_out_what_the_session_reads();
     savepoints_take_back();
     pages_can_be_looked_into();

@@ -83,6 +83,33 @@ class TableTest(unittest.TestCase):
             with self.assertRaises(sp.Conflict):
                 old.update(row(3))
 
+    def test_a_ring_of_two_waits_is_a_deadlock(self) -> None:
+        with self.table.begin() as one, self.table.begin() as two:
+            one.savepoint()
+            one.update(row(3, 333))
+            two.update(row(4, 444))
+            self.assertRaises(sp.Busy, two.update, row(3))
+            with self.assertRaises(sp.Deadlock) as refused:
+                one.update(row(4))
+            self.assertEqual((refused.exception.key, refused.exception.status), (4, sp.Status.DEADLOCK))
+            self.assertRaises(sp.Failed, one.get, 3)
+            # the other waits on, until the failed session gives the key back
+            self.assertRaises(sp.Busy, two.update, row(3))
+            one.rollback_to()
+            two.update(row(3, 444))
+            self.assertEqual(one.get(3), row(3, 30, b"first"))
+        with self.table.begin() as session:
+            self.assertEqual((session.get(3), session.get(4)), (row(3, 444), row(4, 444)))
+
+    def test_a_wait_ends_by_the_next_step(self) -> None:
+        with self.assertRaises(sp.RolledBack), self.table.begin() as one, self.table.begin() as two:
+            one.update(row(3, 333))
+            two.update(row(4, 444))
+            self.assertRaises(sp.Busy, one.update, row(4))
+            self.assertEqual(one.get(4), row(4, 40, b"first"))
+            self.assertRaises(sp.Busy, two.update, row(3))
+            self.assertRaises(sp.Deadlock, one.update, row(4))
+
     def test_read_committed_reads_anew(self) -> None:
         by_snapshot, by_statement = self.table.begin(), self.table.begin(read_committed=True)
         with self.table.begin() as new:

@@ -26,4 +26,6 @@ mod updates;
 #[cfg(test)]
 mod vacuums;
 #[cfg(test)]
+mod waits;
+#[cfg(test)]
 mod worked;

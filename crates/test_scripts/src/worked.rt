@@ -7,6 +7,7 @@ use crate::statements::STATEMENTS;
 use crate::table::{CASES, Case};
 use crate::updates::{CHAINS, PAGES};
 use crate::vacuums::VACUUMS;
+use crate::waits::WAITS;
 use script::run_script;
 use std::alloc::{AllocError, Global};
 use std::test::Fail;
@@ -112,6 +113,11 @@ fn worked_vacuums(rt: HostRuntime) -> Result<(), Fail> {
 #[test]
 fn worked_pages(rt: HostRuntime) -> Result<(), Fail> {
     run_all(rt.alloc(), &PAGES)
+}
+
+#[test]
+fn worked_waits(rt: HostRuntime) -> Result<(), Fail> {
+    run_all(rt.alloc(), &WAITS)
 }
 
 #[test]
