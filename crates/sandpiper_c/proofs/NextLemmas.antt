@@ -41,6 +41,7 @@ hands-rows old new s places after answer next same = record {
   follows = next.follows;
   exact = next.exact;
   vacuum = next.vacuum;
+  waits = next.waits;
   same_reply = same;
   status = ap number_of_status (status-same old.engine.engine.core new.engine.engine.core s (length places) answer next.reply next.exact next.written.answers);
   rows = next.written.rows;

@@ -1,5 +1,5 @@
 -- What a call does that hands out the next rows of a cursor.
-use Rattle.std.specs.Prelude.{◌≡◌, ℕ, zero, suc, true, List, [], ◌∷◌, length, Option, Some, None, Result, Ok, Err}
+use Rattle.std.specs.Prelude.{◌≡◌, ℕ, zero, suc, true, List, [], ◌∷◌, length, slice_set, Option, Some, None, Result, Ok, Err}
 use Rattle.xid_circle.specs.Numbers.{SessionNo, Count}
 use Rattle.tuple_header.specs.declared.row_place.RowPlace.{RowPlace}
 use Rattle.tuple_header.specs.Places.{places_with}
@@ -29,11 +29,13 @@ count_of (Err r) = 0
 
 -- The engine gave a reply that the history allows to a step that asks for as many rows as C has places, as its own contract says. Its
 -- rows are in the first places, all others and the bytes behind each body are as they were, and the status is the reply's number.
+-- By it the session's own wait ends.
 pub record HandsRows (old : Held) (s : SessionNo) (places : List RowPlace) (code : ℕ) (after : List RowPlace) (count : Count) (new : Held) : Type 0 where
   pub reply : Reply
   pub follows : WaitingFollows old.engine (step.Next s (length places)) reply new.engine
   pub exact : ExactNextRows old.engine.engine.core s (length places) reply new.engine.engine.core
-  pub vacuum : new.engine.engine.vacuum ≡ (noted true old.engine).vacuum
+  pub vacuum : new.engine.engine.vacuum ≡ (noted true old.engine.engine).vacuum
+  pub waits : new.engine.waits ≡ slice_set old.engine.waits s None
   pub same_reply : new.reply ≡ old.reply
   pub status : code ≡ number_of_status (status_of_reply reply)
   pub rows : after ≡ places_with (rows_in reply) places

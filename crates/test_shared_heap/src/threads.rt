@@ -1,7 +1,7 @@
 //! Calls by threads of their own.
 
 use crate::rows::{SETTINGS, row};
-use session_core::{Reply, Step};
+use session_core::{Refusal, Reply, Step};
 use shared_heap::Shared;
 use std::alloc::Global;
 use std::sync::Wait;
@@ -60,5 +60,54 @@ fn waiting_call_ends(rt: HostRuntime) -> Result<(), Fail> {
     // one journal has all calls: six, the abort, the get, and the update with what it was answered before
     let book = shared.into_book();
     assert!(rt; book.journal().len() >= 9);
+    Ok(())
+}
+
+/// Sessions 0 and 1 begin, and each inserts the key of its number.
+fn hold_a_key_each<R: Wait>(rt: &R, alloc: Global, shared: &Shared) -> bool {
+    for s in 0..2u8 {
+        let begun = shared.call(rt, Step::Begin(s));
+        let inserted = shared.call(rt, Step::Insert(s, row(alloc, u64::from(s), 1)));
+        if !matches!(begun, Reply::Done) || !matches!(inserted, Reply::Done) {
+            return false;
+        }
+    }
+    true
+}
+
+/// The session inserts the key, waiting. Whether that is a deadlock: then it is aborted.
+fn is_deadlock<R: Wait>(rt: &R, alloc: Global, shared: &Shared, s: u8, key: u64) -> Option<bool> {
+    match shared.call_waiting(rt, Step::Insert(s, row(alloc, key, 2))) {
+        Reply::Refused(Refusal::Deadlock) => {
+            shared.call(rt, Step::Abort(s));
+            Some(true)
+        }
+        Reply::Done => Some(false),
+        _ => None,
+    }
+}
+
+/// Each session inserts the other's key, waiting, in a thread of its own.
+fn cross<'x, R: Threads + Wait + Sync>(
+    rt: &'x R,
+    alloc: Global,
+    shared: &'x Shared,
+) -> (Option<bool>, Option<bool>) {
+    thread::join(
+        rt,
+        move || is_deadlock(rt, alloc, shared, 0, 1),
+        move || is_deadlock(rt, alloc, shared, 1, 0),
+    )
+}
+
+// Two threads that would wait for each other: the one that comes second is told so, and the other has its way.
+#[test]
+fn ring_of_threads_ends(rt: HostRuntime) -> Result<(), Fail> {
+    let alloc = rt.alloc();
+    let shared = Shared::new(alloc, SETTINGS)?;
+    assert!(rt; hold_a_key_each(&rt, alloc, &shared));
+    let (first, second) = cross(&rt, alloc, &shared);
+    assert!(rt; first.is_some() && second.is_some());
+    assert!(rt; first != second);
     Ok(())
 }
