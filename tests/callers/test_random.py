@@ -108,7 +108,7 @@ def main(rounds: int = 2000, seed: Optional[int] = None) -> None:
             if draw.randrange(20) == 0:
                 reader.commit()
                 reader, view = table.begin(1), dict(committed)
-            if draw.randrange(10) == 0:
+            if draw.randrange(10) == 0 and table.state().pages:
                 table.prune(0)
             if draw.randrange(20) == 0:
                 table.vacuum(draw.randrange(2) == 0)
