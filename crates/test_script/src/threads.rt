@@ -21,16 +21,24 @@ fn ends_so<H: Threads + Wait + Sync>(
     ended == wanted && written.as_slice() == journal
 }
 
-static ONE_WORKER: (&[u8], &[u8]) = (
-    b"heap 4 1000 0 3 64 0000\n@3 begin 0\n@3 wait insert 0 1 5 -6 0 0 61ff\n@3 get 0 1\n@3 wait commit 0\n@3 openindex 0 0 -1 1\n@3 vacuum step\n",
-    b"> begin 0\nok\n> insert 0 1 5 -6 0 0 61ff\nok\n> get 0 1\nrow 1 5 -6 0 0 61ff\n> commit 0\ncommitted\n> openindex 0 0 -1 1\nerror 1 NotOpen\n> vacuum step\nerror 18 NoVacuum\n",
-);
+static ONE_WORKER: [(&[u8], &[u8]); 2] = [
+    (
+        b"heap 4 1000 0 3 64 0000\n@3 begin 0\n@3 wait insert 0 1 5 -6 0 0 61ff\n@3 get 0 1\n@3 wait commit 0\n@3 openindex 0 0 -1 1\n@3 vacuum step\n",
+        b"> begin 0\nok\n> insert 0 1 5 -6 0 0 61ff\nok\n> get 0 1\nrow 1 5 -6 0 0 61ff\n> commit 0\ncommitted\n> openindex 0 0 -1 1\nerror 1 NotOpen\n> vacuum step\nerror 18 NoVacuum\n",
+    ),
+    // Deadlock ends a wait.
+    (
+        b"heap 4 1000 0 3 64 0000\n@2 begin 0\n@2 begin 1\n@2 insert 0 1 0 0 0 0 -\n@2 insert 1 2 0 0 0 0 -\n@2 insert 0 2 0 0 0 0 -\n@2 wait insert 1 1 0 0 0 0 -\n@2 wait abort 1\n@2 wait insert 0 2 0 0 0 0 -\n",
+        b"> begin 0\nok\n> begin 1\nok\n> insert 0 1 0 0 0 0 -\nok\n> insert 1 2 0 0 0 0 -\nok\n> insert 0 2 0 0 0 0 -\nerror 7 Busy 1\n> insert 1 1 0 0 0 0 -\nerror 8 Deadlock\n> abort 1\nrolled back\n> insert 0 2 0 0 0 0 -\nok\n",
+    ),
+];
 
 // The lines of one worker are done in their order.
 #[test]
 fn one_worker(rt: HostRuntime) {
-    let (script, journal) = ONE_WORKER;
-    assert!(rt; ends_so(&rt, rt.alloc(), script, Ok(()), journal));
+    for (script, journal) in ONE_WORKER.iter() {
+        assert!(rt; ends_so(&rt, rt.alloc(), script, Ok(()), journal));
+    }
 }
 
 // Two workers' lines are done in either order.
