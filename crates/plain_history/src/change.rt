@@ -78,8 +78,8 @@ fn close(session: &mut Option<PlainSession>)
 }
 
 impl PlainHistory {
-    /// The session's own wait ends.
-    pub(crate) fn end_wait(&mut self, s: u8)
+    /// The session's own wait ends, as by each of its steps. So is done a step that is refused for what the history doesn't know.
+    pub fn end_wait(&mut self, s: u8)
         ensures { world_of self.new ≡ stepped (world_of self.old) s }
     {
         self.waits[s as usize] = None;

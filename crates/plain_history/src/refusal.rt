@@ -7,7 +7,7 @@ use calls::Refusal;
 pub enum Refused {
     /// For a reason that the engine has too.
     By(Refusal),
-    /// An open session holds the key, and a wait for it would close a ring. The engine lets nobody wait.
+    /// An open session holds the key, and a wait for it would close a ring.
     Deadlock,
 }
 

@@ -92,7 +92,8 @@ impl PlainHistory {
         }
     }
 
-    fn check_get(&self, s: u8, key: u64) -> Result<Option<Row>, Refusal>
+    /// The row that the session reads. It is no step, and ends no wait. Refusals in order: NoSuchSession, NotOpen, Failed.
+    pub fn read(&self, s: u8, key: u64) -> Result<Option<Row>, Refusal>
         ensures ok { IfOk result (λ row. PlainReads (world_of self.now) s key row) }
         ensures err { IfErr result (λ why. BarsReady (world_sessions (world_of self.now)) s why) }
     {
@@ -102,14 +103,14 @@ impl PlainHistory {
         }
     }
 
-    /// The row that the session reads. Refusals in order: NoSuchSession, NotOpen, Failed.
+    /// Does the step of a [`PlainHistory::read`], with its answer.
     pub fn get(&mut self, s: u8, key: u64) -> Result<Option<Row>, Refusal>
         ensures found { IfOk result (λ row. PlainReads (world_of self.old) s key row) }
         ensures refused { IfErr result
             (λ why. BarsReady (world_sessions (world_of self.old)) s why) }
         ensures next { world_of self.new ≡ stepped (world_of self.old) s }
     {
-        let answer = self.check_get(s, key);
+        let answer = self.read(s, key);
         self.end_wait(s);
         answer
     }

@@ -14,6 +14,8 @@ pub enum Call {
     Begin(u8),
     BeginReadCommitted(u8),
     Get(u8, u64),
+    /// It is no step.
+    Read(u8, u64),
     Insert(u8, u64, i64),
     Update(u8, u64, i64),
     Delete(u8, u64),
@@ -31,6 +33,8 @@ pub enum Call {
     OpenKeys(u8, i128, i128),
     Next(u8, u16),
     Close(u8),
+    /// A step of which the history knows only that it came.
+    EndWait(u8),
     /// Of a column, and by no session.
     MakeIndex(u8),
 }
@@ -142,6 +146,7 @@ fn answer_to(history: &mut PlainHistory, call: Call) -> Answer {
         Call::Begin(s) => answer_done(history.begin(s)),
         Call::BeginReadCommitted(s) => answer_done(history.begin_read_committed(s)),
         Call::Get(s, key) => answer_found(history.get(s, key)),
+        Call::Read(s, key) => answer_found(history.read(s, key)),
         Call::Insert(s, key, value) => answer_write(history.insert(s, row(key, value))),
         Call::Update(s, key, value) => answer_write(history.update(s, row(key, value))),
         Call::Delete(s, key) => answer_write(history.delete(s, key)),
@@ -159,6 +164,10 @@ fn answer_to(history: &mut PlainHistory, call: Call) -> Answer {
         Call::OpenKeys(s, low, high) => answer_done(history.open_keys(s, low, high)),
         Call::Next(s, n) => answer_rows(history.next(s, n)),
         Call::Close(s) => answer_done(history.close(s)),
+        Call::EndWait(s) => {
+            history.end_wait(s);
+            Answer::Done
+        }
         Call::MakeIndex(column) => answer_done(history.make_index(column)),
     }
 }
