@@ -23,8 +23,8 @@ fn value_in(number: u8, row: &Row) -> i128 {
 }
 
 // Whether the session reads a row of the entry's key in the plain program, with the entry's value.
-fn is_of_read_row(plain: &mut PlainHistory, s: u8, entry: Entry, number: u8) -> bool {
-    match plain.get(s, entry.key) {
+fn is_of_read_row(plain: &PlainHistory, s: u8, entry: Entry, number: u8) -> bool {
+    match plain.read(s, entry.key) {
         Ok(Some(row)) => value_in(number, &row) == entry.value,
         _ => false,
     }
@@ -39,10 +39,10 @@ fn has_key(entry: Option<Entry>, key: u64) -> bool {
 }
 
 // How many of the keys the session reads a row of.
-fn count_rows(plain: &mut PlainHistory, s: u8, keys: &[u64]) -> u64 {
+fn count_rows(plain: &PlainHistory, s: u8, keys: &[u64]) -> u64 {
     let mut rows: u64 = 0;
     for key in keys {
-        if let Ok(Some(_)) = plain.get(s, *key) {
+        if let Ok(Some(_)) = plain.read(s, *key) {
             rows = rows.saturating_add(1);
         }
     }
@@ -52,7 +52,7 @@ fn count_rows(plain: &mut PlainHistory, s: u8, keys: &[u64]) -> u64 {
 /// Whether the index of this number has one entry for each row that the session reads in the plain program, with the row's value, and no
 /// other. All rows are of these keys.
 pub(crate) fn is_exact(
-    plain: &mut PlainHistory,
+    plain: &PlainHistory,
     s: u8,
     index: &RootIndex,
     number: u8,

@@ -170,6 +170,11 @@ fn session_of_snapshot(step: &Step) -> Option<u8> {
     }
 }
 
+// Whether the session of the step has failed by it.
+fn makes_fail(reply: &Reply) -> bool {
+    matches!(reply, Reply::Refused(Refusal::Conflict | Refusal::Deadlock))
+}
+
 // Whether the step was done. What is read changes nothing, and isn't asked for here.
 fn is_done(reply: &Reply) -> bool {
     matches!(reply, Reply::Done | Reply::Committed | Reply::RolledBack)
@@ -220,8 +225,8 @@ impl Pair {
     }
 
     /// How the session stands, and whether it reads a row of the key.
-    pub fn standing(&mut self, s: u8, key: u64) -> Standing {
-        match self.plain.get(s, key) {
+    pub fn standing(&self, s: u8, key: u64) -> Standing {
+        match self.plain.read(s, key) {
             Ok(Some(_)) => Standing::Reads,
             Ok(None) => Standing::ReadsNone,
             Err(Refusal::Failed) => Standing::Failed,
@@ -381,7 +386,7 @@ impl Pair {
         } else {
             return answer(&mut self.plain, step);
         };
-        match answer_without_writing(&mut self.plain, step) {
+        match answer_without_writing(&mut self.plain, s, step) {
             Some(Reply::Done) => Some(Reply::Refused(lack)),
             other => other,
         }
@@ -537,8 +542,9 @@ impl Pair {
         let (Some(s), Some(index)) = (self.idle_session(), self.engine.index(number)) else {
             return Err(Difference::Made(number));
         };
+        // Nobody waits for a session that is not open, so these two end no wait.
         let _ = self.plain.begin(s);
-        let exact = is_exact(&mut self.plain, s, index, number, self.keys);
+        let exact = is_exact(&self.plain, s, index, number, self.keys);
         let _ = self.plain.abort(s);
         if exact {
             Ok(())
@@ -575,7 +581,7 @@ impl Pair {
             return Err(Difference::NoMemory);
         };
         let reply = self.engine.step(copy);
-        if let (Reply::Refused(Refusal::Conflict), Some(s)) = (&reply, writer_of(step)) {
+        if let (true, Some(s)) = (makes_fail(&reply), writer_of(step)) {
             // The engine's session has failed, and reads on. That of the plain program has not yet.
             self.compare_views(&[s])?;
         }
@@ -615,10 +621,10 @@ impl Pair {
 
     /// Compares the pages with the rows that the session reads, which began after an aggressive vacuum had ended, where nobody else did
     /// a step meanwhile and no session was open: there is one version for each row, no slot is dead, and all pages are all-visible.
-    pub fn compare_bare(&mut self, s: u8) -> Result<(), Difference> {
+    pub fn compare_bare(&self, s: u8) -> Result<(), Difference> {
         let mut rows: u64 = 0;
         for key in self.keys {
-            if let Ok(Some(_)) = self.plain.get(s, *key) {
+            if let Ok(Some(_)) = self.plain.read(s, *key) {
                 rows = rows.saturating_add(1);
             }
         }
@@ -634,9 +640,9 @@ impl Pair {
     }
 
     // What the session reads of the key on both sides.
-    fn reading(&mut self, s: u8, key: u64) -> Reading {
+    fn reading(&self, s: u8, key: u64) -> Reading {
         let read = self.engine.read(s, key);
-        let expected = self.plain.get(s, key);
+        let expected = self.plain.read(s, key);
         match (&read, &expected) {
             (Ok(row), Ok(expected)) => reading_of(row, expected),
             (Ok(_), Err(Refusal::Failed)) => Reading::Refused,

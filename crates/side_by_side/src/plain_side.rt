@@ -1,6 +1,6 @@
 //! What the plain program answers, in the engine's words.
 
-ghost use Rattle.std.specs.Prelude.{◌≡◌, ◌≢◌, Some, None};
+ghost use Rattle.std.specs.Prelude.{◌≡◌, ◌≢◌, Some, None, Err};
 
 use crate::written::table_row;
 use plain_cursor::Handed;
@@ -57,20 +57,14 @@ fn reply_rows(answered: Result<Handed, Refusal>) -> Option<Reply> {
     }
 }
 
-// The engine records no wait, so that of the plain program ends too: each step of the session ends it. It knows no deadlock.
-fn answer_of_write(
-    plain: &mut PlainHistory,
-    s: u8,
-    answered: Result<(), Refused>,
-) -> Option<Reply> {
+fn reply_written(answered: Result<(), Refused>) -> Option<Reply>
+    ensures deadlock { answered ≡ Err Refused.Deadlock
+        → result ≡ Some (Reply.Refused Refusal.Deadlock) }
+{
     match answered {
         Ok(()) => Some(Reply::Done),
-        Err(Refused::By(Refusal::Busy(o))) => {
-            let _ = plain.get(s, 0);
-            Some(Reply::Refused(Refusal::Busy(o)))
-        }
         Err(Refused::By(why)) => reply_refused(why),
-        Err(Refused::Deadlock) => None,
+        Err(Refused::Deadlock) => Some(Reply::Refused(Refusal::Deadlock)),
     }
 }
 
@@ -81,18 +75,9 @@ pub(crate) fn answer(plain: &mut PlainHistory, step: &Step) -> Option<Reply> {
         Step::Begin(s) => reply_done(plain.begin(*s)),
         Step::BeginReadCommitted(s) => reply_done(plain.begin_read_committed(*s)),
         Step::Get(s, key) => reply_found(plain.get(*s, *key)),
-        Step::Insert(s, row) => {
-            let answered = plain.insert(*s, table_row(row));
-            answer_of_write(plain, *s, answered)
-        }
-        Step::Update(s, row) => {
-            let answered = plain.update(*s, table_row(row));
-            answer_of_write(plain, *s, answered)
-        }
-        Step::Delete(s, key) => {
-            let answered = plain.delete(*s, *key);
-            answer_of_write(plain, *s, answered)
-        }
+        Step::Insert(s, row) => reply_written(plain.insert(*s, table_row(row))),
+        Step::Update(s, row) => reply_written(plain.update(*s, table_row(row))),
+        Step::Delete(s, key) => reply_written(plain.delete(*s, *key)),
         Step::Savepoint(s) => reply_done(plain.savepoint(*s)),
         Step::RollbackTo(s) => reply_done(plain.roll_back_to(*s)),
         Step::Release(s) => reply_done(plain.release(*s)),
@@ -109,21 +94,29 @@ pub(crate) fn answer(plain: &mut PlainHistory, step: &Step) -> Option<Reply> {
     }
 }
 
-/// What the plain program answers to a write, which it does only where it refuses it: a conflict makes the session fail.
-pub(crate) fn answer_without_writing(plain: &mut PlainHistory, step: &Step) -> Option<Reply> {
+/// What the plain program answers to a write of the session, which it does only where it refuses it: then the session may fail, or
+/// wait. Else it is not written, and yet a step of the session, whose own wait ends.
+pub(crate) fn answer_without_writing(
+    plain: &mut PlainHistory,
+    s: u8,
+    step: &Step,
+) -> Option<Reply> {
     let checked = match step {
-        Step::Insert(s, row) => plain.check_insert(*s, row.key),
-        Step::Update(s, row) => plain.check_replace(*s, row.key),
-        Step::Delete(s, key) => plain.check_replace(*s, *key),
+        Step::Insert(_, row) => plain.check_insert(s, row.key),
+        Step::Update(_, row) => plain.check_replace(s, row.key),
+        Step::Delete(_, key) => plain.check_replace(s, *key),
         _ => return None,
     };
     match checked {
-        Ok(()) => Some(Reply::Done),
+        Ok(()) => {
+            plain.end_wait(s);
+            Some(Reply::Done)
+        }
         Err(_) => answer(plain, step),
     }
 }
 
-/// What the plain program answers where the session may not write as it stands, and else this refusal.
+/// What the plain program answers where the session may not write as it stands, and else this refusal. Either is a refused step.
 pub(crate) fn refused_or(plain: &mut PlainHistory, s: u8, refusal: Refusal) -> Option<Reply> {
     // That the bounds are bad is seen last.
     match plain.open_index(s, 0, 1, 0) {
@@ -133,7 +126,7 @@ pub(crate) fn refused_or(plain: &mut PlainHistory, s: u8, refusal: Refusal) -> O
     }
 }
 
-/// All rows of the session's cursor.
+/// All rows of the session's cursor, which was just opened: so the session waits for nobody, and this ends no wait.
 pub(crate) fn all_rows(alloc: Global, plain: &mut PlainHistory, s: u8) -> Vec<Row> {
     match plain.next(s, u16::MAX) {
         Ok(Handed::Rows(rows)) => rows,
