@@ -9,7 +9,7 @@ use std::io;
 use tuple_header::Tuple;
 
 /// How many kinds there are.
-pub(crate) const KINDS: usize = 46;
+pub(crate) const KINDS: usize = 47;
 
 const NAMES: [&str; KINDS] = [
     "Done",
@@ -58,6 +58,7 @@ const NAMES: [&str; KINDS] = [
     "IndexBusy",
     "indexes made beside sessions by snapshot and by statement",
     "vacuums that ended after an index was made",
+    "Deadlock",
 ];
 
 const NEAR: usize = 39;
@@ -71,8 +72,13 @@ const MADE: usize = 44;
 
 const CLEANED: usize = 45;
 
+const DEADLOCK: usize = 46;
+
 // How many indexes have to be made.
 const MANY_MADE: u64 = 3000;
+
+// How often the wait of a session has to close a ring.
+const MANY_DEADLOCKS: u64 = 1000;
 
 // How many engines have to pass the turn.
 const MANY: u64 = 1000;
@@ -89,7 +95,7 @@ pub(crate) struct Counts {
 }
 
 fn place_of_refusal(refusal: Refusal) -> Option<usize>
-    ensures { IfSome result (λ place. place < 46) }
+    ensures { IfSome result (λ place. place < 47) }
 {
     match refusal {
         Refusal::NotOpen => Some(7),
@@ -114,12 +120,13 @@ fn place_of_refusal(refusal: Refusal) -> Option<usize>
         Refusal::IndexBusy => Some(43),
         Refusal::VacuumRunning => Some(31),
         Refusal::NoVacuum => Some(32),
-        Refusal::Deadlock | Refusal::NoMemory => None,
+        Refusal::Deadlock => Some(DEADLOCK),
+        Refusal::NoMemory => None,
     }
 }
 
 fn place_of_reply(reply: &Reply) -> Option<usize>
-    ensures { IfSome result (λ place. place < 46) }
+    ensures { IfSome result (λ place. place < 47) }
 {
     match reply {
         Reply::Done => Some(0),
@@ -138,7 +145,7 @@ fn place_of_reply(reply: &Reply) -> Option<usize>
 }
 
 fn place_of_version(version: &Tuple, page: u32) -> Option<usize>
-    ensures { IfSome result (λ place. place < 46) }
+    ensures { IfSome result (λ place. place < 47) }
 {
     if version.header.ctid.page != page {
         Some(29)
@@ -150,7 +157,7 @@ fn place_of_version(version: &Tuple, page: u32) -> Option<usize>
 }
 
 fn place_of_slot(slot: &Slot, page: u32) -> Option<usize>
-    ensures { IfSome result (λ place. place < 46) }
+    ensures { IfSome result (λ place. place < 47) }
 {
     match slot {
         Slot::Unused => Some(25),
@@ -186,7 +193,7 @@ impl Counts {
     }
 
     fn add(&mut self, place: Option<usize>)
-        requires { IfSome place (λ place. place < 46) }
+        requires { IfSome place (λ place. place < 47) }
     {
         if let Some(place) = place {
             self.counts[place] = self.counts[place].saturating_add(1);
@@ -262,6 +269,9 @@ impl Counts {
         }
         if self.counts[MADE] < MANY_MADE {
             return Some(NAMES[MADE]);
+        }
+        if self.counts[DEADLOCK] < MANY_DEADLOCKS {
+            return Some(NAMES[DEADLOCK]);
         }
         None
     }

@@ -86,8 +86,8 @@ fn draw_row(
     })
 }
 
-// A write of the key, with a body of this length. One in eight asks for what the session doesn't read: a row, or none.
-fn draw_write(
+/// A write of the key, with a body of this length. One in eight asks for what the session doesn't read: a row, or none.
+pub(crate) fn draw_write(
     generator: &mut Generator,
     bodies: &Bodies,
     s: u8,

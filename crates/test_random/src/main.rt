@@ -11,6 +11,7 @@ mod counts;
 mod draw;
 mod generator;
 mod passage;
+mod rings;
 mod run;
 
 use bodies::Bodies;

@@ -4,10 +4,11 @@ use crate::bodies::Bodies;
 use crate::counts::Counts;
 use crate::draw::{
     KEYS, draw_begin, draw_key, draw_key_of_few, draw_session, draw_step, draw_step_in_levels,
-    draw_vacuum, put_of, write_of,
+    draw_vacuum, draw_write, put_of, write_of,
 };
 use crate::generator::Generator;
 use crate::passage::{HALF, Passage};
+use crate::rings::Rings;
 use session_core::{Mode, Reply, Settings, Step};
 use side_by_side::{Difference, Pair, Standing};
 use std::alloc::{AllocError, Global};
@@ -124,11 +125,13 @@ fn vacuum_share(run: u64) -> u32 {
     if is_turning(run) { 25 } else { 10 }
 }
 
-// The next step: whose it is, and what the session asks for as it stands.
+// The next step: whose it is, and what the session asks for as it stands. Now and then the session for which it waits in the end writes
+// one of its keys.
 fn draw_next_step(
     generator: &mut Generator,
     bodies: &Bodies,
-    pair: &mut Pair,
+    pair: &Pair,
+    rings: &Rings,
     run: u64,
 ) -> Result<Step, AllocError> {
     if generator.below(100) < vacuum_share(run) {
@@ -143,6 +146,12 @@ fn draw_next_step(
     let s = draw_session(generator, sessions_of(run));
     if is_turning(run) && generator.below(4) == 0 {
         return Ok(Step::Commit(s));
+    }
+    if let Some((other, key)) = rings.closing_write(s) {
+        if generator.below(4) == 0 {
+            let reads = matches!(pair.standing(other, key), Standing::Reads);
+            return draw_write(generator, bodies, other, key, reads, 0);
+        }
     }
     let key = draw_key(generator);
     let standing = pair.standing(s, key);
@@ -169,6 +178,7 @@ struct Run {
     pair: Pair,
     done: u64,
     passage: Passage,
+    rings: Rings,
 }
 
 impl Run {
@@ -179,6 +189,7 @@ impl Run {
             pair: new_pair(alloc, settings)?,
             done: 0,
             passage: Passage::new(Xid(settings.first_xid)),
+            rings: Rings::new(),
         })
     }
 
@@ -193,6 +204,7 @@ impl Run {
     fn count(&mut self, counts: &mut Counts, step: &Step, reply: &Reply, slots: u64) {
         counts.add_step(step, reply);
         self.passage.follow(reply, self.pair.next_id());
+        self.rings.follow(step, reply);
         match (step, reply) {
             (Step::Begin(_), Reply::Done) => counts.add_begun(self.pair.children(NESTING)),
             (Step::Insert(_, _) | Step::Update(_, _), Reply::Done) => {
@@ -251,7 +263,13 @@ impl Run {
     ) -> Result<(), Failure> {
         let mut generator = Generator::new(self.number);
         for i in 0..steps_of(self.number) {
-            let drawn = draw_next_step(&mut generator, bodies, &mut self.pair, self.number);
+            let drawn = draw_next_step(
+                &mut generator,
+                bodies,
+                &self.pair,
+                &self.rings,
+                self.number,
+            );
             let Ok(step) = drawn else {
                 return Err(self.failure(None, Difference::NoMemory));
             };
