@@ -40,7 +40,8 @@ in_c statuses "$wrap"
 in_c misuse "" 20000
 in_c memory "$wrap"
 in_c making "$wrap" 300
-cat "$work/memory.out" "$work/making.out"
+in_c growth "$wrap" 40
+cat "$work/memory.out" "$work/making.out" "$work/growth.out"
 
 # Threads that share a table under a lock of their own. What looks for races has to find one where there is no lock.
 "$compiler" -std=c11 "${flags[@]}" -fsanitize=thread "$tests/threads.c" "$prefix/lib/libsandpipercot.a" -pthread -o "$work/threads"
