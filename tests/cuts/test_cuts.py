@@ -4,7 +4,8 @@
     test_cuts.py HEAPSH --all    cuts after each byte; some 200 seconds
 
 Of a cut script the lines before the cut are answered as they are in the whole one. A cut inside line N makes that the bad line N. A cut
-page is no page. The answers of the whole are those beside the rows of crates/test_scripts, and those on the pages of the examples.
+page is no page. Short scripts are also cut as the lines of one worker, for `heapsh threads`: there nothing is written where a line is bad.
+The answers of the whole are those beside the rows of crates/test_scripts, and those on the pages of the examples.
 """
 import glob
 import os
@@ -23,6 +24,8 @@ import page_format  # noqa: E402
 
 # how far from the ends of its line a cut is made, but with --all
 NEAR = 64
+# how many bytes a script has at most that is cut as a worker's
+SHORT = 250
 STRING = r'"((?:[^"\\]|\\.|\\\n)*)"'
 ROW = re.compile(
     rf'name: {STRING},\s*script: b{STRING},\s*body: (\d+),\s*other: (\d+),\s*answers: b{STRING},\s*status: (\d+),\s*words: {STRING},'
@@ -77,14 +80,24 @@ def examples() -> Iterator[Script]:
         yield Script(os.path.basename(path), text, whole_answers(answers), None)
 
 
-def end_of_cut(script: Script, cut: int) -> End:
+def for_threads(script: Script) -> Optional[Script]:
+    """The same as the lines of one worker, whose journal has each line beside its answer; none where it is long, or has other lines."""
+    heading, *lines = script.text.decode().splitlines()
+    is_short = script.bad_line is None and len(script.text) <= SHORT
+    if not is_short or any(re.match(r"ids|page|entries|vacuum finish", line) for line in lines):
+        return None
+    text = "".join(f"{line}\n" for line in [heading, *(f"@3 {line}" for line in lines)])
+    return Script(script.name, text.encode(), [f"> {line}\n{answer}" for line, answer in zip(lines, script.answers)], None)
+
+
+def end_of_cut(script: Script, cut: int, word: str) -> End:
     """How the program has to end on the first bytes of a script."""
     lines = script.text.count(b"\n", 0, cut)
     is_torn = cut == 0 or script.text[cut - 1 : cut] != b"\n"
     bad = lines + 1 if is_torn else None
     if script.bad_line is not None and script.bad_line <= lines:
         bad, lines = script.bad_line, script.bad_line - 1
-    answers = "".join(script.answers[: max(lines - 1, 0)])
+    answers = "" if bad and word == "threads" else "".join(script.answers[: max(lines - 1, 0)])
     return End(1, answers, f"bad line {bad}\n") if bad else End(0, answers, "")
 
 
@@ -114,11 +127,11 @@ def ends_of(heapsh: str, word: str, data: bytes, cuts: Iterable[int]) -> Iterato
             yield cut, End(ran.returncode, read_back(output), read_back(errors))
 
 
-def try_script(heapsh: str, script: Script, whole: bool) -> int:
+def try_script(heapsh: str, script: Script, whole: bool, word: str = "run") -> int:
     cuts = list(cuts_of(script.text, whole))
-    for cut, end in ends_of(heapsh, "run", script.text, cuts):
-        wanted = end_of_cut(script, cut)
-        assert end == wanted, f"{script.name} cut after {cut} bytes: {end}, and not {wanted}"
+    for cut, end in ends_of(heapsh, word, script.text, cuts):
+        wanted = end_of_cut(script, cut, word)
+        assert end == wanted, f"{script.name} cut after {cut} bytes, {word}: {end}, and not {wanted}"
     return len(cuts)
 
 
@@ -136,10 +149,12 @@ def main() -> None:
     scripts = [*worked_scripts(), *examples()]
     pages = [page_format.VECTOR, page_format.SIX_SLOTS]
     cuts = sum(try_script(heapsh, script, whole) for script in scripts)
+    workers = [script for script in map(for_threads, scripts) if script]
+    of_workers = sum(try_script(heapsh, script, whole, "threads") for script in workers)
     of_pages = sum(try_page(heapsh, page) for page in pages)
     print(
-        f"test_cuts.py: {cuts} cuts of {len(scripts)} scripts and {of_pages} of {len(pages)} pages end as they have to,"
-        f" in {time.monotonic() - began:.0f} seconds"
+        f"test_cuts.py: {cuts} cuts of {len(scripts)} scripts, {of_workers} of {len(workers)} workers' and {of_pages} of {len(pages)}"
+        f" pages end as they have to, in {time.monotonic() - began:.0f} seconds"
     )
 
 

@@ -1,7 +1,10 @@
 //! What is written for the bytes of a page, and for what is no page.
 
-use script::inspect_script;
+use crate::fakes::{slow, small};
+use crate::runs::none_wrong;
+use script::{ShellFault, inspect_script};
 use std::alloc::{AllocError, Global};
+use std::io::Read;
 use std::test::Fail;
 
 // Bytes from a place on.
@@ -116,17 +119,59 @@ fn page_of_one_row(alloc: Global) -> Result<Vec<u8>, AllocError> {
     Ok(bytes)
 }
 
+// Whether a page from this reader, with room for so many bytes, ends like this and has written these bytes.
+fn tells_so<R: Read>(
+    alloc: Global,
+    reader: &mut R,
+    room: usize,
+    wanted: Result<(), ShellFault>,
+    text: &[u8],
+) -> bool {
+    let mut writer = small(alloc, room);
+    let (ended, _) = inspect_script(alloc, reader, &mut writer);
+    ended == wanted && writer.bytes.as_slice() == text
+}
+
+// What is told of the page with one row.
+static TOLD: &[u8] =
+    b"page change 1 visible 0 slots 1 room 8088\n1 normal 3 0 1 8120 66 0006 0800\n";
+
 #[test]
 fn one_row(rt: HostRuntime) -> Result<(), Fail> {
     let bytes = page_of_one_row(rt.alloc())?;
     let mut reader = first(bytes.as_slice(), 8192);
-    let mut text: Vec<u8> = Vec::new(rt.alloc());
-    let (ended, _) = inspect_script(rt.alloc(), &mut reader, &mut text);
-    let wanted = b"page change 1 visible 0 slots 1 room 8088\n1 normal 3 0 1 8120 66 0006 0800\n";
-    if ended.is_err() || text.as_slice() != wanted.as_slice() {
-        return Err(Fail::new(format_args!("the page is told otherwise")));
-    }
+    assert!(rt; tells_so(rt.alloc(), &mut reader, usize::MAX, Ok(()), TOLD));
     Ok(())
+}
+
+// How many times 1024 bytes a reader gives before it fails and something else comes: of what is not read to its end nothing is told.
+fn first_wrong_read(alloc: Global, page: &[u8]) -> Option<usize> {
+    for n in 0..9usize {
+        let mut reader = slow(page, n.wrapping_mul(1024));
+        if !tells_so(alloc, &mut reader, usize::MAX, Err(ShellFault::Input), b"") {
+            return Some(n);
+        }
+    }
+    None
+}
+
+// The first number of bytes after which a writer fails and does not hold these bytes of what is told.
+fn first_wrong_write(alloc: Global, page: &[u8]) -> Option<usize> {
+    for n in 0..TOLD.len() {
+        let mut reader = page;
+        if !tells_so(alloc, &mut reader, n, Err(ShellFault::Output), &TOLD[..n]) {
+            return Some(n);
+        }
+    }
+    None
+}
+
+#[test]
+fn failing_read_or_write(rt: HostRuntime) -> Result<(), Fail> {
+    let bytes = page_of_one_row(rt.alloc())?;
+    let page = first(bytes.as_slice(), 8192);
+    none_wrong(first_wrong_read(rt.alloc(), page))?;
+    none_wrong(first_wrong_write(rt.alloc(), page))
 }
 
 // Fails if a page is told, or refused in other words.

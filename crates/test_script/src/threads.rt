@@ -1,24 +1,26 @@
 //! Scripts for threads, each beside what has to come of it. Which of two workers comes first is left open.
 
+use crate::fakes::{slow, small};
 use crate::runs::none_wrong;
 use script::{ShellFault, threads_script};
 use std::alloc::Global;
+use std::io::Read;
 use std::sync::Wait;
 use std::test::Fail;
 use std::thread::Threads;
 
-// Whether a script ends like this and has written these bytes.
-fn ends_so<H: Threads + Wait + Sync>(
+// Whether a script from this reader, with room for so many bytes of the journal, ends like this and has written these bytes.
+fn ends_so<R: Read, H: Threads + Wait + Sync>(
     rt: &H,
     alloc: Global,
-    script: &[u8],
+    reader: &mut R,
+    room: usize,
     wanted: Result<(), ShellFault>,
     journal: &[u8],
 ) -> bool {
-    let mut reader = script;
-    let mut written = Vec::new(alloc);
-    let (ended, _) = threads_script(rt, alloc, &mut reader, &mut written);
-    ended == wanted && written.as_slice() == journal
+    let mut writer = small(alloc, room);
+    let (ended, _) = threads_script(rt, alloc, reader, &mut writer);
+    ended == wanted && writer.bytes.as_slice() == journal
 }
 
 static ONE_WORKER: [(&[u8], &[u8]); 2] = [
@@ -37,8 +39,57 @@ static ONE_WORKER: [(&[u8], &[u8]); 2] = [
 #[test]
 fn one_worker(rt: HostRuntime) {
     for (script, journal) in ONE_WORKER.iter() {
-        assert!(rt; ends_so(&rt, rt.alloc(), script, Ok(()), journal));
+        let mut reader = slow(script, usize::MAX);
+        assert!(rt; ends_so(&rt, rt.alloc(), &mut reader, usize::MAX, Ok(()), journal));
     }
+}
+
+// The first byte at which a reader fails and something else comes: no line is done before all are read.
+fn first_wrong_read<H: Threads + Wait + Sync>(rt: &H, alloc: Global) -> Option<usize> {
+    let (script, _) = ONE_WORKER[0];
+    for n in 0..script.len() + 1 {
+        let mut reader = slow(script, n);
+        if !ends_so(
+            rt,
+            alloc,
+            &mut reader,
+            usize::MAX,
+            Err(ShellFault::Input),
+            b"",
+        ) {
+            return Some(n);
+        }
+    }
+    None
+}
+
+#[test]
+fn failing_read(rt: HostRuntime) -> Result<(), Fail> {
+    none_wrong(first_wrong_read(&rt, rt.alloc()))
+}
+
+// The first number of bytes after which a writer fails and does not hold these bytes of the journal.
+fn first_wrong_write<H: Threads + Wait + Sync>(rt: &H, alloc: Global) -> Option<usize> {
+    let (script, journal) = ONE_WORKER[0];
+    for n in 0..journal.len() {
+        let mut reader = script;
+        if !ends_so(
+            rt,
+            alloc,
+            &mut reader,
+            n,
+            Err(ShellFault::Output),
+            &journal[..n],
+        ) {
+            return Some(n);
+        }
+    }
+    None
+}
+
+#[test]
+fn failing_write(rt: HostRuntime) -> Result<(), Fail> {
+    none_wrong(first_wrong_write(&rt, rt.alloc()))
 }
 
 // Two workers' lines are done in either order.
@@ -77,7 +128,9 @@ static BAD_LINES: [(&[u8], u64); 16] = [
 // The place of the first script that ends otherwise, or has written anything.
 fn first_wrong<H: Threads + Wait + Sync>(rt: &H, alloc: Global) -> Option<usize> {
     for (at, (script, line)) in BAD_LINES.iter().enumerate() {
-        if !ends_so(rt, alloc, script, Err(ShellFault::BadLine(*line)), b"") {
+        let mut reader = *script;
+        let wanted = Err(ShellFault::BadLine(*line));
+        if !ends_so(rt, alloc, &mut reader, usize::MAX, wanted, b"") {
             return Some(at);
         }
     }
