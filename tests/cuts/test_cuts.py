@@ -52,12 +52,12 @@ def unquoted(literal: str) -> str:
 
 def whole_answers(text: str) -> List[str]:
     """Answers, each with the lines that its first line announces."""
-    lines, answers = text.splitlines(keepends=True), []
-    while lines:
-        told = re.match(r"(?:rows|entries \d+|page .* slots) (\d+)$", lines[0])
+    lines, answers, at = text.splitlines(keepends=True), [], 0
+    while at < len(lines):
+        told = re.match(r"(?:rows|entries \d+|page .* slots) (\d+)$", lines[at])
         count = 1 + int(told[1]) if told else 1
-        answers.append("".join(lines[:count]))
-        del lines[:count]
+        answers.append("".join(lines[at : at + count]))
+        at += count
     return answers
 
 

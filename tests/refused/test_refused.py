@@ -19,6 +19,10 @@ import time
 from typing import Dict, Iterator, List, NamedTuple, Optional, Tuple
 
 HERE = os.path.dirname(os.path.abspath(__file__))
+sys.path.insert(0, os.path.join(os.path.dirname(HERE), "cuts"))
+
+from test_cuts import whole_answers  # noqa: E402
+
 NO_MEMORY = "error 16 NoMemory\n"
 LEAST, MOST = -(2**63), 2**63 - 1
 INDEXES, READER = 5, 63
@@ -56,17 +60,6 @@ class Shell:
         end = self.run(word, lines)
         with open(self.counted, "rb") as file:
             return int.from_bytes(file.read(), sys.byteorder), end
-
-
-def whole_answers(text: str) -> List[str]:
-    """Answers, each with the lines that its first line announces."""
-    lines, answers, at = text.splitlines(keepends=True), [], 0
-    while at < len(lines):
-        told = re.match(r"(?:rows|entries \d+|page .* slots) (\d+)$", lines[at])
-        count = 1 + int(told[1]) if told else 1
-        answers.append("".join(lines[at : at + count]))
-        at += count
-    return answers
 
 
 def looks(pages: int) -> List[str]:
