@@ -1,6 +1,6 @@
 //! The table of ids.
 
-ghost use Rattle.std.specs.Prelude.{◌≡◌, ℕ, ◌+◌, ◌^◌, ◌∷◌, ◌-◌, ◌<◌, ◌≤◌, ◌↔◌, [], drop, option_copied, IsTrue, IfSome, IfOk, MatchOption, OnOk, OnErr, vec_len, vec_capacity, Contains};
+ghost use Rattle.std.specs.Prelude.{◌≡◌, ℕ, ◌+◌, ◌^◌, ◌∷◌, ◌-◌, ◌<◌, ◌≤◌, ◌↔◌, [], drop, length, option_copied, IsTrue, IfSome, IfOk, MatchOption, OnOk, OnErr, vec_len, vec_capacity, Contains};
 ghost use Rattle.std.specs.Option.{option_map};
 ghost use Rattle.xid_circle.specs.Circle.{IsNormal, distance_of, given};
 ghost use Rattle.commit_status.specs.Window.{next_id, turns, place_in, entry_of, status_of, parent_of, top_of, IsGiven, IsActive, IsUpToNext, IsWindow, IsCommitted, IsAborted};
@@ -44,6 +44,15 @@ impl StatusEntry {
         StatusEntry {
             status: Status::InProgress,
             parent,
+        }
+    }
+
+    fn copy(&self) -> StatusEntry
+        ensures { result ≡ self.now }
+    {
+        StatusEntry {
+            status: self.status,
+            parent: self.parent,
         }
     }
 
@@ -134,6 +143,17 @@ fn place_in(first: Xid, count: usize, x: Xid) -> Option<usize>
     if place < count { Some(place) } else { None }
 }
 
+/// Copies of all entries, in a list with room for them.
+fn copy_entries(entries: &[StatusEntry], room: &mut Vec<StatusEntry>)
+    requires empty { vec_len room.old ≡ 0 }
+    requires fits { length entries.now ≤ vec_capacity room.old }
+    ensures { room.new.items ≡ entries.now }
+{
+    for entry in entries {
+        room.push_reserved(entry.copy());
+    }
+}
+
 /// Forgets the first `count` entries.
 fn forget(entries: &mut Vec<StatusEntry>, count: usize)
     requires { count ≤ vec_len entries.old }
@@ -163,6 +183,20 @@ impl StatusTable {
             stop_age,
             entries: Vec::new(alloc),
         }
+    }
+
+    /// An equal table, in memory of its own: eight bytes for each id that is remembered.
+    pub fn copy(&self, alloc: Global) -> Result<StatusTable, AllocError>
+        ensures { IfOk result (λ t. t ≡ record self.now { spare = t.spare }) }
+    {
+        let mut entries = Vec::with_capacity(alloc, self.entries.len())?;
+        copy_entries(self.entries.as_slice(), &mut entries);
+        Ok(StatusTable {
+            first: self.first,
+            next: self.next,
+            stop_age: self.stop_age,
+            entries,
+        })
     }
 
     /// That the window is shorter than half the circle, and that parents stand before their children.

@@ -1,7 +1,10 @@
 -- The pages of a table as their callers see them.
-use Rattle.std.specs.Prelude.{◌≡◌, ℕ, ◌≤◌, false, List, length, map, Some, slice_get, slice_set}
+use Rattle.std.specs.Prelude.{◌≡◌, ℕ, ◌≤◌, false, List, Option, length, map, Some, None, slice_get, slice_set}
 use Rattle.std.specs.Borrow.{MutBor}
 use Rattle.std.specs.Fn.{Once, FnOnceReturnsAtMut}
+use Rattle.std.specs.declared.sync.Arc.{Arc}
+use Rattle.std.specs.declared.boxed.Box.{Box}
+use Rattle.std.specs.declared.alloc.Global.{Global}
 use Rattle.page_slots.specs.View.{PageView}
 use Rattle.page_slots.specs.Slots.{room_of}
 use Rattle.space_maps.specs.View.{MarksView, says_visible}
@@ -10,6 +13,11 @@ use Rattle.space_maps.specs.declared.mark.Mark.{Mark}
 use Rattle.space_maps.specs.declared.mark.Mark.TheVariants.{Nothing}
 use Rattle.heap_pages.specs.Choice.{free_byte_of}
 use Rattle.heap_pages.specs.declared.pages.TheConstants.{MOST_PAGES}
+
+-- what readers share is the page, and else the table's own is
+abbrev pub held_in : PageView → Option (Arc (Box PageView Global) Global) → PageView
+held_in own (Some shared) = shared.value.value
+held_in own None = own
 
 pub record PagesView : Type 0 where
   pub pages : List PageView

@@ -1,23 +1,30 @@
-//! A page of the table in memory of its own.
+//! A page of the table, which readers may share.
 
-ghost use Rattle.std.specs.Prelude.{◌≡◌};
-ghost use Rattle.std.specs.Borrow.{Lends, sem};
-ghost use Rattle.page_slots.specs.contracts.page.Page.{the_row as page_row};
-ghost use Rattle.heap_pages.specs.contracts.own_page.OwnPage.{the_row};
+ghost use Rattle.std.specs.Prelude.{◌≡◌, IfOk};
+ghost use Rattle.std.specs.Arc.{arc_value};
+ghost use Rattle.std.specs.Fn.{FnOnceTakesAtMut, FnOnceReturnsAtMut};
 
 use page_slots::Page;
+use std::alloc::{AllocError, Global};
 use std::marker::Model;
+use std::mem;
+use std::sync::Arc;
 
-/// A page in memory of its own: so none is copied where the table of pages grows.
+/// A page in memory of its own: so none is copied where the table of pages grows. While readers share the page, that memory is room for
+/// the copy that a change needs. Contracts see what the page holds, and not whether it is shared.
 #[derive(Debug, Drop)]
-pub(crate) struct OwnPage(Box<Page>);
+pub(crate) struct OwnPage {
+    own: Box<Page>,
+    shared: Option<Arc<Box<Page>>>,
+}
 
 impl Model for OwnPage {
     ghost use Rattle.page_slots.specs.View.{PageView};
+    ghost use Rattle.heap_pages.specs.View.{held_in};
 
     ghost Value = { PageView };
 
-    ghost view = { λ p. p.0.value };
+    ghost view = { λ p. held_in p.own.value p.shared };
 }
 
 impl OwnPage {
@@ -25,7 +32,10 @@ impl OwnPage {
     pub(crate) fn of(page: Box<Page>) -> Self
         ensures { result ≡ page.value }
     {
-        OwnPage(page)
+        OwnPage {
+            own: page,
+            shared: None,
+        }
     }
 
     /// The page, where it stands.
@@ -33,15 +43,54 @@ impl OwnPage {
     pub(crate) fn page(&self) -> &Page
         ensures { result.now ≡ self.now }
     {
-        &self.0
+        match &self.shared {
+            Some(shared) => shared,
+            None => &self.own,
+        }
     }
 
-    /// The page, to be changed where it stands.
+    /// Changes the page, where it stands, as `change` does. Readers keep what they were shown. It takes no memory but what the change
+    /// takes.
     #[inline(always)]
-    pub(crate) fn page_mut(&mut self) -> &mut Page
-        ensures* follows { sem 𝓛 (Lends the_row page_row self.entry result (λ w. w)) }
-        ensures value { result.now ≡ self.old }
+    pub(crate) fn edit<R, F: FnOnce(&mut Page) -> R>(&mut self, change: F) -> R
+        requires { FnOnceTakesAtMut F.FnOnce change self.old }
+        ensures { FnOnceReturnsAtMut F.FnOnce change self.old result self.new }
     {
-        &mut self.0
+        if let Some(shared) = &self.shared {
+            self.own.copy_from(shared);
+        }
+        self.shared = None;
+        let page: &mut Page = &mut self.own;
+        change(page)
+    }
+
+    /// Sets whether all versions on the page are visible to all.
+    pub(crate) fn set_flag(&mut self, flag: bool)
+        ensures { self.new ≡ record self.old { flag = flag } }
+    {
+        self.edit(|page: &mut Page| { page.set_flag(flag) });
+    }
+
+    /// The page as it is now, for readers to keep. Room for another is made with the first of them.
+    pub(crate) fn share(&mut self, alloc: Global) -> Result<Arc<Box<Page>>, AllocError>
+        ensures same { self.new ≡ self.old }
+        ensures shared { IfOk result (λ page. (arc_value page).value ≡ self.old) }
+    {
+        if let Some(shared) = &self.shared {
+            return Arc::try_clone(shared);
+        }
+        let room = Box::new(alloc, Page::new())?;
+        let page = mem::replace(&mut self.own, room);
+        match Arc::new(alloc, page) {
+            Ok(shared) => {
+                let theirs = Arc::try_clone(&shared);
+                self.shared = Some(shared);
+                theirs
+            }
+            Err(failed) => {
+                self.own = failed.value;
+                Err(AllocError)
+            }
+        }
     }
 }

@@ -1,7 +1,8 @@
 //! The pages of a table.
 
-ghost use Rattle.std.specs.Prelude.{◌≡◌, ◌≤◌, false, ◌<◌, ◌+◌, [], ◌∷◌, ◌++◌, length, OnOk, OnErr, Some, slice_get, slice_set, option_copied};
+ghost use Rattle.std.specs.Prelude.{◌≡◌, ◌≤◌, false, ◌<◌, ◌+◌, [], ◌∷◌, ◌++◌, length, OnOk, OnErr, IfOk, Some, slice_get, slice_set, option_copied};
 ghost use Rattle.std.specs.Fn.{FnOnceTakesAtMut};
+ghost use Rattle.std.specs.Arc.{arc_value};
 ghost use Rattle.page_slots.specs.View.{PageView};
 ghost use Rattle.heap_pages.specs.View.{free_space_bytes, Edits, NotesMark, WritesOn};
 ghost use Rattle.heap_pages.specs.Choice.{Promises, HasRoom, FindsFirstPage, IsPlaceFor};
@@ -12,6 +13,7 @@ use page_slots::Page;
 use space_maps::{FreeMap, Mark, VisibilityMap};
 use std::alloc::{AllocError, Global};
 use std::marker::Model;
+use std::sync::Arc;
 
 /// A table has at most so many pages.
 pub const MOST_PAGES: u32 = 65536;
@@ -101,9 +103,9 @@ impl Pages {
             → FnOnceTakesAtMut F.FnOnce change page }
         ensures edits { Edits F.FnOnce change self.old self.new number result }
     {
-        let page = self.pages[number as usize].page_mut();
-        let result = change(page);
-        self.free.note(number, free_byte(page));
+        let own = &mut self.pages[number as usize];
+        let result = own.edit(change);
+        self.free.note(number, free_byte(own.page()));
         result
     }
 
@@ -115,12 +117,23 @@ impl Pages {
             → FnOnceTakesAtMut F.FnOnce change (record page { flag = false }) }
         ensures writes { WritesOn F.FnOnce change self.old self.new number result }
     {
-        let target = self.pages[number as usize].page_mut();
-        target.set_flag(false);
-        let result = change(target);
-        self.free.note(number, free_byte(target));
         self.marks.note(number, Mark::Nothing);
+        let target = &mut self.pages[number as usize];
+        target.set_flag(false);
+        let result = target.edit(change);
+        self.free.note(number, free_byte(target.page()));
         result
+    }
+
+    /// The page of this number, which is in use, as it is now, for readers to keep whatever is written later. Memory is asked for where
+    /// the page was changed since it was last shared, or never was.
+    pub fn share(&mut self, number: u32, alloc: Global) -> Result<Arc<Box<Page>>, AllocError>
+        requires { number < length self.old.pages }
+        ensures same { self.new ≡ self.old }
+        ensures shared { IfOk result
+            (λ page. slice_get self.old.pages number ≡ Some (arc_value page).value) }
+    {
+        self.pages[number as usize].share(alloc)
     }
 
     /// Makes room in memory for `count` more pages, so that the next `count` pages are added without asking for any. Where
@@ -167,9 +180,7 @@ impl Pages {
         requires { number < length self.old.pages }
         ensures { NotesMark self.old self.new number mark }
     {
-        self.pages[number as usize]
-            .page_mut()
-            .set_flag(mark.is_visible());
+        self.pages[number as usize].set_flag(mark.is_visible());
         self.marks.note(number, mark);
     }
 

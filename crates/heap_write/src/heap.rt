@@ -1,6 +1,7 @@
 //! The pages, the ids and the indexes of a table.
 
-ghost use Rattle.std.specs.Prelude.{◌≡◌, ◌≤◌, ◌<◌, ℕ, [], None, slice_get, option_copied, Contains};
+ghost use Rattle.std.specs.Prelude.{◌≡◌, ◌≤◌, ◌<◌, ℕ, [], IfOk, Some, None, length, slice_get, option_copied, Contains};
+ghost use Rattle.std.specs.Arc.{arc_value};
 ghost use Rattle.xid_circle.specs.Circle.{IsNormal};
 ghost use Rattle.commit_status.specs.Window.{IsActive, IsWindow};
 ghost use Rattle.commit_status.specs.Changes.{numbers, Finishes};
@@ -12,8 +13,9 @@ use heap_pages::Pages;
 use page_slots::Page;
 use root_index::RootIndex;
 use space_maps::PruneHints;
-use std::alloc::Global;
+use std::alloc::{AllocError, Global};
 use std::marker::Model;
+use std::sync::Arc;
 use table_indexes::Indexes;
 use thiserror::Error;
 use xid_circle::Xid;
@@ -117,6 +119,17 @@ impl HeapState {
         ensures { option_copied result ≡ slice_get self.now.pages.pages number }
     {
         self.pages.page(number)
+    }
+
+    /// The page of this number, which is in use, as it is now, for readers to keep whatever is written later. Memory is asked for where
+    /// the page was changed since it was last shared, or never was.
+    pub fn share(&mut self, number: u32, alloc: Global) -> Result<Arc<Box<Page>>, AllocError>
+        requires { number < length self.old.pages.pages }
+        ensures same { self.new ≡ self.old }
+        ensures shared { IfOk result
+            (λ page. slice_get self.old.pages.pages number ≡ Some (arc_value page).value) }
+    {
+        self.pages.share(number, alloc)
     }
 
     /// Gives these ids in progress their final status, all in one step. It takes no memory.

@@ -103,6 +103,14 @@ impl Sheet {
         Sheet { bytes, count: 0 }
     }
 
+    /// Becomes equal to another.
+    pub(crate) fn copy_from(&mut self, other: &Sheet)
+        ensures { self.new ≡ other.now }
+    {
+        self.bytes = other.bytes;
+        self.count = other.count;
+    }
+
     /// How many slots there are.
     #[inline(always)]
     pub(crate) fn len(&self) -> usize

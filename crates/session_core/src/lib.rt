@@ -11,6 +11,7 @@ mod engine;
 mod making;
 mod runs;
 mod vacuuming;
+mod views;
 mod waiting;
 
 pub use calls::{Mode, Piece, Refusal, Reply, Row, RowIn, Settings, SettingsFault, Step};

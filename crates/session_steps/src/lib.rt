@@ -28,6 +28,7 @@ mod pruning;
 mod savepoint;
 mod session;
 mod sessions;
+mod sharing;
 mod step;
 mod update;
 mod vacuuming;

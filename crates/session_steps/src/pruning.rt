@@ -48,7 +48,7 @@ fn horizon(next: Xid, sessions: &[Option<Session>]) -> Xid
 
 impl SessionEngine {
     /// The earliest id that an open session, or one that begins now, may still ask for.
-    pub(crate) fn horizon(&self) -> Xid
+    pub fn horizon(&self) -> Xid
         ensures { result.0 ≡ horizon_of self.now }
     {
         horizon(self.heap.statuses().next(), self.sessions.places_in_use())

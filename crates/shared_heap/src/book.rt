@@ -2,9 +2,11 @@
 
 ghost use Rattle.std.specs.Prelude.{◌≡◌, [], IfOk, IfErr, OnOk, MatchResult};
 ghost use Rattle.calls.specs.Words.{AreSettings};
+ghost use Rattle.session_core.specs.Views.{AreViews, RefusesViews};
 ghost use Rattle.shared_heap.specs.Books.{IsBookOf, HasRun, Appends, Calls, FirstThreadsFault};
 
 use crate::copies::{copy_reply, spare_for};
+use page_views::PageViews;
 use session_core::{Engine, Refusal, Reply, RunFault, Settings, SettingsFault, Step};
 use std::alloc::{AllocError, Global};
 use std::marker::Model;
@@ -59,6 +61,16 @@ impl Book {
         ensures run { HasRun self.now }
     {
         self.journal.as_slice()
+    }
+
+    /// The pages from `from` up to, and without, `to` as they are now, for plans of their pruning that are made outside the latch. It is no
+    /// step, and isn't noted. Refusals: NoSuchPage, where `from` is over `to`, or `to` over the number of pages; NoMemory.
+    pub fn page_views(&mut self, from: u32, to: u32) -> Result<PageViews, Refusal>
+        ensures same { self.new ≡ self.old }
+        ensures views { MatchResult result (AreViews self.old.engine.engine.core from to)
+            (RefusesViews self.old.engine.engine.core from to) }
+    {
+        self.engine.page_views(self.alloc, from, to)
     }
 
     /// Calls the engine, and notes the step with its reply. The room for both is made before: where it is refused, nothing is done.

@@ -5,6 +5,7 @@ ghost use Rattle.shared_heap.specs.Books.{FirstThreadsFault};
 
 use crate::book::Book;
 use crate::copies::is_busy;
+use page_views::PageViews;
 use session_core::{Refusal, Reply, RunFault, Settings, Step};
 use std::alloc::Global;
 use std::sync::{Condvar, Mutex, Wait};
@@ -61,6 +62,12 @@ impl Shared {
             book = self.changed.wait(rt, book);
         }
         unreachable!()
+    }
+
+    /// Takes the pages from `from` up to, and without, `to` as [`Book::page_views`] does.
+    pub fn page_views<R: Wait>(&self, rt: &R, from: u32, to: u32) -> Result<PageViews, Refusal> {
+        let mut book = self.latch.lock(rt);
+        book.page_views(from, to)
     }
 
     /// The book, once no thread shares it.

@@ -12,9 +12,9 @@ pub invariant_of-self : goal.invariant_of-self
 invariant_of-self c =
     let pages = c.self.inside.pages.items in
     let n = c.args.number in
-    let was = c.page_mut.result.now in
+    let was = c.index_mut.result.now in
     let within : n < length pages = omega (arith, c.requires, ap (λ (p : PagesView). length p.pages) c.self.view_is) in
-    let at : slice_get pages n ≡ Some was = read_at pages n c.index_mut.result.now within c.index_mut.ensures.value ∙ ap Some (sym c.page_mut.ensures.value) in
+    let at : slice_get pages n ≡ Some was = read_at pages n was within c.index_mut.ensures.value in
     let long = length-set pages n c.set_flag.new.self in record {
       few = omega (arith, long, c.self.invariant.few);
       bytes = flagged c.self.inside.free.bytes pages n was c.is_visible.result c.self.invariant.bytes at ∙ ap (λ (page : PageView). free_space_bytes (set pages n page)) (sym c.set_flag.ensures);
@@ -28,9 +28,9 @@ pub returns : goal.returns
 returns c =
     let pages = c.self.inside.pages.items in
     let n = c.args.number in
-    let was = c.page_mut.result.now in
+    let was = c.index_mut.result.now in
     let within : n < length pages = omega (arith, c.requires, ap (λ (p : PagesView). length p.pages) c.self.view_is) in
-    let at : slice_get c.args.self.now.pages n ≡ Some was = ap (λ (p : PagesView). slice_get p.pages n) (sym c.self.view_is) ∙ read_at pages n c.index_mut.result.now within c.index_mut.ensures.value ∙ ap Some (sym c.page_mut.ensures.value) in
+    let at : slice_get c.args.self.now.pages n ≡ Some was = ap (λ (p : PagesView). slice_get p.pages n) (sym c.self.view_is) ∙ read_at pages n was within c.index_mut.ensures.value in
     let flagged_as : PageView = record was { flag = says_visible c.args.mark } in (
       was,
       at,
