@@ -1,3 +1,4 @@
+pub mod ApartLemmas
 pub mod BoundLemmas
 pub mod BracketLemmas
 pub mod EditLemmas

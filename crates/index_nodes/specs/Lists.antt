@@ -1,5 +1,5 @@
 -- Lists of entries, one after another.
-use Rattle.std.specs.Prelude.{◌≡◌, ◌<◌, ◌≤◌, ◌+◌, ◌||◌, ◌&&◌, ◌==◌, ◌∷◌, [], ℕ, List, Bool, true, false, not, length, take, slice_index_or}
+use Rattle.std.specs.Prelude.{◌≡◌, ◌<◌, ◌≤◌, ◌+◌, ◌-◌, ◌||◌, ◌&&◌, ◌==◌, ◌∷◌, [], ℕ, List, Bool, true, false, not, length, take, slice_get, Some, slice_index_or}
 use Rattle.std.specs.List.{flat_map}
 use Rattle.std.specs.Ordering.{is_lt}
 use Rattle.xid_circle.specs.declared.Tid.{Tid}
@@ -34,6 +34,10 @@ begins_after sought (first ∷ rest) = is_lt (comparison sought first)
 abbrev pub IsFirst : Entry → List Entry → Type 0
 IsFirst entry [] = Unit {0}
 IsFirst entry (first ∷ rest) = entry ≡ first
+
+-- this one is the list's last, if it has any
+abbrev pub IsLast : Entry → List Entry → Type 0
+IsLast entry entries = 0 < length entries → slice_get entries (length entries - 1) ≡ Some entry
 
 -- one of these two lists or one between them is the last that doesn't begin after the entry
 pub record IsLastBetween (lists : List (List Entry)) (sought : Entry) (low high : ℕ) : Type 0 where

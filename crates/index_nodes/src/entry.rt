@@ -1,6 +1,6 @@
 //! Entries and their order.
 
-ghost use Rattle.std.specs.Prelude.{◌≡◌};
+ghost use Rattle.std.specs.Prelude.{◌≡◌, ◌↔◌, IsTrue};
 ghost use Rattle.std.specs.Ordering.{is_lt};
 ghost use Rattle.index_nodes.specs.Order.{comparison, MembersDetermine};
 
@@ -46,6 +46,14 @@ pub(crate) fn is_before(a: &Entry, b: &Entry) -> bool
         return false;
     }
     compare(a, b).is_lt()
+}
+
+/// Whether two entries are the same.
+#[inline(always)]
+pub(crate) fn is_same(a: &Entry, b: &Entry) -> bool
+    ensures { IsTrue result ↔ a.now ≡ b.now }
+{
+    compare(a, b).is_eq()
 }
 
 /// The law of ordered sets: two ascending lists with the same entries are the same list. It does nothing; its contract is

@@ -6,11 +6,11 @@ ghost use Rattle.std.specs.List.{insert, filter};
 ghost use Rattle.std.specs.Option.{option_map};
 ghost use Rattle.index_nodes.specs.Order.{IsAscending};
 ghost use Rattle.index_nodes.specs.Sets.{IsAt, IsEndAt, IsGapFor, GoesBehind, GoesBefore};
-ghost use Rattle.index_nodes.specs.Lists.{IsFirst, stays};
+ghost use Rattle.index_nodes.specs.Lists.{IsFirst, IsLast, stays};
 ghost use Rattle.index_nodes.specs.Bounds.{AreOn};
 ghost use Rattle.dead_places.specs.Places.{AreAscending};
 
-use crate::entry::{Entry, compare, is_before};
+use crate::entry::{Entry, compare, is_before, is_same};
 use crate::node::{HALF, Half, MOST_PARTS, Node, Swept};
 use dead_places::{DeadSet, NO_PAGES, PageBounds, is_among, widen};
 use std::alloc::{AllocError, Global};
@@ -23,6 +23,8 @@ pub struct Leaf {
     /// The first entry, if there is one. A search that passes this leaf looks at nothing else of it, and the leaves of a branch
     /// stand together in memory, where their entries don't.
     first: Entry,
+    /// The last entry, if there is one. So a sweep passes a leaf without a look at its entries, where they lead to other pages.
+    last: Entry,
     entries: Vec<Entry>,
     /// The entries lead to these pages.
     pages: PageBounds,
@@ -39,7 +41,7 @@ impl Model for Leaf {
 
     ghost view = { λ l. l.entries.items };
 
-    ghost invariant = { λ l. IsLeaf l.first l.entries.items (vec_capacity l.entries) l.pages };
+    ghost invariant = { λ l. IsLeaf l.first l.last l.entries.items (vec_capacity l.entries) l.pages };
 }
 
 impl Node for Leaf {
@@ -68,13 +70,14 @@ impl Node for Leaf {
     fn new(alloc: Global) -> Result<Self, AllocError> {
         let entries = Vec::with_capacity(alloc, MOST_PARTS)?;
         let tid = Tid { page: 0, slot: 0 };
-        let first = Entry {
+        let none = Entry {
             value: 0,
             key: 0,
             tid,
         };
         Ok(Leaf {
-            first,
+            first: none,
+            last: none,
             entries,
             pages: NO_PAGES,
             spread: 0,
@@ -100,7 +103,7 @@ impl Node for Leaf {
     }
 
     fn stands_at(&self, sought: &Entry, position: usize) -> bool {
-        is_at(&self.entries, sought, position)
+        stands_in(&self.entries, &self.last, sought, position)
     }
 
     fn first() -> usize {
@@ -131,10 +134,12 @@ impl Node for Leaf {
         self.entries.truncate(kept);
         upper.first = first_or(&upper.entries, self.first);
         self.first = first_or(&self.entries, self.first);
+        upper.last = last_or(&upper.entries, self.last);
+        self.last = last_or(&self.entries, self.last);
         upper.pages = bounds_of(&upper.entries);
         self.pages = bounds_of(&self.entries);
-        upper.spread = spread_of(&upper.entries);
-        self.spread = spread_of(&self.entries);
+        upper.spread = spread_between(&upper.first, &upper.last);
+        self.spread = spread_between(&self.first, &self.last);
         if position < HALF {
             Half::Lower(position)
         } else {
@@ -148,12 +153,12 @@ impl Node for Leaf {
         position: usize,
         entry: Entry,
     ) -> Result<(), AllocError> {
+        let count = self.entries.len();
         put(&mut self.entries, position, entry);
-        self.first = first_or(&self.entries, entry);
+        self.first = first_with(self.first, position, entry);
+        self.last = last_with(self.last, count, position, entry);
         self.pages = widen(self.pages, entry.tid);
-        if position == 0 || position + 1 == self.entries.len() {
-            self.spread = spread_of(&self.entries);
-        }
+        self.spread = spread_between(&self.first, &self.last);
         Ok(())
     }
 
@@ -164,8 +169,11 @@ impl Node for Leaf {
         position: usize,
         dead: &DeadSet,
     ) -> Option<Swept<usize>> {
-        let last = last_from(&self.entries, position)?;
         let count = self.entries.len();
+        if position >= count {
+            return None;
+        }
+        let last = self.last;
         let near = dead.on_pages(self.pages);
         let goes = next_to_go(&self.entries, position, near);
         if goes == count {
@@ -178,8 +186,9 @@ impl Node for Leaf {
         }
         remove_from(&mut self.entries, goes, near);
         self.first = first_or(&self.entries, self.first);
+        self.last = last_or(&self.entries, last);
         self.pages = bounds_of(&self.entries);
-        self.spread = spread_of(&self.entries);
+        self.spread = spread_between(&self.first, &self.last);
         let removed = (count - self.entries.len()) as u64;
         Some(Swept {
             last,
@@ -249,6 +258,22 @@ fn put(entries: &mut Vec<Entry>, place: usize, entry: Entry)
     let _done = entries.insert(place, entry);
 }
 
+/// The first entry where one comes to this place: that one, or the first until then.
+fn first_with(first: Entry, place: usize, entry: Entry) -> Entry
+    ensures front { place ≡ 0 → result ≡ entry }
+    ensures behind { 0 < place → result ≡ first }
+{
+    if place == 0 { entry } else { first }
+}
+
+/// The last of so many entries where one comes to this place: that one, or the last until then.
+fn last_with(last: Entry, count: usize, place: usize, entry: Entry) -> Entry
+    ensures end { place ≡ count → result ≡ entry }
+    ensures before { place < count → result ≡ last }
+{
+    if place == count { entry } else { last }
+}
+
 /// The pages that these entries lead to.
 fn bounds_of(entries: &[Entry]) -> PageBounds
     ensures { AreOn result entries.now }
@@ -261,14 +286,9 @@ fn bounds_of(entries: &[Entry]) -> PageBounds
     bounds
 }
 
-/// How far the last value is behind the first, where that is less than 2^64.
-fn spread_of(entries: &[Entry]) -> u64 {
-    match (entries.first(), entries.last()) {
-        (Some(first), Some(last)) => {
-            u64::try_from(last.value.wrapping_sub(first.value)).unwrap_or(0)
-        }
-        _ => 0,
-    }
+/// How far a value is behind another, where that is less than 2^64.
+fn spread_between(first: &Entry, last: &Entry) -> u64 {
+    u64::try_from(last.value.wrapping_sub(first.value)).unwrap_or(0)
 }
 
 /// Where the entry would stand among so many if their values were evenly spread. It is no more than a hint.
@@ -316,6 +336,32 @@ fn is_at(entries: &[Entry], sought: &Entry, place: usize) -> bool
     match entry_in(entries, place) {
         Some(entry) => compare(&entry, sought).is_eq(),
         None => false,
+    }
+}
+
+/// Whether this entry stands at this place, where the last one is known.
+#[inline(always)]
+fn stands_in(entries: &[Entry], last: &Entry, sought: &Entry, place: usize) -> bool
+    requires { IsLast last.now entries.now }
+    ensures { IsTrue result ↔ IsAt entries.now sought.now place }
+{
+    if place >= entries.len() {
+        return false;
+    }
+    is_same(there(entries, last, place), sought)
+}
+
+/// The entry at this place, where the last one is known. So a sweep goes on from it without a look at the others.
+#[inline(always)]
+fn there<'a>(entries: &'a [Entry], last: &'a Entry, place: usize) -> &'a Entry
+    requires in_range { place < length entries.now }
+    requires last { IsLast last.now entries.now }
+    ensures { slice_get entries.now place ≡ Some result.now }
+{
+    if place + 1 == entries.len() {
+        last
+    } else {
+        &entries[place]
     }
 }
 
@@ -410,17 +456,14 @@ fn first_or(entries: &[Entry], other: Entry) -> Entry
     }
 }
 
-/// The last of these entries, if it doesn't stand before this place.
-fn last_from(entries: &[Entry], from: usize) -> Option<Entry>
-    ensures last { IfSome result
-        (λ last. (from < length entries.now)
-        × (slice_get entries.now (length entries.now - 1) ≡ Some last)) }
-    ensures none { IfNone result (length entries.now ≤ from) }
+/// The last of these entries, or another where there is none.
+fn last_or(entries: &[Entry], other: Entry) -> Entry
+    ensures { IsLast result entries.now }
 {
-    if from >= entries.len() {
-        return None;
+    match entries.last() {
+        Some(last) => *last,
+        None => other,
     }
-    entries.last().copied()
 }
 
 /// The first place, from this one on, of an entry that leads to a dead place; the end, where none does.

@@ -26,6 +26,7 @@ pub(crate) fn position_after<N: Node>(nodes: &[N], from: Option<Entry>) -> TreeP
 
 /// Where the entries after this one begin, or all, where there is none. It is not searched for where it still stands at the position
 /// that is given.
+#[inline(always)]
 pub(crate) fn position_near<N: Node>(
     nodes: &[N],
     from: Option<Entry>,
@@ -42,6 +43,7 @@ pub(crate) fn position_near<N: Node>(
 }
 
 /// Where the entries after this one begin. It is not searched for where it still stands at the position that is given.
+#[inline(always)]
 fn position_behind<N: Node>(
     nodes: &[N],
     from: Entry,
