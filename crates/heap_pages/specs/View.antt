@@ -14,10 +14,10 @@ use Rattle.space_maps.specs.declared.mark.Mark.TheVariants.{Nothing}
 use Rattle.heap_pages.specs.Choice.{free_byte_of}
 use Rattle.heap_pages.specs.declared.pages.TheConstants.{MOST_PAGES}
 
--- what readers share is the page, and else the table's own is
-abbrev pub held_in : PageView → Option (Arc (Box PageView Global) Global) → PageView
-held_in own (Some shared) = shared.value.value
-held_in own None = own
+-- what readers were last given, if anything, is the page
+abbrev pub IsCopy : PageView → Option (Arc (Box PageView Global) Global) → Type 0
+IsCopy own (Some shared) = shared.value.value ≡ own
+IsCopy own None = Unit {0}
 
 pub record PagesView : Type 0 where
   pub pages : List PageView

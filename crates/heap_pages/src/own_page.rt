@@ -1,4 +1,4 @@
-//! A page of the table, which readers may share.
+//! A page of the table, of which readers may share a copy.
 
 ghost use Rattle.std.specs.Prelude.{◌≡◌, IfOk};
 ghost use Rattle.std.specs.Arc.{arc_value};
@@ -7,11 +7,10 @@ ghost use Rattle.std.specs.Fn.{FnOnceTakesAtMut, FnOnceReturnsAtMut};
 use page_slots::Page;
 use std::alloc::{AllocError, Global};
 use std::marker::Model;
-use std::mem;
 use std::sync::Arc;
 
-/// A page in memory of its own: so none is copied where the table of pages grows. While readers share the page, that memory is room for
-/// the copy that a change needs. Contracts see what the page holds, and not whether it is shared.
+/// A page in memory of its own: so none is copied where the table of pages grows. Beside it is the copy that readers were last given,
+/// until the page is changed.
 #[derive(Debug, Drop)]
 pub(crate) struct OwnPage {
     own: Box<Page>,
@@ -20,11 +19,13 @@ pub(crate) struct OwnPage {
 
 impl Model for OwnPage {
     ghost use Rattle.page_slots.specs.View.{PageView};
-    ghost use Rattle.heap_pages.specs.View.{held_in};
+    ghost use Rattle.heap_pages.specs.View.{IsCopy};
 
     ghost Value = { PageView };
 
-    ghost view = { λ p. held_in p.own.value p.shared };
+    ghost view = { λ p. p.own.value };
+
+    ghost invariant = { λ p. IsCopy p.own.value p.shared };
 }
 
 impl OwnPage {
@@ -43,22 +44,16 @@ impl OwnPage {
     pub(crate) fn page(&self) -> &Page
         ensures { result.now ≡ self.now }
     {
-        match &self.shared {
-            Some(shared) => shared,
-            None => &self.own,
-        }
+        &self.own
     }
 
-    /// Changes the page, where it stands, as `change` does. Readers keep what they were shown. It takes no memory but what the change
+    /// Changes the page, where it stands, as `change` does. Readers keep what they were given. It takes no memory but what the change
     /// takes.
     #[inline(always)]
     pub(crate) fn edit<R, F: FnOnce(&mut Page) -> R>(&mut self, change: F) -> R
         requires { FnOnceTakesAtMut F.FnOnce change self.old }
         ensures { FnOnceReturnsAtMut F.FnOnce change self.old result self.new }
     {
-        if let Some(shared) = &self.shared {
-            self.own.copy_from(shared);
-        }
         self.shared = None;
         let page: &mut Page = &mut self.own;
         change(page)
@@ -68,10 +63,10 @@ impl OwnPage {
     pub(crate) fn set_flag(&mut self, flag: bool)
         ensures { self.new ≡ record self.old { flag = flag } }
     {
-        self.edit(|page: &mut Page| { page.set_flag(flag) });
+        self.edit(|page: &mut Page| page.set_flag(flag));
     }
 
-    /// The page as it is now, for readers to keep. Room for another is made with the first of them.
+    /// The page as it is now, for readers to keep. It is copied where it was changed since they were last given it.
     pub(crate) fn share(&mut self, alloc: Global) -> Result<Arc<Box<Page>>, AllocError>
         ensures same { self.new ≡ self.old }
         ensures shared { IfOk result (λ page. (arc_value page).value ≡ self.old) }
@@ -79,18 +74,13 @@ impl OwnPage {
         if let Some(shared) = &self.shared {
             return Arc::try_clone(shared);
         }
-        let room = Box::new(alloc, Page::new())?;
-        let page = mem::replace(&mut self.own, room);
-        match Arc::new(alloc, page) {
-            Ok(shared) => {
-                let theirs = Arc::try_clone(&shared);
-                self.shared = Some(shared);
-                theirs
-            }
-            Err(failed) => {
-                self.own = failed.value;
-                Err(AllocError)
-            }
-        }
+        let mut copy = Box::new(alloc, Page::new())?;
+        copy.copy_from(&self.own);
+        let Ok(shared) = Arc::new(alloc, copy) else {
+            return Err(AllocError);
+        };
+        let theirs = Arc::try_clone(&shared);
+        self.shared = Some(shared);
+        theirs
     }
 }
