@@ -22,7 +22,7 @@ use crate::inspect::{show_ids, show_index, show_page};
 use crate::io_log::IoLog;
 use crate::output::write_out;
 use script_text::{Line, MOST_LINE_BYTES, RefusedGrowth, line_at, settings_at, tell_reply};
-use session_core::{Engine, Reply};
+use session_core::{Engine, Reply, Settings};
 use std::alloc::Global;
 use std::io::{Read, Write};
 
@@ -196,6 +196,41 @@ fn run_lines<R: Read, W: Write>(
     Err(ShellFault::TooManyLines)
 }
 
+// The settings of the first line, which is used.
+pub(crate) fn first_settings<R: Read, W: Write>(
+    log: &mut IoLog<R, W>,
+    pending: &mut Pending,
+    reader: &mut R,
+    text: &mut Vec<u8>,
+    writer: &mut W,
+) -> Result<Settings, ShellFault>
+    requires { (pending.old ≡ []) × (text.old.items ≡ []) }
+    ensures begins { IfOk result
+        (λ s. AreSettings s × (length s.indexed ≡ 4)
+        × Uses (R.remaining reader.old) (R.remaining reader.new) []
+        (with_feed (heading s)) pending.new) }
+    ensures quiet { Appends (W.contents writer.old) (W.contents writer.new) [] }
+    ensures none { OnOk result (text.new.items ≡ []) }
+    ensures fails { IfErr result (λ e. MatchesHeading e (R.remaining reader.old)) }
+    ensures caused { IfErr result (λ e. IsCaused e log.new) }
+{
+    let next = match next_line(log, pending, reader, text, writer) {
+        Ok(next) => next,
+        Err(fault) => return Err(fault),
+    };
+    let Next::Line(n) = next else {
+        return Err(ShellFault::BadLine(1));
+    };
+    let Some(settings) = settings_at(&pending.as_slice()[..n]) else {
+        return Err(ShellFault::BadLine(1));
+    };
+    if let Some(_) = settings.fault() {
+        return Err(ShellFault::BadLine(1));
+    }
+    pending.consume(n + 1);
+    Ok(settings)
+}
+
 // Makes the engine that the first line asks for, and uses that line.
 fn first_line<R: Read, W: Write>(
     alloc: Global,
@@ -215,21 +250,13 @@ fn first_line<R: Read, W: Write>(
     ensures fails { IfErr result (λ e. MatchesHeading e (R.remaining reader.old)) }
     ensures caused { IfErr result (λ e. IsCaused e log.new) }
 {
-    let next = match next_line(log, pending, reader, text, writer) {
-        Ok(next) => next,
+    let settings = match first_settings(log, pending, reader, text, writer) {
+        Ok(settings) => settings,
         Err(fault) => return Err(fault),
     };
-    let Next::Line(n) = next else {
-        return Err(ShellFault::BadLine(1));
-    };
-    let Some(settings) = settings_at(&pending.as_slice()[..n]) else {
-        return Err(ShellFault::BadLine(1));
-    };
     match log.new_engine(alloc, settings) {
-        Ok(Some(engine)) => {
-            pending.consume(n + 1);
-            Ok(engine)
-        }
+        Ok(Some(engine)) => Ok(engine),
+        // the settings are in range, so this never comes
         Ok(None) => Err(ShellFault::BadLine(1)),
         Err(fault) => Err(fault),
     }

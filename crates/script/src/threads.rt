@@ -1,13 +1,10 @@
 //! A script for threads, from its first line to the last entry of the journal.
 
-ghost use Rattle.std.specs.Prelude.{◌≡◌, ◌++◌, [], length, IfSome, IfOk, IfErr, OnOk};
+ghost use Rattle.std.specs.Prelude.{◌≡◌, ◌++◌, [], IfSome, IfErr, OnOk};
 ghost use Rattle.std.specs.Io.KnownBytes.{Appends};
-ghost use Rattle.calls.specs.Words.{AreSettings};
 ghost use Rattle.shared_heap.specs.Merge.{lines_in};
-ghost use Rattle.script_text.specs.Grammar.{heading, with_feed};
 ghost use Rattle.script.specs.Script.{WritesBeginning};
 ghost use Rattle.script.specs.Refusals.{IsRefused, IsCaused};
-ghost use Rattle.script.specs.Steps.{Uses, MatchesHeading};
 ghost use Rattle.script.specs.Reading.{ReadsLines};
 ghost use Rattle.script.specs.Threads.{ThreadsOutcome, lists_for, lines_of_entry, journal_text};
 
@@ -15,49 +12,14 @@ use crate::fault::ShellFault;
 use crate::input::Pending;
 use crate::io_log::IoLog;
 use crate::output::write_out;
-use crate::run::{Next, next_line, write_if_full};
-use script_text::{RefusedGrowth, settings_at, tell_reply, tell_step, worker_step_at};
-use session_core::{Reply, Settings, Step};
+use crate::run::{Next, first_settings, next_line, write_if_full};
+use script_text::{RefusedGrowth, tell_reply, tell_step, worker_step_at};
+use session_core::{Reply, Step};
 use shared_heap::Line;
 use std::alloc::Global;
 use std::io::{Read, Write};
 use std::sync::Wait;
 use std::thread::Threads;
-
-// The settings of the first line, which is used.
-fn first_settings<R: Read, W: Write>(
-    log: &mut IoLog<R, W>,
-    pending: &mut Pending,
-    reader: &mut R,
-    text: &mut Vec<u8>,
-    writer: &mut W,
-) -> Result<Settings, ShellFault>
-    requires { (pending.old ≡ []) × (text.old.items ≡ []) }
-    ensures begins { IfOk result
-        (λ s. AreSettings s × (length s.indexed ≡ 4)
-        × Uses (R.remaining reader.old) (R.remaining reader.new) []
-        (with_feed (heading s)) pending.new) }
-    ensures quiet { Appends (W.contents writer.old) (W.contents writer.new) [] }
-    ensures none { OnOk result (text.new.items ≡ []) }
-    ensures fails { IfErr result (λ e. MatchesHeading e (R.remaining reader.old)) }
-    ensures caused { IfErr result (λ e. IsCaused e log.new) }
-{
-    let next = match next_line(log, pending, reader, text, writer) {
-        Ok(next) => next,
-        Err(fault) => return Err(fault),
-    };
-    let Next::Line(n) = next else {
-        return Err(ShellFault::BadLine(1));
-    };
-    let Some(settings) = settings_at(&pending.as_slice()[..n]) else {
-        return Err(ShellFault::BadLine(1));
-    };
-    if let Some(_) = settings.fault() {
-        return Err(ShellFault::BadLine(1));
-    }
-    pending.consume(n + 1);
-    Ok(settings)
-}
 
 // Reads the lines behind the first into the workers' lists, up to the end of the script or its first bad line. The text is empty:
 // nothing is written.

@@ -1,7 +1,7 @@
 use Rattle.std.proofs.Common.{refl, sym}
 use Rattle.std.proofs.lemmas.Option.{none-some}
 use Rattle.script.proofs.FirstLemmas.{bad_first, bad_text, bad_settings, first_used, nothing_given}
-use Rattle.script.proofs.threads.first_settings.Goals as goal
+use Rattle.script.proofs.run.first_settings.Goals as goal
 
 pub returns-in_default : goal.returns-in_default
 returns-in_default g c = record {
