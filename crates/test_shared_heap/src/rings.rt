@@ -3,14 +3,11 @@
 use crate::lists::line;
 use crate::replay::replay;
 use crate::rows::{SETTINGS, row};
-use session_core::{Refusal, Reply, Step};
-use shared_heap::{Gate, Line, Shared, run_gated};
+use session_core::Step;
+use shared_heap::{Gate, Line, run_gated};
 use std::alloc::{AllocError, Global};
-use std::sync::Wait;
 use std::sync::atomic::{AtomicU64, Ordering};
 use std::test::Fail;
-use std::thread;
-use std::thread::Threads;
 
 /// Holds each worker, after its second entry, until all have come so far.
 #[derive(Drop)]
@@ -79,43 +76,5 @@ fn one_worker_closes_the_ring(rt: HostRuntime) -> Result<(), Fail> {
             None => assert!(rt; false),
         }
     }
-    Ok(())
-}
-
-/// The session inserts another's key, waiting for it, and aborts.
-fn take_and_leave<R: Wait>(rt: &R, alloc: Global, shared: &Shared, s: u8, key: u64) -> Reply {
-    let waited = shared.call_waiting(rt, Step::Insert(s, row(alloc, key, 7)));
-    shared.call(rt, Step::Abort(s));
-    waited
-}
-
-/// Sessions 0 and 1 take each other's key.
-fn take_both<'x, R: Threads + Wait + Sync>(
-    rt: &'x R,
-    alloc: Global,
-    shared: &'x Shared,
-) -> (Reply, Reply) {
-    thread::join(
-        rt,
-        move || take_and_leave(rt, alloc, shared, 0, 1),
-        move || take_and_leave(rt, alloc, shared, 1, 0),
-    )
-}
-
-// A waiting call ends by Deadlock too.
-#[test]
-fn one_call_closes_the_ring(rt: HostRuntime) -> Result<(), Fail> {
-    let alloc = rt.alloc();
-    let shared = Shared::new(alloc, SETTINGS)?;
-    for s in 0..2u8 {
-        shared.call(&rt, Step::Begin(s));
-        shared.call(&rt, Step::Insert(s, row(alloc, u64::from(s), 5)));
-    }
-    let ends = match take_both(&rt, alloc, &shared) {
-        (Reply::Done, Reply::Refused(Refusal::Deadlock)) => true,
-        (Reply::Refused(Refusal::Deadlock), Reply::Done) => true,
-        _ => false,
-    };
-    assert!(rt; ends);
     Ok(())
 }
