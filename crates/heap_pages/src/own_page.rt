@@ -1,6 +1,6 @@
 //! A page of the table, of which readers may share a copy.
 
-ghost use Rattle.std.specs.Prelude.{◌≡◌, IfOk};
+ghost use Rattle.std.specs.Prelude.{◌≡◌, None, IfOk};
 ghost use Rattle.std.specs.Arc.{arc_value};
 ghost use Rattle.std.specs.Fn.{FnOnceTakesAtMut, FnOnceReturnsAtMut};
 
@@ -26,6 +26,14 @@ impl Model for OwnPage {
     ghost view = { λ p. p.own.value };
 
     ghost invariant = { λ p. IsCopy p.own.value p.shared };
+}
+
+/// Lets go of a copy that readers were given. It stands alone, so that a change of a page that nobody shares stays short.
+#[inline(never)]
+fn forget(shared: &mut Option<Arc<Box<Page>>>)
+    ensures { shared.new ≡ None }
+{
+    *shared = None;
 }
 
 impl OwnPage {
@@ -54,7 +62,9 @@ impl OwnPage {
         requires { FnOnceTakesAtMut F.FnOnce change self.old }
         ensures { FnOnceReturnsAtMut F.FnOnce change self.old result self.new }
     {
-        self.shared = None;
+        if self.shared.is_some() {
+            forget(&mut self.shared);
+        }
         let page: &mut Page = &mut self.own;
         change(page)
     }
