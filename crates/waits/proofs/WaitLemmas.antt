@@ -47,3 +47,13 @@ pub nobody_waits : (count s : ℕ) → wait_in (replicate count None) s ≡ None
 nobody_waits zero s = refl
 nobody_waits (suc count) zero = refl
 nobody_waits (suc count) (suc s) = nobody_waits count s
+
+-- where nobody waits, no wait ends
+pub set-quiet : (count s : ℕ) → set (replicate {A = Option ℕ} count None) s None ≡ replicate count None
+set-quiet zero s = refl
+set-quiet (suc count) zero = refl
+set-quiet (suc count) (suc s) = ap (λ waits. None ∷ waits) (set-quiet count s)
+
+pub map-quiet : (p : ℕ → Bool) (count : ℕ) → map (kept_where p) (replicate count None) ≡ replicate count None
+map-quiet p zero = refl
+map-quiet p (suc count) = ap (λ waits. None ∷ waits) (map-quiet p count)

@@ -1,6 +1,6 @@
 //! For whom each session waits.
 
-ghost use Rattle.std.specs.Prelude.{◌≡◌, ◌==◌, ◌↔◌, not, map, replicate, slice_set, IsTrue, Some, None};
+ghost use Rattle.std.specs.Prelude.{◌≡◌, ◌==◌, ◌↔◌, not, false, length, map, replicate, slice_set, IsTrue, Some, None};
 ghost use Rattle.history.specs.Cursors.{kept_where};
 ghost use Rattle.history.specs.World.{ClosesRing};
 ghost use Rattle.calls.specs.declared.step.TheConstants.{MOST_SESSIONS};
@@ -13,14 +13,19 @@ use std::marker::Model;
 #[derive(Drop)]
 pub struct Waits {
     places: [Option<u8>; 64],
+    // where it is false nobody waits, and nothing has to be looked for
+    may_wait: bool,
 }
 
 impl Model for Waits {
-    ghost use Rattle.std.specs.Prelude.{List, Option, ℕ};
+    ghost use Rattle.std.specs.Prelude.{◌≡◌, List, Option, ℕ, None, false, replicate};
+    ghost use Rattle.calls.specs.declared.step.TheConstants.{MOST_SESSIONS};
 
     ghost Value = { List (Option ℕ) };
 
     ghost view = { λ w. w.places };
+
+    ghost invariant = { λ w. w.may_wait ≡ false → w.places ≡ replicate MOST_SESSIONS None };
 }
 
 impl Waits {
@@ -28,7 +33,10 @@ impl Waits {
     pub fn new() -> Waits
         ensures { result ≡ replicate MOST_SESSIONS None }
     {
-        Waits { places: [None; 64] }
+        Waits {
+            places: [None; 64],
+            may_wait: false,
+        }
     }
 
     /// The session s waits for o.
@@ -36,20 +44,26 @@ impl Waits {
         ensures { self.new ≡ slice_set self.old s (Some o) }
     {
         put(&mut self.places, s, Some(o));
+        self.may_wait = true;
     }
 
     /// The session's own wait ends.
     pub fn end(&mut self, s: u8)
         ensures { self.new ≡ slice_set self.old s None }
     {
-        put(&mut self.places, s, None);
+        if self.may_wait {
+            put(&mut self.places, s, None);
+        }
     }
 
     /// Nobody waits for the session any more.
     pub fn wake(&mut self, s: u8)
         ensures { self.new ≡ map (kept_where (λ o. not (o == s))) self.old }
     {
-        wake_all(&mut self.places, s);
+        if self.may_wait {
+            wake_all(&mut self.places, s);
+            self.may_wait = any_waits(&self.places);
+        }
     }
 
     /// Would a wait of s for o close a ring?
@@ -69,6 +83,18 @@ fn put(waits: &mut [Option<u8>], s: u8, wait: Option<u8>)
         return;
     }
     waits[s as usize] = wait;
+}
+
+/// Whether anyone waits.
+fn any_waits(waits: &[Option<u8>]) -> bool
+    ensures { result ≡ false → waits.now ≡ replicate (length waits.now) None }
+{
+    for wait in waits {
+        if wait.is_some() {
+            return true;
+        }
+    }
+    false
 }
 
 /// Nobody waits for the session any more.
