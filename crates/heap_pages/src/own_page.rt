@@ -86,9 +86,7 @@ impl OwnPage {
         }
         let mut copy = Box::new(alloc, Page::new())?;
         copy.copy_from(&self.own);
-        let Ok(shared) = Arc::new(alloc, copy) else {
-            return Err(AllocError);
-        };
+        let shared = Arc::new(alloc, copy)?;
         let theirs = Arc::try_clone(&shared);
         self.shared = Some(shared);
         theirs

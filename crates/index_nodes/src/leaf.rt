@@ -41,7 +41,8 @@ impl Model for Leaf {
 
     ghost view = { λ l. l.entries.items };
 
-    ghost invariant = { λ l. IsLeaf l.first l.last l.entries.items (vec_capacity l.entries) l.pages };
+    ghost invariant = { λ l.
+        IsLeaf l.first l.last l.entries.items (vec_capacity l.entries) l.pages };
 }
 
 impl Node for Leaf {
