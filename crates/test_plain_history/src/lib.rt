@@ -14,6 +14,6 @@ mod savepoints;
 #[cfg(test)]
 mod stories;
 #[cfg(test)]
-mod waits;
+mod waiting;
 #[cfg(test)]
 mod writes;

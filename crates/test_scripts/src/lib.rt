@@ -26,6 +26,6 @@ mod updates;
 #[cfg(test)]
 mod vacuums;
 #[cfg(test)]
-mod waits;
+mod waiting;
 #[cfg(test)]
 mod worked;

@@ -7,7 +7,7 @@ use crate::statements::STATEMENTS;
 use crate::table::{CASES, Case};
 use crate::updates::{CHAINS, PAGES};
 use crate::vacuums::VACUUMS;
-use crate::waits::WAITS;
+use crate::waiting::WAITS;
 use script::run_script;
 use std::alloc::{AllocError, Global};
 use std::test::Fail;
