@@ -3,6 +3,7 @@
 ghost use Rattle.std.specs.Prelude.{◌≡◌, ◌↔◌, ◌≤◌, ℕ, length};
 ghost use Rattle.std.specs.Option.{option_map};
 ghost use Rattle.commit_status.specs.Changes.{CanGive};
+ghost use Rattle.table_indexes.specs.Indexes.{entries_in};
 ghost use Rattle.session_steps.specs.State.{open_bits};
 ghost use Rattle.vacuum_passes.specs.View.{VacuumView};
 
@@ -15,6 +16,20 @@ impl Engine {
         ensures { result ≡ length self.now.engine.core.heap.pages.pages }
     {
         self.core.pages()
+    }
+
+    /// How many entries the index has that has the most.
+    pub fn most_entries(&self) -> u64
+        ensures { (i : ℕ) → length (entries_in self.now.engine.core.heap.indexes i) ≤ result }
+    {
+        self.core.fact_set_up();
+        let mut most = 0;
+        for number in 0..5u8 {
+            if let Some(index) = self.core.index(number) {
+                most = most.max(index.len());
+            }
+        }
+        most
     }
 
     /// How many more ids can be given, one after another, before NeedsFreeze.

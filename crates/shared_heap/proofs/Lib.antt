@@ -1,3 +1,4 @@
 pub mod Running
 pub mod Merging
+pub mod Scanned
 pub mod Rooms

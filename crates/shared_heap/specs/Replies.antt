@@ -18,9 +18,9 @@ abbrev pub RowsFit : Reply → ℕ → Type 0
 RowsFit (reply.Rows rows) room = length rows.items ≤ room
 RowsFit reply room = Unit {0}
 
--- there is room for any reply that an engine may give to the step
-abbrev pub HasRoomFor : Step → ℕ → Type 0
-HasRoomFor step room = (w : World) (old new : WaitingView) (reply : Reply) → WaitingAgrees old w
+-- there is room for any reply that this engine may give to the step
+abbrev pub HasRoomFor : WaitingView → Step → ℕ → Type 0
+HasRoomFor old step room = (w : World) (new : WaitingView) (reply : Reply) → WaitingAgrees old w
     → WaitingFollows old step reply new → WaitingExact old step reply new → RowsFit reply room
 
 abbrev pub is_busy_reply : Reply → Bool

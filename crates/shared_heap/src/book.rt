@@ -80,7 +80,7 @@ impl Book {
     {
         self.journal.reserve(1)?;
         let copy = step.copy(self.alloc)?;
-        let spare = spare_for(self.alloc, &step)?;
+        let spare = spare_for(self.alloc, &self.engine, &step)?;
         let reply = self.engine.step(step);
         let answer = copy_reply(&reply, spare);
         self.journal.push_reserved((copy, reply));

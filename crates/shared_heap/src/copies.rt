@@ -3,7 +3,7 @@
 ghost use Rattle.std.specs.Prelude.{◌≡◌, ◌≤◌, ◌++◌, take, length, vec_len, vec_capacity, IfOk, false};
 ghost use Rattle.shared_heap.specs.Replies.{IsSame, RowsFit, HasRoomFor, is_busy_reply};
 
-use session_core::{Refusal, Reply, Row, Step};
+use session_core::{Engine, Refusal, Reply, Row, Step};
 use std::alloc::{AllocError, Global};
 use std::marker::Model;
 use tuple_header::MOST_SLOTS;
@@ -24,21 +24,25 @@ impl Model for Spare {
     ghost invariant = { λ s. vec_len s.room ≡ 0 };
 }
 
-/// How many rows the reply to a step has at most.
-fn most_rows(step: &Step) -> usize
-    ensures { HasRoomFor step.now result }
+/// How many rows the engine's reply to a step has at most: no more than were asked for, nor than an index has entries or a page slots.
+fn most_rows(engine: &Engine, step: &Step) -> usize
+    ensures { HasRoomFor engine.now step.now result }
 {
     match step {
-        Step::Next(_, count) => usize::from(*count).max(usize::from(MOST_SLOTS)),
+        Step::Next(_, count) => {
+            let asked = u64::from((*count).max(1));
+            let most = asked.min(engine.most_entries()) as usize;
+            most.max(usize::from(MOST_SLOTS))
+        }
         _ => 0,
     }
 }
 
-/// Makes the room that a copy of the reply to this step needs.
-pub fn spare_for(alloc: Global, step: &Step) -> Result<Spare, AllocError>
-    ensures { IfOk result (λ spare. HasRoomFor step.now spare) }
+/// Makes the room that a copy of the engine's reply to this step needs.
+pub fn spare_for(alloc: Global, engine: &Engine, step: &Step) -> Result<Spare, AllocError>
+    ensures { IfOk result (λ spare. HasRoomFor engine.now step.now spare) }
 {
-    let room = Vec::with_capacity(alloc, most_rows(step))?;
+    let room = Vec::with_capacity(alloc, most_rows(engine, step))?;
     Ok(Spare { room })
 }
 

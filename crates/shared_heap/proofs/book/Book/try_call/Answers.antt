@@ -9,7 +9,7 @@ use Rattle.shared_heap.proofs.book.Book.try_call.Goals as goal
 pub copy_reply-answer-requires : goal.copy_reply-answer-requires
 copy_reply-answer-requires c =
     let old : BookView = record { engine = c.self.inside.engine; journal = c.self.inside.journal.items } in
-    c.in_ok-spare.ensures (world_of old c.self.invariant) old.engine c.step-reply.new.self c.step-reply.result (IsBook-agrees old c.self.invariant) c.step-reply.ensures.follows c.step-reply.ensures.exact
+    c.in_ok-spare.ensures (world_of old c.self.invariant) c.step-reply.new.self c.step-reply.result (IsBook-agrees old c.self.invariant) c.step-reply.ensures.follows c.step-reply.ensures.exact
 
 pub invariant_of-self-2 : goal.invariant_of-self-2
 invariant_of-self-2 c =
