@@ -6,6 +6,8 @@
 #[cfg(test)]
 mod lists;
 #[cfg(test)]
+mod plans;
+#[cfg(test)]
 mod replay;
 #[cfg(test)]
 mod rings;

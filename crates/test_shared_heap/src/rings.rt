@@ -46,7 +46,8 @@ impl Gate for SecondEntry {
 
 /// A session inserts the key of its number, and then the next session's, waiting; and aborts.
 fn list_of(alloc: Global, s: u8, sessions: u8) -> Result<Vec<Line>, AllocError> {
-    let next = if s + 1 < sessions { s + 1 } else { 0 };
+    let after = s.saturating_add(1);
+    let next = if after < sessions { after } else { 0 };
     let own = row(alloc, u64::from(s), 1);
     let other = row(alloc, u64::from(next), 1);
     let mut lines = Vec::new(alloc);
@@ -71,7 +72,7 @@ fn one_worker_closes_the_ring(rt: HostRuntime) -> Result<(), Fail> {
         match replay(alloc, &book)? {
             Some(entries) => {
                 assert_eq!(rt; entries.deadlocks, 1);
-                assert_eq!(rt; entries.others, usize::from(workers) * 4 - 1);
+                assert_eq!(rt; entries.others.saturating_add(1), usize::from(workers) * 4);
             }
             None => assert!(rt; false),
         }
