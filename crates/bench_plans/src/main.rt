@@ -60,7 +60,7 @@ fn full_pages(alloc: Global, pages: u32) -> Option<PageViews> {
 }
 
 /// How many slots the plans of the pages name.
-fn planned(
+fn slots_to_prune(
     rt: &(impl Threads + Sync),
     alloc: Global,
     views: &PageViews,
@@ -84,7 +84,7 @@ fn plan_rounds(
     };
     let mut slots = 0usize;
     for _ in 0..rounds {
-        slots = slots.saturating_add(planned(rt, alloc, &views)?);
+        slots = slots.saturating_add(slots_to_prune(rt, alloc, &views)?);
     }
     println!(rt; "{pages} pages, {slots} slots named in {rounds} rounds")?;
     Ok(true)
