@@ -101,6 +101,7 @@ enum sandpiper_status {
     SANDPIPER_INDEX_TOO_NEW = 36,     /* the index was made while the session was open by snapshot */
     SANDPIPER_INDEX_BUSY = 37,        /* an index can't be made while an open session has written */
     SANDPIPER_DEADLOCK = 38,          /* a wait for the session that has written the key would close a ring */
+    SANDPIPER_STALE = 39,             /* the plan does not check: the page was changed since, or somebody may see what would go */
     SANDPIPER_NO_ENGINE = 48,         /* the handle has no table */
     SANDPIPER_HAS_ENGINE = 49,        /* sandpiper_open: the handle has a table already */
     SANDPIPER_NO_PLACE = 50,          /* sandpiper_next, _page_bytes: there is no place for a row, or for a page */
@@ -170,6 +171,26 @@ uint32_t sandpiper_create_index(struct sandpiper *table, uint8_t column);
 
 /* Takes from a page, counted from 0, the versions that no session can see any more. */
 uint32_t sandpiper_prune(struct sandpiper *table, uint32_t page);
+
+/* What a plan does to a slot. */
+enum sandpiper_action_kind {
+    SANDPIPER_UNUSE = 0,   /* it becomes unused */
+    SANDPIPER_KILL = 1,    /* it becomes dead: it holds nothing, and keeps its number while index entries lead to it */
+    SANDPIPER_LEAD = 2     /* it leads to the slot `target` */
+};
+
+struct sandpiper_action {
+    uint16_t slot;   /* counted from 1 */
+    uint16_t kind;   /* no plan with a kind that is none of these checks */
+    uint16_t target; /* of SANDPIPER_LEAD; else it is not looked at */
+};
+
+/* Does to the slots of a page what a plan names, in ascending order of slots, where the plan checks; else STALE, and nothing is done.
+ * `change` is the page's change number, as sandpiper_page_at tells it, when the plan was made. It checks where the number is still the
+ * page's, and what it takes is the front of chains, each version of which pruning would take now, or versions of transactions that were
+ * aborted and to which nothing leads. A front's root leads to the first version that is left, or is dead where none is; all others become
+ * unused. A plan may take less than sandpiper_prune does, or nothing. */
+uint32_t sandpiper_apply_plan(struct sandpiper *table, uint32_t page, uint64_t change, const struct sandpiper_action *actions, size_t count);
 
 /* A part of a vacuum's work. */
 enum sandpiper_piece_kind {
@@ -297,6 +318,7 @@ static inline const char *sandpiper_words(uint32_t status) {
     case SANDPIPER_INDEX_TOO_NEW: return "the index was made while the session was open by snapshot";
     case SANDPIPER_INDEX_BUSY: return "an index can't be made while an open session has written";
     case SANDPIPER_DEADLOCK: return "a wait for the session that has written the key would close a ring";
+    case SANDPIPER_STALE: return "the plan does not check";
     case SANDPIPER_NO_ENGINE: return "the handle has no table";
     case SANDPIPER_HAS_ENGINE: return "the handle has a table already";
     case SANDPIPER_NO_PLACE: return "there is no place for a row, or for a page";

@@ -99,6 +99,7 @@ CC=$compiler python3 "$tests/test_constants.py" "$prefix/include" "$work/statuse
 python3 "$tests/test_table.py"
 python3 "$root/tests/pages/test_pages.py"
 python3 "$tests/test_random.py"
+python3 "$tests/test_plans.py"
 example "the example in Python" python3 "$root/examples/python/first_committer_wins.py"
 python3 "$tests/test_documents.py" "$prefix"
 

@@ -49,12 +49,13 @@ from .statuses import (
     NoVacuum,
     Refused,
     RolledBack,
+    Stale,
     Status,
     TooDeep,
     TooLarge,
     VacuumRunning,
 )
-from .table import Kind, Page, Piece, PieceKind, Slot, State, Table, Vacuum
+from .table import Action, ActionKind, Kind, Page, Piece, PieceKind, Slot, State, Table, Vacuum
 
 __version__ = ".".join(map(str, VERSION))
 
@@ -64,6 +65,8 @@ __all__ = [
     "SAVEPOINTS",
     "SESSIONS",
     "VERSION",
+    "Action",
+    "ActionKind",
     "AlreadyOpen",
     "AlreadyThere",
     "BadBounds",
@@ -105,6 +108,7 @@ __all__ = [
     "Row",
     "Session",
     "Slot",
+    "Stale",
     "State",
     "Status",
     "Table",

@@ -55,6 +55,10 @@ class State(Structure):
     ]
 
 
+class Action(Structure):
+    _fields_ = [("slot", c_uint16), ("kind", c_uint16), ("target", c_uint16)]
+
+
 class Page(Structure):
     _fields_ = [("change", c_uint64), ("bits", c_uint32), ("slots", c_uint32)]
 
@@ -84,6 +88,7 @@ ARGUMENTS: Dict[str, List[Any]] = {
     "close_cursor": [POINTER, SESSION],
     "create_index": [POINTER, c_uint8],
     "prune": [POINTER, c_uint32],
+    "apply_plan": [POINTER, c_uint32, c_uint64, POINTER, c_size_t],
     "vacuum_begin": [POINTER, c_bool],
     "vacuum_step": [POINTER, POINTER],
     "vacuum_cancel": [POINTER],

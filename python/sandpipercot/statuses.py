@@ -40,6 +40,7 @@ class Status(enum.IntEnum):
     INDEX_TOO_NEW = 36
     INDEX_BUSY = 37
     DEADLOCK = 38
+    STALE = 39
     NO_ENGINE = 48
     HAS_ENGINE = 49
     NO_PLACE = 50
@@ -203,6 +204,12 @@ class Deadlock(Refused):
     """a wait for the session that has written the key would close a ring"""
 
     status = Status.DEADLOCK
+
+
+class Stale(Refused):
+    """the plan does not check"""
+
+    status = Status.STALE
 
 
 class NoEngine(Refused):

@@ -4,7 +4,7 @@ from __future__ import annotations
 import ctypes
 import enum
 import threading
-from typing import Any, Iterator, List, NamedTuple, Optional, Sequence, Set, Tuple
+from typing import Any, Iterable, Iterator, List, NamedTuple, Optional, Sequence, Set, Tuple
 
 from . import _c
 from .rows import Places, fits
@@ -19,6 +19,14 @@ class Kind(enum.IntEnum):
     NORMAL = 1
     REDIRECT = 2
     DEAD = 3
+
+
+class ActionKind(enum.IntEnum):
+    """What a plan does to a slot: it becomes unused or dead, or leads to another."""
+
+    UNUSE = 0
+    KILL = 1
+    LEAD = 2
 
 
 class PieceKind(enum.IntEnum):
@@ -36,6 +44,14 @@ class Vacuum(enum.IntEnum):
     NONE = 0
     NORMAL = 1
     AGGRESSIVE = 2
+
+
+class Action(NamedTuple):
+    """What a plan does to a slot, counted from 1, and to which slot that is to lead, of kind LEAD."""
+
+    slot: int
+    kind: ActionKind
+    target: int = 0
 
 
 class Slot(NamedTuple):
@@ -160,6 +176,13 @@ class Table:
     def prune(self, page: int) -> None:
         """Takes from a page, counted from 0, the versions that no session can see any more. Refusal: NoSuchPage."""
         self._call("prune", fits(page, 32))
+
+    def apply_plan(self, page: int, change: int, actions: Iterable[Action] = ()) -> None:
+        """Does to the slots of a page what a plan names, in ascending order of slots. It was made when the page's change number was
+        `change` (`page` tells it), and may take less than `prune` does. Refusals: NoMemory, NoSuchPage, Stale."""
+        named = [_c.Action(*(fits(it, 16) for it in action)) for action in actions]
+        places = (_c.Action * max(1, len(named)))(*named)
+        self._call("apply_plan", fits(page, 32), fits(change, 64), ctypes.addressof(places), len(named))
 
     def vacuum_begin(self, aggressive: bool = False) -> None:
         """Begins a vacuum, which runs beside the sessions; at the end of an aggressive one old ids are forgotten. Refusal:

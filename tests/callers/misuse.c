@@ -63,6 +63,9 @@ static void check_numbers(void) {
     struct sandpiper_slot slot;
     CHECK(sandpiper_begin(&t, 0) == SANDPIPER_DONE);
     CHECK(sandpiper_prune(&t, UINT32_MAX) == SANDPIPER_NO_SUCH_PAGE && sandpiper_slot_at(&t, UINT32_MAX, 1, &slot) == SANDPIPER_NO_ROW);
+    struct sandpiper_action none = {1, 3, 1};
+    CHECK(sandpiper_apply_plan(&t, UINT32_MAX, UINT64_MAX, &none, 1) == SANDPIPER_NO_SUCH_PAGE);
+    CHECK(sandpiper_apply_plan(&t, 0, UINT64_MAX, &none, 1) == SANDPIPER_STALE);
     CHECK(sandpiper_slot_at(&t, 0, 0, &slot) == SANDPIPER_NO_ROW && sandpiper_slot_at(&t, 0, UINT16_MAX, &slot) == SANDPIPER_NO_ROW);
     CHECK(sandpiper_page_bytes(&t, UINT32_MAX, few, sizeof few) == SANDPIPER_NO_ROW && few[0] == 77);
     CHECK(sandpiper_open_index(&t, 0, UINT8_MAX, 0, 1) == SANDPIPER_NO_SUCH_INDEX);
@@ -78,6 +81,18 @@ static uint64_t seed = 88172645463325252u;
 static uint32_t below(uint32_t limit) {
     seed ^= seed >> 12, seed ^= seed << 25, seed ^= seed >> 27;
     return (uint32_t)((seed * 2685821657736338717u) >> 32) % limit;
+}
+
+/* A plan of up to three actions, most of which do not check, and then a pruning. */
+static void apply_at_random(uint32_t page) {
+    struct sandpiper_page head = {0};
+    struct sandpiper_action actions[3];
+    size_t count = below(4);
+    for (size_t i = 0; i < count; i++)
+        actions[i] = (struct sandpiper_action){(uint16_t)below(300), (uint16_t)below(4), (uint16_t)below(300)};
+    sandpiper_page_at(&t, page, &head);
+    sandpiper_apply_plan(&t, page, head.change, actions, count);
+    sandpiper_prune(&t, page);
 }
 
 /* Calls in no order, on keys below 1000, of which nobody reads what they answer. */
@@ -105,7 +120,7 @@ static void call_at_random(int calls) {
         case 10: sandpiper_open_index(&t, session, (uint8_t)below(256), below(9), below(9)); break;
         case 11: sandpiper_next(&t, session, rows, below(PLACES + 1), &count); break;
         case 12: sandpiper_close_cursor(&t, session); break;
-        case 13: sandpiper_prune(&t, below(64)); break;
+        case 13: apply_at_random(below(64)); break;
         case 14: sandpiper_slot_at(&t, below(64), (uint16_t)below(400), &slot); break;
         case 15: sandpiper_vacuum_begin(&t, below(2)); break;
         case 16:

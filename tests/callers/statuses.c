@@ -45,6 +45,10 @@ static uint32_t index_too_new(void) {
     return sandpiper_open_index(&t, 0, 1, 0, 0);
 }
 static uint32_t index_busy(void) { return sandpiper_delete(&t, 0, 1), sandpiper_create_index(&t, 0); }
+static uint32_t stale(void) {
+    struct sandpiper_action kill = {1, SANDPIPER_KILL, 0};
+    return sandpiper_apply_plan(&t, 0, 1, &kill, 1);
+}
 static uint32_t no_vacuum(void) { return sandpiper_vacuum_cancel(&t); }
 static uint32_t vacuum_running(void) { return sandpiper_vacuum_begin(&t, false), sandpiper_vacuum_begin(&t, true); }
 static uint32_t worked(void) { return sandpiper_vacuum_begin(&t, false), sandpiper_vacuum_step(&t, &piece); }
@@ -128,7 +132,7 @@ static const struct {
     CASE(VACUUM_RUNNING, vacuum_running), CASE(NO_VACUUM, no_vacuum), CASE(INDEX_TOO_NEW, index_too_new), CASE(INDEX_BUSY, index_busy),
     CASE(NO_ENGINE, no_engine), CASE(HAS_ENGINE, has_engine), CASE(NO_PLACE, no_place), CASE(BAD_MAX_PAGES, bad_max_pages),
     CASE(BAD_STOP_AGE, bad_stop_age), CASE(BAD_FREEZE_MIN_AGE, bad_freeze_min_age), CASE(BAD_FIRST_XID, bad_first_xid), CASE(BAD_DEAD_LIMIT, bad_dead_limit),
-    CASE(DEADLOCK, deadlock), CASE(BUSY, busy),
+    CASE(DEADLOCK, deadlock), CASE(STALE, stale), CASE(BUSY, busy),
 };
 
 /* Each status has words of its own, and no other number has any. */

@@ -34,6 +34,7 @@ def check_layouts(folder: pathlib.Path) -> None:
         "sandpiper_piece": _c.Piece,
         "sandpiper_state": _c.State,
         "sandpiper_page": _c.Page,
+        "sandpiper_action": _c.Action,
     }
     lines, ours = ["#include <sandpipercot.h>", "#include <stddef.h>", "#include <stdio.h>", "int main(void) {"], []
     for name, struct in structs.items():
@@ -57,6 +58,7 @@ def main() -> None:
     assert {it.name: it.value for it in sp.Status} == statuses, statuses
     assert {it.name: it.value for it in sp.Kind} == enumeration(header, "sandpiper_kind")
     assert {it.name: it.value for it in sp.PieceKind} == enumeration(header, "sandpiper_piece_kind")
+    assert {it.name: it.value for it in sp.ActionKind} == enumeration(header, "sandpiper_action_kind")
     faults = {"PAGE_SOUND": 0, **{"PAGE_" + it.name: it.value for it in sp.FaultKind}}
     assert faults == enumeration(header, "sandpiper_page_fault"), faults
     answered: Set[str] = set(pathlib.Path(sys.argv[2]).read_text().split())

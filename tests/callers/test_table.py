@@ -308,6 +308,20 @@ class TableTest(unittest.TestCase):
         self.assertEqual(list(self.table.slots(1)), [])
         self.assertRaises(sp.NoSuchPage, self.table.prune, 1)
 
+    def test_a_plan_is_applied_while_it_checks(self) -> None:
+        with self.table.begin() as session:
+            session.update(row(3, 30, b"second"))
+            session.delete(4)
+        change = self.table.page(0).change
+        plan = [sp.Action(3, sp.ActionKind.LEAD, 11), sp.Action(4, sp.ActionKind.KILL)]
+        self.assertRaises(sp.NoSuchPage, self.table.apply_plan, 1, change, plan)
+        self.assertRaises(sp.Stale, self.table.apply_plan, 0, change - 1, plan)
+        self.assertRaises(sp.Stale, self.table.apply_plan, 0, change, plan[::-1])
+        self.table.apply_plan(0, change, plan)
+        slots = list(self.table.slots(0))
+        self.assertEqual(slots[2], sp.Slot(sp.Kind.REDIRECT, 11, 0, 0, 0))
+        self.assertEqual(slots[3], sp.Slot(sp.Kind.DEAD, 0, 0, 0, 0))
+
     def test_an_index_is_made_in_use(self) -> None:
         before, by_statement = self.table.begin(), self.table.begin(read_committed=True)
         with self.table.begin() as session:

@@ -1,6 +1,7 @@
 -- What the words of a step mean.
 use Rattle.std.specs.Prelude.{ℕ, ℤ, ◌<◌, ◌≤◌, ◌⊎◌, List, length}
 use Rattle.tuple_header.specs.declared.version.Row.{Row}
+use Rattle.prune_actions.specs.declared.Action.{Action}
 use Rattle.calls.specs.declared.settings.Settings.{Settings}
 use Rattle.calls.specs.declared.settings.SettingsFault.{SettingsFault}
 use Rattle.calls.specs.declared.settings.SettingsFault.TheVariants.{MaxPages, StopAge, FreezeMinAge, FirstXid, DeadLimit, NoMemory}
@@ -11,6 +12,11 @@ pub record RowToWrite : Type 0 where
   pub key : ℕ
   pub cols : List ℤ
   pub body : List ℕ
+
+-- a plan to be applied
+pub record PlanToApply : Type 0 where
+  pub change : ℕ
+  pub actions : List (ℕ × Action)
 
 -- a body has at most 1024 bytes
 abbrev pub FitsRow : RowToWrite → Type 0

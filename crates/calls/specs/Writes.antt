@@ -21,10 +21,11 @@ key_of (inserts row) = row.key
 key_of (updates row) = row.key
 key_of (deletes k) = k
 
--- the step has a row whose body is not empty: a copy of no other takes memory
+-- the step has a row whose body is not empty, or a plan that names a slot: a copy of no other takes memory
 abbrev pub HasBody : Step → Type 0
 HasBody (step.Insert s row) = 0 < length row.body
 HasBody (step.Update s row) = 0 < length row.body
+HasBody (step.ApplyPlan p plan) = 0 < length plan.actions
 HasBody step = ⊥
 
 -- it puts a row into the table

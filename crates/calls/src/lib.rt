@@ -10,8 +10,9 @@ mod settings;
 mod step;
 mod vacuum;
 
+pub use prune_actions::Action;
 pub use reply::{Refusal, Reply};
 pub use settings::{Settings, SettingsFault};
-pub use step::{MOST_SESSIONS, RowIn, Step};
+pub use step::{MOST_SESSIONS, PlanIn, RowIn, Step};
 pub use tuple_header::Row;
 pub use vacuum::{Mode, Piece};

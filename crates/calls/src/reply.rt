@@ -48,6 +48,8 @@ pub enum Refusal {
     NoSuchPage,
     /// There is no index of that number.
     NoSuchIndex,
+    /// The plan does not check: the page was changed since, or somebody may see what would go.
+    Stale,
     /// The session's number is over 63.
     NoSuchSession,
     /// The lower bound is over the upper.

@@ -5,6 +5,7 @@ ghost use Rattle.calls.specs.Bounds.{HasBounds};
 ghost use Rattle.calls.specs.Writes.{HasBody};
 
 use crate::vacuum::Mode;
+use prune_actions::Action;
 use std::alloc::{AllocError, Global};
 use std::marker::Model;
 
@@ -25,6 +26,23 @@ impl Model for RowIn {
     ghost Value = { RowToWrite };
 
     ghost view = { λ r. record { key = r.key; cols = r.cols; body = r.body.items } };
+}
+
+/// A plan of what is done to the slots of a page, of any length, and made by whomever.
+#[derive(Debug, Drop)]
+pub struct PlanIn {
+    /// The change number of the page that it was made for.
+    pub change: u64,
+    /// What is done to which slot, in order of slots, else the step is refused as Stale.
+    pub actions: Vec<(u16, Action)>,
+}
+
+impl Model for PlanIn {
+    ghost use Rattle.calls.specs.Words.{PlanToApply};
+
+    ghost Value = { PlanToApply };
+
+    ghost view = { λ p. record { change = p.change; actions = p.actions.items } };
 }
 
 /// How many sessions there are: their numbers begin with 0.
@@ -67,6 +85,8 @@ pub enum Step {
     Close(u8),
     /// Takes from a page, counted from 0, what nobody can see any more.
     Prune(u32),
+    /// Does on a page, counted from 0, what a plan names, where the plan still checks.
+    ApplyPlan(u32, PlanIn),
     /// Begins a vacuum, of which one runs at a time.
     VacuumBegin(Mode),
     /// Does the next step of the vacuum: it visits one page, goes through one piece of an index, or frees the collected slots of
@@ -87,6 +107,31 @@ fn copy_of(alloc: Global, body: &[u8]) -> Result<Vec<u8>, AllocError>
     match copy.extend_from_slice(body) {
         Ok(()) => Ok(copy),
         Err(fault) => Err(fault),
+    }
+}
+
+/// Equal actions. None take no memory.
+fn actions_of(alloc: Global, actions: &[(u16, Action)]) -> Result<Vec<(u16, Action)>, AllocError>
+    ensures copy { IfOk result (λ copy. copy.items ≡ actions.now) }
+    ensures refused { OnErr result (0 < length actions.now) }
+{
+    let mut copy = Vec::new(alloc);
+    match copy.extend_from_slice(actions) {
+        Ok(()) => Ok(copy),
+        Err(fault) => Err(fault),
+    }
+}
+
+impl PlanIn {
+    /// An equal plan. It takes no memory where no slot is named.
+    pub fn copy(&self, alloc: Global) -> Result<PlanIn, AllocError>
+        ensures copy { IfOk result (λ plan. plan ≡ self.now) }
+        ensures refused { OnErr result (0 < length self.now.actions) }
+    {
+        Ok(PlanIn {
+            change: self.change,
+            actions: actions_of(alloc, self.actions.as_slice())?,
+        })
     }
 }
 
@@ -115,7 +160,7 @@ impl Step {
         }
     }
 
-    /// An equal step. It takes no memory but for a body that is not empty.
+    /// An equal step. It takes no memory but for a body or a plan that is not empty.
     pub fn copy(&self, alloc: Global) -> Result<Step, AllocError>
         ensures copy { IfOk result (λ step. step ≡ self.now) }
         ensures refused { OnErr result (HasBody self.now) }
@@ -137,6 +182,7 @@ impl Step {
             Step::Next(s, count) => Ok(Step::Next(*s, *count)),
             Step::Close(s) => Ok(Step::Close(*s)),
             Step::Prune(page) => Ok(Step::Prune(*page)),
+            Step::ApplyPlan(page, plan) => Ok(Step::ApplyPlan(*page, plan.copy(alloc)?)),
             Step::VacuumBegin(mode) => Ok(Step::VacuumBegin(*mode)),
             Step::VacuumStep => Ok(Step::VacuumStep),
             Step::VacuumCancel => Ok(Step::VacuumCancel),

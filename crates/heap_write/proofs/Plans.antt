@@ -17,8 +17,8 @@ use Rattle.commit_status.specs.Window.{Window}
 use Rattle.heap_pages.specs.View.{PagesView}
 use Rattle.hot_chain.specs.Chain.{has_aborted}
 use Rattle.sound_page.specs.Dead.{IsDeadAt}
-use Rattle.prune.specs.declared.action.Action.{Action}
-use Rattle.prune.specs.declared.action.Action.TheVariants as action
+use Rattle.prune_actions.specs.declared.Action.{Action}
+use Rattle.prune_actions.specs.declared.Action.TheVariants as action
 use Rattle.prune.specs.Actions.{CanApply, made_by, acted, action_of, after_action, applied}
 use Rattle.prune.specs.Cutting.{IsCutCount, RemovesVersions}
 use Rattle.prune.specs.Pruning.{loose_in, IsInChainOf, IsLoose, PrunesSlot, by_root, by_none, IsPlan, IsPruned}

@@ -5,7 +5,7 @@ use Rattle.std.proofs.lemmas.Bool.{iff_false}
 use Rattle.xid_circle.specs.declared.Tid.{Tid}
 use Rattle.page_slots.specs.Slots.{room_of}
 use Rattle.snapshot.specs.Own.{Own}
-use Rattle.prune.specs.declared.action.Action.{Action}
+use Rattle.prune_actions.specs.declared.Action.{Action}
 use Rattle.prune.specs.Actions.{applied}
 use Rattle.heap_write.specs.Heap.{HeapView, page_on, Keeps}
 use Rattle.heap_write.specs.Writes.{NeedsFreeze, NewestIsGiven, SameOwn, PrunesIfFull}

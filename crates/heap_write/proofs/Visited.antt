@@ -7,7 +7,7 @@ use Rattle.page_slots.specs.declared.slot.Slot.{Slot}
 use Rattle.commit_status.specs.declared.status.Status.TheVariants.{Committed, Aborted}
 use Rattle.commit_status.specs.Window.{Window, IsGiven}
 use Rattle.heap_pages.specs.View.{PagesView, with_page}
-use Rattle.prune.specs.declared.action.Action.{Action}
+use Rattle.prune_actions.specs.declared.Action.{Action}
 use Rattle.prune.specs.Actions.{applied}
 use Rattle.prune.specs.Deaths.{NothingDiesBefore}
 use Rattle.freeze.specs.Freezing.{FreezesPage}

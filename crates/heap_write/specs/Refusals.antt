@@ -1,6 +1,6 @@
 -- Why a write is not done, of the first reason in the order of its tests, and what it leaves: all as it was, though there may
 -- be more memory; only an update that ends in NoRoom may leave the page of the old version pruned.
-use Rattle.std.specs.Prelude.{◌⊎◌, ℕ, ◌<◌, ◌≤◌, length, Result, IfOk, IfErr, OnErr}
+use Rattle.std.specs.Prelude.{◌⊎◌, ℕ, ◌<◌, ◌≤◌, List, length, Result, IfOk, IfErr, OnErr}
 use Rattle.xid_circle.specs.declared.Tid.{Tid}
 use Rattle.xid_circle.specs.declared.Xid.{Xid}
 use Rattle.xid_circle.specs.Circle.{IsNormal}
@@ -12,6 +12,10 @@ use Rattle.page_slots.specs.Slots.{room_of, IsNormalAt}
 use Rattle.heap_pages.specs.Choice.{IsPlaceFor}
 use Rattle.heap_pages.specs.declared.pages.Placement.TheVariants.{NewPage}
 use Rattle.table_indexes.specs.Indexes.{NeedsEntry}
+use Rattle.prune.specs.Checks.{Checks}
+use Rattle.prune_actions.specs.declared.Action.{Action}
+use Rattle.heap_write.specs.declared.applying.ApplyFault.{ApplyFault}
+use Rattle.heap_write.specs.declared.applying.ApplyFault.TheVariants as apply_fault
 use Rattle.heap_write.specs.declared.pruning.PruneFault.{PruneFault}
 use Rattle.heap_write.specs.declared.pruning.PruneFault.TheVariants as prune_fault
 use Rattle.heap_write.specs.declared.heap.WriteFault.{WriteFault}
@@ -78,3 +82,8 @@ FailsDelete h h' own fault.NoMemory = (¬ NeedsFreeze h.statuses own) × NeedsId
 -- why a page is not pruned: it is not in use
 abbrev pub Unpruned : HeapView → ℕ → PruneFault → Type 0
 Unpruned h number prune_fault.NoSuchPage = length h.pages.pages ≤ number
+
+-- why a plan is not applied to a page: it is not in use, or else the plan does not check at the horizon
+abbrev pub Unapplied : HeapView → (number horizon change : ℕ) → List (ℕ × Action) → ApplyFault → Type 0
+Unapplied h number horizon change actions apply_fault.NoSuchPage = length h.pages.pages ≤ number
+Unapplied h number horizon change actions apply_fault.Stale = (number < length h.pages.pages) × ¬ Checks h.statuses horizon (page_on h number) change actions

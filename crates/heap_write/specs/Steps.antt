@@ -5,7 +5,7 @@ use Rattle.xid_circle.specs.declared.Tid.{Tid}
 use Rattle.heap_pages.specs.Choice.{IsPlaceFor}
 use Rattle.heap_write.specs.declared.target.Target.{Target}
 use Rattle.sound_page.specs.Dead.{HasDead}
-use Rattle.prune.specs.declared.action.Action.{Action}
+use Rattle.prune_actions.specs.declared.Action.{Action}
 use Rattle.prune.specs.Actions.{CanApply, applied}
 use Rattle.prune.specs.Pruning.{IsPlan}
 use Rattle.prune.specs.Room.{IsPlanOf}

@@ -11,8 +11,9 @@ use Rattle.page_slots.specs.Slots.{room_of, free_number, next_change, row_at, Is
 use Rattle.commit_status.specs.Window.{Window, IsGiven, next_id}
 use Rattle.commit_status.specs.Changes.{Gives, CanGive}
 use Rattle.snapshot.specs.Own.{Own, unassigned_levels, current_xid, saved_with_each}
-use Rattle.prune.specs.declared.action.Action.{Action}
+use Rattle.prune_actions.specs.declared.Action.{Action}
 use Rattle.prune.specs.Actions.{applied}
+use Rattle.prune.specs.Checks.{Checks}
 use Rattle.prune.specs.Cutting.{RemovesVersions}
 use Rattle.prune.specs.Pruning.{PrunesSlot, IsPruned, IsPlan}
 use Rattle.tuple_writes.specs.Writes.{with_root, with_replaced, with_updated, replaced_change}
@@ -121,6 +122,14 @@ pub record Prunes (h h' : HeapView) (number horizon : ℕ) : Type 0 where
   pub change : (actions : _) × IsPlan h.statuses horizon before.slots actions × (after.change ≡ (applied actions before).change)
   pub pruned : IsPruned h.statuses horizon before.slots after.slots
   pub removes : RemovesVersions h.statuses horizon before.slots after.slots
+
+-- What a plan names is done to one page, where it checks at the horizon, and nothing else changes: nothing is noted anew, and no entry
+-- goes or comes.
+pub record Applies (h h' : HeapView) (number horizon change : ℕ) (actions : List (ℕ × Action)) : Type 0 where
+  pub before : PageView
+  pub at : slice_get h.pages.pages number ≡ Some before
+  pub checks : Checks h.statuses horizon before change actions
+  pub is : h' ≡ record h { pages = record h.pages { pages = slice_set h.pages.pages number (applied actions before) } }
 
 -- Writes.
 

@@ -17,6 +17,7 @@
 //! the next id on.
 #![tactic(auto)]
 
+mod applying;
 mod cleaning;
 mod delete;
 mod filling;
@@ -32,6 +33,7 @@ mod target;
 mod update;
 mod visiting;
 
+pub use applying::ApplyFault;
 pub use heap::{Answer, HeapState, WriteFault};
 pub use index_lookup::{IndexPosition, IndexRange};
 pub use pruning::PruneFault;

@@ -8,7 +8,7 @@ ghost use Rattle.prune.specs.Actions.{CanApply};
 ghost use Rattle.heap_write.specs.Steps.{HasNoneDead, with_applied};
 
 use crate::heap::HeapState;
-use prune::{PrunePlan, apply, first_death, plan};
+use prune::{Action, PrunePlan, apply_actions, first_death, plan};
 use thiserror::Error;
 use xid_circle::Xid;
 
@@ -93,7 +93,16 @@ impl HeapState {
             plan.now.actions.items }
         ensures { self.new ≡ with_applied self.old number plan.now.actions.items }
     {
-        self.pages.edit(number, |page| apply(page, plan));
+        self.do_actions(number, plan.actions.as_slice());
+    }
+
+    /// Does these actions on the page of this number, which is in use.
+    pub(crate) fn do_actions(&mut self, number: u32, actions: &[(u16, Action)])
+        requires within { number < length self.old.pages.pages }
+        requires can_apply { CanApply (length (page_on self.old number).slots) actions.now }
+        ensures { self.new ≡ with_applied self.old number actions.now }
+    {
+        self.pages.edit(number, |page| apply_actions(page, actions));
         self.hints.end(number);
     }
 }

@@ -8,7 +8,7 @@ use Rattle.commit_status.specs.Window.{Window}
 use Rattle.visibility.specs.Visible.{IsDead}
 use Rattle.hot_chain.specs.Chain.{has_aborted, is_root, LeadsTo}
 use Rattle.hot_chain.proofs.Chains.{leads-by, root-there}
-use Rattle.prune.specs.declared.action.Action.TheVariants as action
+use Rattle.prune_actions.specs.declared.Action.TheVariants as action
 use Rattle.sound_page.specs.Dead.{IsDeadAt, HasDead}
 use Rattle.sound_page.proofs.ChainPlaces.{place-of, root-plain}
 use Rattle.prune.specs.Marks.{NoneDead, IsSpared}

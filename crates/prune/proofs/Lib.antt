@@ -14,6 +14,10 @@ pub mod CheckLemmas
 pub mod PlanChecks
 pub mod Raising
 pub mod Spared
+pub mod ThinnedLemmas
+pub mod Thinned
+pub mod Thins
+pub mod IdlePlans
 pub mod SoundAfter
 pub mod Idle
 pub mod Single

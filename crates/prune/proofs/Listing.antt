@@ -4,7 +4,7 @@ use Rattle.std.proofs.lemmas.Bool.{cases_lt, cases_Bool, eqb-true, eq-eqb, ne_eq
 use Rattle.page_slots.specs.View.{PageView}
 use Rattle.page_slots.specs.Slots.{slot_at}
 use Rattle.page_slots.proofs.SlotLemmas.{length-with_slot, slot_at-with_slot, slot_at-with_slot_other}
-use Rattle.prune.specs.declared.action.Action.{Action}
+use Rattle.prune_actions.specs.declared.Action.{Action}
 use Rattle.prune.specs.Actions.{made_by, acted, after_action, applied, HasTarget, CanDo, CanApply, AreInOrder, action_of}
 
 abbrev pub AreBelow : ℕ → List (ℕ × Action) → Type 0

@@ -3,10 +3,10 @@ use Rattle.std.proofs.Common.{◌≡◌, ◌≢◌, ℕ, zero, suc, ◌<◌, Boo
 use Rattle.std.specs.List.{list_any}
 use Rattle.std.proofs.lemmas.Bool.{cases_Bool, eqb-true, eqb-false}
 use Rattle.std.proofs.lemmas.List.{get_or-set_same}
-use Rattle.prune.specs.declared.action.Action.{Action}
+use Rattle.prune_actions.specs.declared.Action.{Action}
 use Rattle.prune.specs.declared.marks.PruneVerdict.{PruneVerdict}
 use Rattle.prune.specs.declared.marks.PruneVerdict.TheVariants.{Orphan}
-use Rattle.prune.specs.declared.action.Action.TheVariants as action
+use Rattle.prune_actions.specs.declared.Action.TheVariants as action
 use Rattle.prune.specs.Pruning.{root_action}
 use Rattle.prune.specs.Marks.{verdict_of, mark_at, marked}
 

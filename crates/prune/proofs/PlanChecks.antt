@@ -14,8 +14,8 @@ use Rattle.tuple_header.specs.Marks.{is_heap_only}
 use Rattle.commit_status.specs.Window.{Window}
 use Rattle.hot_chain.specs.Chain.{has_aborted, is_root, first_of, start_in, IsChain}
 use Rattle.hot_chain.proofs.Chains.{chain-one, root-there, distinct-places}
-use Rattle.prune.specs.declared.action.Action.{Action}
-use Rattle.prune.specs.declared.action.Action.TheVariants as action
+use Rattle.prune_actions.specs.declared.Action.{Action}
+use Rattle.prune_actions.specs.declared.Action.TheVariants as action
 use Rattle.prune.specs.Cutting.{IsCutCount}
 use Rattle.sound_page.specs.Links.{NoSharedSlots}
 use Rattle.prune.specs.Actions.{action_of}
@@ -62,11 +62,11 @@ chain-some root cut i chain d within h first = ⊎_elim
     ))
     (cases_Bool (get_or chain i 0 == root))
 
-record SomeCount (w : Window) (horizon : ℕ) (slots : List Slot) (chain : List ℕ) : Type 0 where
-  cut : ℕ
-  is : IsCutCount w horizon slots chain cut
+pub record SomeCount (w : Window) (horizon : ℕ) (slots : List Slot) (chain : List ℕ) : Type 0 where
+  pub cut : ℕ
+  pub is : IsCutCount w horizon slots chain cut
 
-root-count : (w : Window) (horizon : ℕ) (slots : List Slot) (root : ℕ) (chain : List ℕ) (o : Option Action) → NoSharedSlots (has_aborted w) slots → IsInChainOf (has_aborted w) slots root chain root
+pub root-count : (w : Window) (horizon : ℕ) (slots : List Slot) (root : ℕ) (chain : List ℕ) (o : Option Action) → NoSharedSlots (has_aborted w) slots → IsInChainOf (has_aborted w) slots root chain root
     → PrunesSlot w horizon slots root o → SomeCount w horizon slots chain
 root-count w horizon slots root chain o unshared i (by_root other others_chain cut j d e) =
     let one : other ≡ root = of-one (has_aborted w) slots other root root others_chain chain unshared j i in
@@ -75,7 +75,7 @@ root-count w horizon slots root chain o unshared i (by_root other others_chain c
 root-count w horizon slots root chain o unshared i (by_none l e) = absurd (of-not_loose (has_aborted w) slots root root chain i l)
 
 -- what pruning does to a root and its chain is a prefix
-plan-prefix : (w : Window) (horizon : ℕ) (slots : List Slot) (named : ℕ → Option Action) (root cut : ℕ) (chain : List ℕ) → is_root slots root ≡ true → IsChain (has_aborted w) slots root chain
+pub plan-prefix : (w : Window) (horizon : ℕ) (slots : List Slot) (named : ℕ → Option Action) (root cut : ℕ) (chain : List ℕ) → is_root slots root ≡ true → IsChain (has_aborted w) slots root chain
     → IsCutCount w horizon slots chain cut → ((n : ℕ) → IsInChainOf (has_aborted w) slots root chain n → SlotIsThere slots n → named n ≡ chain_action root chain cut n)
     → IsPrefix w horizon slots named root chain cut
 plan-prefix w horizon slots named root cut chain starts is count does = record {

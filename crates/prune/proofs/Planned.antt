@@ -8,8 +8,8 @@ use Rattle.page_slots.specs.Slots.{SlotIsThere, slot_at, header_at}
 use Rattle.tuple_header.specs.declared.version.Header.{Header}
 use Rattle.commit_status.specs.Window.{Window}
 use Rattle.hot_chain.specs.Chain.{has_aborted, IsChain}
-use Rattle.prune.specs.declared.action.Action.{Action}
-use Rattle.prune.specs.declared.action.Action.TheVariants as action
+use Rattle.prune_actions.specs.declared.Action.{Action}
+use Rattle.prune_actions.specs.declared.Action.TheVariants as action
 use Rattle.prune.specs.declared.marks.PruneVerdict.{PruneVerdict}
 use Rattle.prune.specs.Actions.{HasTarget, action_of}
 use Rattle.prune.specs.Pruning.{root_action, loose_in, PrunesSlot, by_root, by_none, IsPlan, IsPruned}

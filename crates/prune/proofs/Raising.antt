@@ -9,8 +9,8 @@ use Rattle.page_slots.proofs.SlotLemmas.{slot_at-there, the_slot-from_slot_at, s
 use Rattle.tuple_header.specs.Version.{Version}
 use Rattle.commit_status.specs.Window.{Window}
 use Rattle.hot_chain.specs.Chain.{has_aborted, is_root, is_root_in}
-use Rattle.prune.specs.declared.action.Action.{Action}
-use Rattle.prune.specs.declared.action.Action.TheVariants as action
+use Rattle.prune_actions.specs.declared.Action.{Action}
+use Rattle.prune_actions.specs.declared.Action.TheVariants as action
 use Rattle.prune.specs.Actions.{is_done, made_by, after_action, applied, AreInOrder, action_of, raised}
 use Rattle.prune.specs.Checks.{IsAccounted, Checks}
 use Rattle.sound_page.proofs.Links.{member-version}

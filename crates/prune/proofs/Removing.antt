@@ -12,8 +12,8 @@ use Rattle.commit_status.specs.Window.{Window, IsAborted}
 use Rattle.visibility.specs.Visible.{IsDead, IsFrozen}
 use Rattle.hot_chain.specs.Chain.{has_aborted, first_of}
 use Rattle.hot_chain.proofs.Chains.{root-there}
-use Rattle.prune.specs.declared.action.Action.{Action}
-use Rattle.prune.specs.declared.action.Action.TheVariants as action
+use Rattle.prune_actions.specs.declared.Action.{Action}
+use Rattle.prune_actions.specs.declared.Action.TheVariants as action
 use Rattle.prune.specs.Cutting.{IsCut, RemovesVersions}
 use Rattle.sound_page.specs.Links.{NoSharedSlots}
 use Rattle.prune.specs.Actions.{made_by, acted}

@@ -14,8 +14,8 @@ use Rattle.commit_status.specs.Window.{Window}
 use Rattle.hot_chain.specs.Chain.{has_aborted, is_root, is_root_in}
 use Rattle.sound_page.proofs.Links.{member-version}
 use Rattle.sound_page.proofs.ChainPlaces.{place-of}
-use Rattle.prune.specs.declared.action.Action.{Action}
-use Rattle.prune.specs.declared.action.Action.TheVariants as action
+use Rattle.prune_actions.specs.declared.Action.{Action}
+use Rattle.prune_actions.specs.declared.Action.TheVariants as action
 use Rattle.prune.specs.Actions.{made_by, after_action, applied, CanApply, AreInOrder, action_of}
 use Rattle.prune.specs.Pruning.{PrunesSlot, by_root, by_none, IsPlan}
 use Rattle.prune.proofs.Listing.{named-there}

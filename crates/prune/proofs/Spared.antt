@@ -11,8 +11,8 @@ use Rattle.tuple_header.specs.Marks.{is_frozen, is_heap_only}
 use Rattle.commit_status.specs.Window.{Window, IsAborted}
 use Rattle.visibility.specs.Visible.{IsFrozen}
 use Rattle.hot_chain.specs.Chain.{has_aborted, first_of, IsChain}
-use Rattle.prune.specs.declared.action.Action.{Action}
-use Rattle.prune.specs.declared.action.Action.TheVariants as action
+use Rattle.prune_actions.specs.declared.Action.{Action}
+use Rattle.prune_actions.specs.declared.Action.TheVariants as action
 use Rattle.sound_page.specs.Dead.{IsDeadAt}
 use Rattle.prune.specs.Cutting.{IsCutCount, IsCut}
 use Rattle.prune.specs.Pruning.{root_action, chain_action, loose_in, orphan_action, IsInChainOf, PrunesSlot, by_root, by_none, IsPruned}

@@ -9,7 +9,7 @@ use Rattle.tuple_header.specs.Version.{Version}
 use Rattle.commit_status.specs.Window.{Window}
 use Rattle.hot_chain.specs.Chain.{has_aborted, first_of, next_in_chain, successor, IsChain}
 use Rattle.hot_chain.proofs.Chains.{chain-one}
-use Rattle.prune.specs.declared.action.Action.TheVariants as action
+use Rattle.prune_actions.specs.declared.Action.TheVariants as action
 use Rattle.sound_page.specs.Dead.{IsDeadAt, HasDead}
 use Rattle.sound_page.proofs.Links.{member-version, version-there}
 use Rattle.sound_page.proofs.ChainPlaces.{first-normal, place-in_front}

@@ -49,7 +49,7 @@ gone-along w horizon slots R (suc i) n k sound reader along gone =
     gone-before w horizon slots R n along.0 sound reader along.1 (gone-along w horizon slots R i along.0 k sound reader along.2 gone)
 
 -- what is cut was never made, or the reader sees it deleted
-cut-cases : (w : Window) (horizon : ℕ) (slots : List Slot) (R : ℕ → Type 0) (n : ℕ) → SoundPage w horizon slots → IsPageReader w horizon slots R
+pub cut-cases : (w : Window) (horizon : ℕ) (slots : List Slot) (R : ℕ → Type 0) (n : ℕ) → SoundPage w horizon slots → IsPageReader w horizon slots R
     → IsCut w horizon slots n → IsUndoneAt w slots n ⊎ IsGone w slots R n
 cut-cases w horizon slots R n sound reader cut = by cut.dead.version cut.dead.there cut.dead.dead
   where

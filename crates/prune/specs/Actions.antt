@@ -4,8 +4,8 @@ use Rattle.page_slots.specs.declared.slot.Slot.{Slot}
 use Rattle.page_slots.specs.declared.slot.Slot.TheVariants.{Unused, Redirect, Dead}
 use Rattle.page_slots.specs.Slots.{is_unused, is_dead, redirects_to, the_slot, with_slot, next_change, change_unless}
 use Rattle.page_slots.specs.View.{PageView}
-use Rattle.prune.specs.declared.action.Action.{Action}
-use Rattle.prune.specs.declared.action.Action.TheVariants as action
+use Rattle.prune_actions.specs.declared.Action.{Action}
+use Rattle.prune_actions.specs.declared.Action.TheVariants as action
 
 -- what a slot becomes
 abbrev pub made_by : Action → Slot

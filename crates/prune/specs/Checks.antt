@@ -8,8 +8,8 @@ use Rattle.tuple_header.specs.declared.version.Header.{Header}
 use Rattle.tuple_header.specs.Marks.{is_heap_only}
 use Rattle.commit_status.specs.Window.{Window}
 use Rattle.hot_chain.specs.Chain.{has_aborted, is_root, IsChain}
-use Rattle.prune.specs.declared.action.Action.{Action}
-use Rattle.prune.specs.declared.action.Action.TheVariants as action
+use Rattle.prune_actions.specs.declared.Action.{Action}
+use Rattle.prune_actions.specs.declared.Action.TheVariants as action
 use Rattle.sound_page.specs.Dead.{IsDeadAt}
 use Rattle.prune.specs.Actions.{AreInOrder, action_of}
 use Rattle.prune.specs.Pruning.{root_action, orphan_action, IsInChainOf, IsLoose}

@@ -6,14 +6,15 @@ use Rattle.page_slots.specs.View.{PageView}
 use Rattle.page_slots.specs.declared.slot.Slot.TheVariants.{Redirect}
 use Rattle.commit_status.specs.Window.{Window}
 use Rattle.hot_chain.specs.Chain.{has_aborted}
-use Rattle.prune.specs.declared.action.Action.{Action}
-use Rattle.prune.specs.declared.action.Action.TheVariants as action
+use Rattle.prune_actions.specs.declared.Action.{Action}
+use Rattle.prune_actions.specs.declared.Action.TheVariants as action
 use Rattle.prune.specs.Actions.{applied, action_of, raised}
 use Rattle.sound_page.specs.Dead.{IsDeadAt}
 use Rattle.prune.specs.Cutting.{RemovesVersions}
 use Rattle.sound_page.specs.Links.{NoSharedSlots}
 use Rattle.prune.specs.Pruning.{PrunesSlot, IsPlan, IsPruned}
 use Rattle.prune.specs.Checks.{Checks}
+use Rattle.prune.specs.Thinning.{IsThinned}
 use Rattle.sound_page.specs.Readers.{KeepsFound}
 use Rattle.sound_page.specs.Sound.{SoundPage, KeepsChains}
 
@@ -42,6 +43,20 @@ NothingDeadStays = (w : Window) (horizon : ℕ) (slots after : List Slot) → So
 abbrev pub SoundStaysSound : Type 0
 SoundStaysSound = (w : Window) (horizon : ℕ) (slots after : List Slot) → SoundPage w horizon slots → IsPruned w horizon slots after
     → SoundPage w horizon after × KeepsChains w slots after
+
+-- where a prefix of each chain goes that would be cut, a sound page stays sound, with the same chains as far as they are kept
+abbrev pub ThinningKeepsSound : Type 0
+ThinningKeepsSound = (w : Window) (horizon : ℕ) (slots after : List Slot) → SoundPage w horizon slots → IsThinned w horizon slots after
+    → SoundPage w horizon after × KeepsChains w slots after
+
+-- so it is where a sound page is pruned,
+abbrev pub PruningThins : Type 0
+PruningThins = (w : Window) (horizon : ℕ) (slots after : List Slot) → SoundPage w horizon slots → IsPruned w horizon slots after → IsThinned w horizon slots after
+
+-- and where a plan that checks is applied to one
+abbrev pub CheckedThins : Type 0
+CheckedThins = (w : Window) (horizon : ℕ) (page : PageView) (change : ℕ) (actions : List (ℕ × Action)) → SoundPage w horizon page.slots → Checks w horizon page change actions
+    → IsThinned w horizon page.slots (applied actions page).slots
 
 -- a second pruning changes nothing
 abbrev pub PruningIsDoneOnce : Type 0

@@ -3,6 +3,7 @@ pub mod Actions
 pub mod Deaths
 pub mod Pruning
 pub mod Checks
+pub mod Thinning
 pub mod Laws
 pub mod Marks
 pub mod Glances

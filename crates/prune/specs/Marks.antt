@@ -9,7 +9,7 @@ use Rattle.page_slots.specs.Slots.{header_at}
 use Rattle.tuple_header.specs.declared.version.Header.{Header}
 use Rattle.tuple_header.specs.declared.version.TheConstants.{MOST_SLOT_NUMBERS}
 use Rattle.visibility.specs.Visible.{IsDead}
-use Rattle.prune.specs.declared.action.Action.{Action}
+use Rattle.prune_actions.specs.declared.Action.{Action}
 use Rattle.prune.specs.declared.marks.PruneVerdict.{PruneVerdict}
 use Rattle.prune.specs.declared.marks.PruneVerdict.TheVariants.{Orphan, Kept, Goes}
 use Rattle.sound_page.specs.Dead.{IsDeadAt}

@@ -5,12 +5,12 @@ use Rattle.page_slots.specs.Slots.{header_at}
 use Rattle.tuple_header.specs.declared.version.Header.{Header}
 use Rattle.tuple_header.specs.Marks.{is_heap_only}
 use Rattle.commit_status.specs.Window.{Window}
-use Rattle.prune.specs.declared.action.Action.{Action}
+use Rattle.prune_actions.specs.declared.Action.{Action}
 use Rattle.prune.specs.declared.marks.PruneVerdict.{PruneVerdict}
 use Rattle.prune.specs.declared.marks.PruneVerdict.TheVariants.{Orphan}
 use Rattle.prune.specs.Pruning.{orphan_action}
 use Rattle.prune.specs.Marks.{mark_at}
-use Rattle.prune.specs.declared.action.Action.TheVariants as action
+use Rattle.prune_actions.specs.declared.Action.TheVariants as action
 
 abbrev pub named_at : List (Option Action) → ℕ → Option Action
 named_at named n = slice_index_or named n None

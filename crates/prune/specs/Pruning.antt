@@ -9,8 +9,8 @@ use Rattle.tuple_header.specs.declared.version.Header.{Header}
 use Rattle.tuple_header.specs.Marks.{is_frozen, is_heap_only}
 use Rattle.commit_status.specs.Window.{Window}
 use Rattle.hot_chain.specs.Chain.{has_aborted, is_root, IsChain, LeadsTo}
-use Rattle.prune.specs.declared.action.Action.{Action}
-use Rattle.prune.specs.declared.action.Action.TheVariants as action
+use Rattle.prune_actions.specs.declared.Action.{Action}
+use Rattle.prune_actions.specs.declared.Action.TheVariants as action
 use Rattle.prune.specs.Cutting.{IsCutCount}
 use Rattle.prune.specs.Actions.{acted, AreInOrder, action_of}
 

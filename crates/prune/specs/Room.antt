@@ -2,7 +2,7 @@
 use Rattle.std.specs.Prelude.{ℕ, List}
 use Rattle.page_slots.specs.declared.slot.Slot.{Slot}
 use Rattle.commit_status.specs.Window.{Window}
-use Rattle.prune.specs.declared.action.Action.{Action}
+use Rattle.prune_actions.specs.declared.Action.{Action}
 use Rattle.prune.specs.Pruning.{IsPlan}
 
 -- the actions are those of pruning this page, by some window and at some horizon

@@ -1,19 +1,8 @@
-//! What a plan does to a slot.
+//! A plan.
 
 use arrayvec::ArrayVec;
+use prune_actions::Action;
 use tuple_header::MOST_SLOT_NUMBERS;
-
-/// What is done to a slot.
-#[derive(Clone, Copy, Debug, Default, PartialEq, Eq)]
-pub enum Action {
-    /// It becomes unused.
-    #[default]
-    Unuse,
-    /// It becomes dead: it holds nothing, but keeps its number while index entries lead to it.
-    Kill,
-    /// It leads to the slot of this number.
-    Redirect(u16),
-}
 
 /// A plan's actions.
 pub(crate) type Actions = ArrayVec<(u16, Action), MOST_SLOT_NUMBERS>;

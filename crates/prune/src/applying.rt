@@ -12,12 +12,13 @@ ghost use Rattle.sound_page.specs.Readers.{KeepsFound};
 ghost use Rattle.prune.specs.Laws.{IsPrunedPage};
 ghost use Rattle.prune.specs.Marks.{ListsDoubtful};
 
-use crate::action::{Action, PrunePlan};
+use crate::action::PrunePlan;
 use crate::glance::{Numbers, list_doubtful};
 use crate::planning::list_actions;
 use arrayvec::ArrayVec;
 use commit_status::StatusTable;
 use page_slots::Page;
+use prune_actions::Action;
 use xid_circle::Xid;
 
 /// Does one thing to a slot.
@@ -32,15 +33,23 @@ fn act(page: &mut Page, number: u16, action: Action)
     }
 }
 
-/// Does what a plan names, and nothing else: the change number is raised, modulo 2^64, for each slot that is changed.
-/// Each slot named, and each redirect's target, is one of the page's; so it is where the plan checks. It takes no memory.
+/// Does what is named, and nothing else: the change number is raised, modulo 2^64, for each slot that is changed.
+/// Each slot named, and each redirect's target, is one of the page's; so it is where the actions check. It takes no memory.
+pub fn apply_actions(page: &mut Page, actions: &[(u16, Action)])
+    requires { CanApply (length page.old.slots) actions.now }
+    ensures { page.new ≡ applied actions.now page.old }
+{
+    for action in actions {
+        act(page, action.0, action.1);
+    }
+}
+
+/// Does what a plan names, as [`apply_actions`] does.
 pub fn apply(page: &mut Page, plan: &PrunePlan)
     requires { CanApply (length page.old.slots) plan.now.actions.items }
     ensures { page.new ≡ applied plan.now.actions.items page.old }
 {
-    for action in plan.actions.as_slice() {
-        act(page, action.0, action.1);
-    }
+    apply_actions(page, plan.actions.as_slice());
 }
 
 /// Prunes a page, of whose slots only these need more than a glance. It stands alone, so that its list is cleared only where it

@@ -9,7 +9,7 @@ ghost use Rattle.prune.specs.Checks.{HasPrefix, Checks};
 ghost use Rattle.prune.specs.Named.{named_at, IsNamedPrefix, BecomesUnused, IsLooseRight};
 ghost use Rattle.tuple_header.specs.declared.version.TheConstants.{MOST_SLOTS, MOST_SLOT_NUMBERS};
 
-use crate::action::{Action, PrunePlan};
+use crate::action::PrunePlan;
 use crate::glance::{Numbers, list_doubtful};
 use crate::marks::{Marks, PruneVerdict, cut_count, mark_page, root_action};
 use crate::planning::orphan_action;
@@ -17,17 +17,18 @@ use arrayvec::ArrayVec;
 use commit_status::StatusTable;
 use hot_chain::{chain, is_root};
 use page_slots::Page;
+use prune_actions::Action;
 use tuple_header::MOST_SLOT_NUMBERS;
 use xid_circle::Xid;
 
 /// What a plan does to each slot, by its number, from 0 to 291.
 type Named = [Option<Action>; MOST_SLOT_NUMBERS];
 
-/// Whether a plan was made for the page as it is now.
-fn is_fresh(page: &Page, plan: &PrunePlan) -> bool
-    ensures { IsTrue result ↔ (plan.now.change ≡ page.now.change) }
+/// Whether this is the page's change number, so that a plan of it was made for the page as it is now.
+fn is_fresh(page: &Page, change: u64) -> bool
+    ensures { IsTrue result ↔ (change ≡ page.now.change) }
 {
-    plan.change == page.change()
+    change == page.change()
 }
 
 /// Whether the slots that are named are strictly ascending, and on a page of so many.
@@ -192,21 +193,42 @@ fn are_accounted(page: &Page, marks: &Marks, named: &Named, statuses: &StatusTab
     true
 }
 
-/// Whether a plan may be applied to a page, whoever made it, and when: it has the page's change number, its slots are
-/// strictly ascending and on the page, of each chain it cuts a prefix that pruning at this horizon would cut
-/// too, and every other slot that it names holds an aborted heap-only version that no chain reaches. It takes no memory.
-pub fn check_plan(page: &Page, plan: &PrunePlan, statuses: &StatusTable, horizon: Xid) -> bool
+/// Whether actions may be done on a page, whoever planned them, and when: the change number is the page's, the slots are
+/// strictly ascending and on the page, of each chain a prefix is cut that pruning at this horizon would cut
+/// too, and every other slot named holds an aborted heap-only version that no chain reaches. It takes no memory.
+pub fn check_actions(
+    page: &Page,
+    change: u64,
+    actions: &[(u16, Action)],
+    statuses: &StatusTable,
+    horizon: Xid,
+) -> bool
     ensures exact { IsTrue result
-        ↔ Checks statuses.now horizon.0 page.now plan.now.change plan.now.actions.items }
-    ensures can_apply { IsTrue result → CanApply (length page.now.slots) plan.now.actions.items }
+        ↔ Checks statuses.now horizon.0 page.now change actions.now }
+    ensures can_apply { IsTrue result → CanApply (length page.now.slots) actions.now }
 {
-    if !is_fresh(page, plan) || !are_in_order(page.slots(), &plan.actions) {
+    if !is_fresh(page, change) || !are_in_order(page.slots(), actions) {
         return false;
     }
-    let named = named_by(&plan.actions);
+    let named = named_by(actions);
     let mut marks = [PruneVerdict::Orphan; MOST_SLOT_NUMBERS];
     let mut doubtful: Numbers = ArrayVec::new();
     list_doubtful(&mut doubtful, page, statuses, horizon);
     mark_page(&mut marks, doubtful.as_slice(), page, statuses, horizon);
     have_prefixes(page, &named, statuses, horizon) && are_accounted(page, &marks, &named, statuses)
+}
+
+/// Whether a plan may be applied to a page: whether its actions may be done there.
+pub fn check_plan(page: &Page, plan: &PrunePlan, statuses: &StatusTable, horizon: Xid) -> bool
+    ensures exact { IsTrue result
+        ↔ Checks statuses.now horizon.0 page.now plan.now.change plan.now.actions.items }
+    ensures can_apply { IsTrue result → CanApply (length page.now.slots) plan.now.actions.items }
+{
+    check_actions(
+        page,
+        plan.change,
+        plan.actions.as_slice(),
+        statuses,
+        horizon,
+    )
 }

@@ -1,6 +1,6 @@
 //! The laws of pruning. Each function does nothing: its contract is the law.
 
-ghost use Rattle.prune.specs.Laws.{PruningHasOneOutcome, RemovingIsNeverSeen, PruningIsNeverSeen, CheckedIsNeverSeen, CheckedRaises, ChecksAtEitherEnd, NothingDeadStays, SoundStaysSound, PruningIsDoneOnce};
+ghost use Rattle.prune.specs.Laws.{PruningHasOneOutcome, RemovingIsNeverSeen, PruningIsNeverSeen, CheckedIsNeverSeen, CheckedRaises, ChecksAtEitherEnd, NothingDeadStays, SoundStaysSound, PruningIsDoneOnce, ThinningKeepsSound, PruningThins, CheckedThins};
 
 /// Where no slot is in the chains of two roots, there is one answer for each slot, and one page after pruning.
 pub fn pruning_has_one_outcome()
@@ -45,4 +45,19 @@ pub fn pruning_is_done_once()
 /// A plan that checks raises the change number, modulo 2^64, once for each slot that it names: each is changed.
 pub fn checked_raises()
     ensures { CheckedRaises }
+{}
+
+/// A sound page stays sound where a prefix of each chain goes that would be cut, with the same chains as far as they are kept.
+pub fn thinning_keeps_sound()
+    ensures { ThinningKeepsSound }
+{}
+
+/// Pruning takes such a prefix of each chain of a sound page.
+pub fn pruning_thins()
+    ensures { PruningThins }
+{}
+
+/// So does a plan that checks, whoever made it.
+pub fn checked_thins()
+    ensures { CheckedThins }
 {}

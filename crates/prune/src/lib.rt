@@ -26,9 +26,10 @@ mod marks;
 mod planning;
 mod room;
 
-pub use action::{Action, PrunePlan};
-pub use applying::{apply, prune};
-pub use checking::check_plan;
+pub use action::PrunePlan;
+pub use applying::{apply, apply_actions, prune};
+pub use checking::{check_actions, check_plan};
 pub use dead::{first_death, has_dead};
 pub use planning::plan;
+pub use prune_actions::Action;
 pub use room::room_after;

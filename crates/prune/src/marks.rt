@@ -9,13 +9,13 @@ ghost use Rattle.prune.specs.Pruning.{root_action};
 ghost use Rattle.prune.specs.Marks.{AreNumbers, verdict_of, mark_at, marked, MarksChain, IsVerdict, IsSingle, ListsDoubtful};
 ghost use Rattle.tuple_header.specs.declared.version.TheConstants.{MOST_SLOT_NUMBERS};
 
-use crate::action::Action;
 use crate::dead::is_dead_at;
 use crate::glance::Numbers;
 use arrayvec::ArrayVec;
 use commit_status::StatusTable;
 use hot_chain::{is_root, list_chain};
 use page_slots::Page;
+use prune_actions::Action;
 use tuple_header::MOST_SLOT_NUMBERS;
 use visibility::{Fate, fate_of};
 use xid_circle::Xid;

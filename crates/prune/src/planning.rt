@@ -9,12 +9,13 @@ ghost use Rattle.prune.specs.Checks.{Checks};
 ghost use Rattle.prune.specs.Marks.{mark_at, planned, ListsDoubtful};
 ghost use Rattle.tuple_header.specs.declared.version.TheConstants.{MOST_SLOT_NUMBERS};
 
-use crate::action::{Action, Actions, PrunePlan};
+use crate::action::{Actions, PrunePlan};
 use crate::glance::{Numbers, list_doubtful};
 use crate::marks::{Marks, PruneVerdict, mark_page};
 use arrayvec::ArrayVec;
 use commit_status::StatusTable;
 use page_slots::Page;
+use prune_actions::Action;
 use tuple_header::MOST_SLOT_NUMBERS;
 use xid_circle::Xid;
 

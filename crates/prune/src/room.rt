@@ -5,8 +5,9 @@ ghost use Rattle.page_slots.specs.Slots.{room_of};
 ghost use Rattle.prune.specs.Actions.{CanApply, applied};
 ghost use Rattle.prune.specs.Room.{IsPlanOf};
 
-use crate::action::{Action, PrunePlan};
+use crate::action::PrunePlan;
 use page_slots::Page;
+use prune_actions::Action;
 use tuple_header::MOST_SLOTS;
 
 /// The largest size of a version that fits on a page, in bytes, once a plan of its pruning is applied: what [`Page::room`]

@@ -9,6 +9,7 @@ use Rattle.commit_status.specs.declared.status.Status.TheVariants.{Committed, Ab
 use Rattle.snapshot.specs.Snap.{Snap}
 use Rattle.history.specs.World.{World, view, world_sessions}
 use Rattle.history.specs.Moves.{stepped}
+use Rattle.calls.specs.Words.{PlanToApply}
 use Rattle.calls.specs.declared.step.Step.TheVariants as step
 use Rattle.calls.specs.declared.reply.Reply.TheVariants as reply
 use Rattle.calls.specs.declared.reply.Refusal.{Refusal}
@@ -157,6 +158,14 @@ Follows-prune h p store' removes w agrees = (tt, Agrees-prune h w store' removes
 
 pub Follows-unpruned : (h : Heap) (p : ℕ) (r : Refusal) → ((w : World) → Allows w (step.Prune p) (reply.Refused r)) → HeapFollows h (step.Prune p) (reply.Refused r) h
 Follows-unpruned h p r allows w agrees = (allows w, agrees)
+
+-- a plan that checks takes no more than a prune may
+pub Follows-apply : (h : Heap) (p : ℕ) (plan : PlanToApply) (store' : Tid → Option Version) → MayRemove h.version store' (IsPast h.status h.sees h.session)
+    → HeapFollows h (step.ApplyPlan p plan) reply.Done (record h { version = store' })
+Follows-apply h p plan store' removes w agrees = (tt, Agrees-prune h w store' removes agrees)
+
+pub Follows-unapplied : (h : Heap) (p : ℕ) (plan : PlanToApply) (r : Refusal) → ((w : World) → Allows w (step.ApplyPlan p plan) (reply.Refused r)) → HeapFollows h (step.ApplyPlan p plan) (reply.Refused r) h
+Follows-unapplied h p plan r allows w agrees = (allows w, agrees)
 
 -- the same sessions are seen, session by session
 pub Agrees-sessions : (h : Heap) (w : World) (session' : ℕ → Option SeenSession) → ((s : ℕ) → session' s ≡ h.session s) → HeapAgrees h w → HeapAgrees (record h { session = session' }) w

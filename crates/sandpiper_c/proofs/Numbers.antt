@@ -18,7 +18,7 @@ listed = status.Done ∷ status.Found ∷ status.NoRow ∷ status.Committed ∷ 
     ∷ status.Refused refusal.NeedsFreeze ∷ status.Refused refusal.BadBounds ∷ status.Refused refusal.NoMemory
     ∷ status.Refused refusal.NoSuchPage ∷ status.Refused refusal.NoSuchIndex ∷ status.Refused refusal.NoSuchSession
     ∷ status.Refused refusal.VacuumRunning ∷ status.Refused refusal.NoVacuum ∷ status.Refused refusal.IndexTooNew
-    ∷ status.Refused refusal.IndexBusy ∷ status.Refused refusal.Deadlock
+    ∷ status.Refused refusal.IndexBusy ∷ status.Refused refusal.Deadlock ∷ status.Refused refusal.Stale
     ∷ status.NoEngine ∷ status.HasEngine ∷ status.NoPlace ∷ status.BadMaxPages ∷ status.BadStopAge ∷ status.BadFreezeMinAge
     ∷ status.BadFirstXid ∷ status.BadDeadLimit ∷ []
 

@@ -55,6 +55,7 @@ number_of_refusal refusal.NoVacuum = 35
 number_of_refusal refusal.IndexTooNew = 36
 number_of_refusal refusal.IndexBusy = 37
 number_of_refusal refusal.Deadlock = 38
+number_of_refusal refusal.Stale = 39
 -- the other session is in the lower byte
 number_of_refusal (refusal.Busy session) = 256 + session
 

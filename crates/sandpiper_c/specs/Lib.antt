@@ -7,5 +7,6 @@ pub mod NextRows
 pub mod Pages
 pub mod Bytes
 pub mod Pieces
+pub mod Plans
 pub mod State
 pub mod Many

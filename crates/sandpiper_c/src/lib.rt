@@ -14,6 +14,7 @@ mod held;
 mod many;
 mod opening;
 mod pages;
+mod plans;
 mod rows;
 mod settings;
 mod state;

@@ -76,6 +76,7 @@ fn of_refusal(refusal: Refusal) -> u32
         Refusal::IndexTooNew => 36,
         Refusal::IndexBusy => 37,
         Refusal::Deadlock => 38,
+        Refusal::Stale => 39,
         Refusal::Busy(session) => 256 + session as u32,
     }
 }

@@ -11,15 +11,16 @@ use Rattle.std.proofs.lemmas.Bool.Decides.{nat_tests}
 use Rattle.std.proofs.lemmas.Slice.Eq.{bytes_eq-Decides}
 use Rattle.std.proofs.lemmas.Bool.{lt-leb, cases_lt, and_right}
 use Rattle.std.proofs.lemmas.List.{nil_from_length, append-nil}
-use Rattle.calls.specs.Words.{RowToWrite}
+use Rattle.calls.specs.Words.{RowToWrite, PlanToApply}
 use Rattle.calls.specs.declared.step.Step.TheVariants as step
 use Rattle.calls.specs.declared.vacuum.Mode.TheVariants as mode
 use Rattle.script_text.specs.declared.line.Line.{Line}
 use Rattle.script_text.specs.declared.line.Line.TheVariants.{Do, VacuumFinish, Ids, Page, Entries}
-use Rattle.script_text.specs.Grammar.{LineFits, Spells, KeyFits, RowFits, RangeFits, spelling, spaced, hex_text, body_text, row_text, key_words, row_words, range_words}
-use Rattle.script_text.specs.Reading.{Verbs, usual_verbs, other_verbs, vacuum_line_of, line_in, line_at, cut, number_of, number_then, column_then, bound_of, bound_then, nibble_of, pair_and, pairs_of, body_of, row_words_of, key_words_of, count_words_of, range_words_of}
+use Rattle.script_text.specs.Grammar.{LineFits, Spells, KeyFits, RowFits, RangeFits, spelling, spaced, hex_text, body_text, row_text, key_words, row_words, range_words, plan_words}
+use Rattle.script_text.specs.Reading.{Verbs, usual_verbs, other_verbs, vacuum_line_of, line_in, line_at, cut, number_of, number_then, column_then, bound_of, bound_then, nibble_of, pair_and, pairs_of, body_of, row_words_of, key_words_of, count_words_of, range_words_of, plan_words_of}
 use Rattle.script_text.proofs.ByteLemmas.{Free, Free-append, free_text}
 use Rattle.script_text.proofs.NumberLaws.{guarded, bound, mapped, both_true, cut_says, cut-free, number_of_says, number_of-decimal, number_then_says, number_then-decimal, decimal_free}
+use Rattle.script_text.proofs.PlanLaws.{plan_words_of_says, plan_words_of-words, plan_words_free}
 use Rattle.script_text.proofs.SignedLaws.{signed_free, column_then_says, column_then-signed, bound_free, bound_of_says, bound_of-signed, bound_then_says, bound_then-signed}
 
 pair_is : (x y a b : ℕ) (xs ys : List ℕ) → x ≡ a → y ≡ b → xs ≡ ys → x ∷ y ∷ xs ≡ a ∷ b ∷ ys
@@ -241,6 +242,9 @@ openindex_spelled = words_verb (codes "openindex") range_words_of (λ p. Do (ste
 prune_spelled : IsSpelled (codes "prune", λ rest. option_map (λ p. Do (step.Prune p)) (number_of 4294967295 rest))
 prune_spelled = number_verb (codes "prune") 4294967295 (λ p. Do (step.Prune p)) (omega arith) (λ p h. omega (arith, h)) (λ p. refl)
 
+apply_spelled : IsSpelled (codes "apply", λ rest. option_map (λ p. Do (step.ApplyPlan p.0 p.1)) (plan_words_of rest))
+apply_spelled = words_verb (codes "apply") plan_words_of (λ p. Do (step.ApplyPlan p.0 p.1)) (λ p. plan_words p.0 p.1) plan_words_of_says (λ p. refl)
+
 createindex_spelled : IsSpelled (codes "createindex", λ rest. option_map (λ c. Do (step.CreateIndex c)) (number_of 255 rest))
 createindex_spelled = number_verb (codes "createindex") 255 (λ c. Do (step.CreateIndex c)) (omega arith) (λ c h. omega (arith, h)) (λ c. refl)
 
@@ -276,7 +280,7 @@ usual_spelled : AllByRecursion IsSpelled usual_verbs
 usual_spelled = (get_spelled, (session_verb (codes "begin") (λ s. Do (step.Begin s)) (λ s h. h) (λ s. refl), (session_verb (codes "beginrc") (λ s. Do (step.BeginReadCommitted s)) (λ s h. h) (λ s. refl), (session_verb (codes "commit") (λ s. Do (step.Commit s)) (λ s h. h) (λ s. refl), (insert_spelled, (update_spelled, (delete_spelled, (next_spelled, (session_verb (codes "abort") (λ s. Do (step.Abort s)) (λ s h. h) (λ s. refl), tt)))))))))
 
 other_spelled : AllByRecursion IsSpelled other_verbs
-other_spelled = (session_verb (codes "savepoint") (λ s. Do (step.Savepoint s)) (λ s h. h) (λ s. refl), (session_verb (codes "rollbackto") (λ s. Do (step.RollbackTo s)) (λ s h. h) (λ s. refl), (session_verb (codes "release") (λ s. Do (step.Release s)) (λ s h. h) (λ s. refl), (openindex_spelled, (session_verb (codes "openheap") (λ s. Do (step.OpenHeap s)) (λ s h. h) (λ s. refl), (session_verb (codes "close") (λ s. Do (step.Close s)) (λ s h. h) (λ s. refl), (prune_spelled, (vacuum_spelled, (createindex_spelled, (page_spelled, (entries_spelled, tt)))))))))))
+other_spelled = (session_verb (codes "savepoint") (λ s. Do (step.Savepoint s)) (λ s h. h) (λ s. refl), (session_verb (codes "rollbackto") (λ s. Do (step.RollbackTo s)) (λ s h. h) (λ s. refl), (session_verb (codes "release") (λ s. Do (step.Release s)) (λ s h. h) (λ s. refl), (openindex_spelled, (session_verb (codes "openheap") (λ s. Do (step.OpenHeap s)) (λ s h. h) (λ s. refl), (session_verb (codes "close") (λ s. Do (step.Close s)) (λ s h. h) (λ s. refl), (prune_spelled, (apply_spelled, (vacuum_spelled, (createindex_spelled, (page_spelled, (entries_spelled, tt))))))))))))
 
 All-append : (xs ys : Verbs) → AllByRecursion IsSpelled xs → AllByRecursion IsSpelled ys → AllByRecursion IsSpelled (xs ++ ys)
 All-append [] ys h k = k
@@ -397,6 +401,8 @@ line_at-spelling (Do (step.Close s)) h =
     with_verb (codes "close") (decimal s) _ (free_text 32 (codes "close") refl) refl (ap (λ (o : Option ℕ). option_map (λ s. Do (step.Close s)) o) (number_of-decimal 255 s (omega arith) (omega arith)))
 line_at-spelling (Do (step.Prune p)) h =
     with_verb (codes "prune") (decimal p) _ (free_text 32 (codes "prune") refl) refl (ap (λ (o : Option ℕ). option_map (λ p. Do (step.Prune p)) o) (number_of-decimal 4294967295 p (omega arith) (omega arith)))
+line_at-spelling (Do (step.ApplyPlan p plan)) h =
+    with_verb (codes "apply") (plan_words p plan) _ (free_text 32 (codes "apply") refl) refl (ap (λ (o : Option (ℕ × PlanToApply)). option_map (λ p. Do (step.ApplyPlan p.0 p.1)) o) (plan_words_of-words p plan h))
 line_at-spelling (Do (step.VacuumBegin mode.Normal)) h = with_verb (codes "vacuum") (codes "begin normal") _ (free_text 32 (codes "vacuum") refl) refl refl
 line_at-spelling (Do (step.VacuumBegin mode.Aggressive)) h = with_verb (codes "vacuum") (codes "begin aggressive") _ (free_text 32 (codes "vacuum") refl) refl refl
 line_at-spelling (Do step.VacuumStep) h = with_verb (codes "vacuum") (codes "step") _ (free_text 32 (codes "vacuum") refl) refl refl
@@ -481,6 +487,7 @@ Free-spelling (Do (step.OpenHeap s)) h = Free-append 10 (codes "openheap") (spac
 Free-spelling (Do (step.Next s n)) h = Free-append 10 (codes "next") (spaced (key_words s n)) (free_text 10 (codes "next") refl) (key_words_free s n (h.0, omega (arith, h.1)))
 Free-spelling (Do (step.Close s)) h = Free-append 10 (codes "close") (spaced (decimal s)) (free_text 10 (codes "close") refl) (one_free s (omega arith))
 Free-spelling (Do (step.Prune p)) h = Free-append 10 (codes "prune") (spaced (decimal p)) (free_text 10 (codes "prune") refl) (one_free p (omega arith))
+Free-spelling (Do (step.ApplyPlan p plan)) h = Free-append 10 (codes "apply") (spaced (plan_words p plan)) (free_text 10 (codes "apply") refl) (plan_words_free p plan h)
 Free-spelling (Do (step.VacuumBegin mode.Normal)) h = free_text 10 (codes "vacuum begin normal") refl
 Free-spelling (Do (step.VacuumBegin mode.Aggressive)) h = free_text 10 (codes "vacuum begin aggressive") refl
 Free-spelling (Do step.VacuumStep) h = free_text 10 (codes "vacuum step") refl

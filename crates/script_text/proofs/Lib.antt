@@ -3,6 +3,8 @@ pub mod WideLaws
 pub mod NumberLaws
 pub mod SignedLaws
 pub mod ReadingLemmas
+pub mod WordLemmas
+pub mod PlanLaws
 pub mod GrammarLaws
 pub mod HeadingLaws
 pub mod TellingLemmas

@@ -11,7 +11,7 @@ use Rattle.script_text.proofs.WideLaws.{decimal-digits_value, digits_decimal, di
 use Rattle.std.proofs.lemmas.Fmt.{decimal_digit}
 use Rattle.std.proofs.Math.Seq.{take-append_seam, drop-append-add}
 use Rattle.std.proofs.lemmas.Bool.{and_right}
-use Rattle.script_text.specs.Reading.{◌>>=◌, cut, digits_on, number_of, number_then}
+use Rattle.script_text.specs.Reading.{◌>>=◌, cut, cut_at, digits_on, number_of, number_then}
 use Rattle.script_text.proofs.ByteLemmas.{Free, place-free, place-split, position_found}
 
 pub guarded : {A : Type 0} (b : Bool) (x : Option A) (y : A) → cond b x None ≡ Some y → (b ≡ true) × (x ≡ Some y)
@@ -123,15 +123,21 @@ position-free x w rest h =
     let inside : nat_lt (length w) (length (w ++ x ∷ rest)) ≡ true = grind (arith, nat_tests) in
     rw (e, inside) refl
 
-pub cut_says : (xs w rest : List ℕ) → cut xs ≡ Some (w, rest) → xs ≡ w ++ 32 ∷ rest
-cut_says xs w rest h =
+pub cut_at_says : (x : ℕ) (xs w rest : List ℕ) → cut_at x xs ≡ Some (w, rest) → xs ≡ w ++ x ∷ rest
+cut_at_says x xs w rest h =
     let m = mapped _ _ _ h in
-    let f = position_found 32 xs m.0 m.1 in
-    let s = rw f.1 at (place-split 32 xs (rw f.1 f.0)) in
-    s ∙ ap (λ (p : List ℕ × List ℕ). p.0 ++ 32 ∷ p.1) m.2
+    let f = position_found x xs m.0 m.1 in
+    let s = rw f.1 at (place-split x xs (rw f.1 f.0)) in
+    s ∙ ap (λ (p : List ℕ × List ℕ). p.0 ++ x ∷ p.1) m.2
+
+pub cut_says : (xs w rest : List ℕ) → cut xs ≡ Some (w, rest) → xs ≡ w ++ 32 ∷ rest
+cut_says xs w rest h = cut_at_says 32 xs w rest h
+
+pub cut_at-free : (x : ℕ) (w rest : List ℕ) → Free x w → cut_at x (w ++ x ∷ rest) ≡ Some (w, rest)
+cut_at-free x w rest h = rw (position-free x w rest h, take-append_seam w (x ∷ rest), drop-append-add w (x ∷ rest) 1) refl
 
 pub cut-free : (w rest : List ℕ) → Free 32 w → cut (w ++ 32 ∷ rest) ≡ Some (w, rest)
-cut-free w rest h = rw (position-free 32 w rest h, take-append_seam w (32 ∷ rest), drop-append-add w (32 ∷ rest) 1) refl
+cut-free w rest h = cut_at-free 32 w rest h
 
 digits_free : (x : ℕ) (ds : List ℕ) → (x < 48) → all_ascii_digits ds ≡ true → Free x ds
 digits_free x [] low h = tt
@@ -143,6 +149,17 @@ digits_free x (c ∷ cs) low h =
 
 pub decimal_free : (x n : ℕ) → x < 48 → n < 10 ^ 64 → Free x (decimal n)
 decimal_free x n low fits = digits_free x (decimal n) low (digits_decimal own n fits)
+
+digits_free_past : (x : ℕ) (ds : List ℕ) → 57 < x → all_ascii_digits ds ≡ true → Free x ds
+digits_free_past x [] high h = tt
+digits_free_past x (c ∷ cs) high h =
+    let t = both_true (is_ascii_digit c) (all_ascii_digits cs) h in
+    let d = t.0 in
+    let far : eqb c x ≡ false = grind (arith, nat_tests, d) in
+    (far, digits_free_past x cs high t.1)
+
+pub decimal_free_past : (x n : ℕ) → 57 < x → n < 10 ^ 64 → Free x (decimal n)
+decimal_free_past x n high fits = digits_free_past x (decimal n) high (digits_decimal own n fits)
 
 pub number_then_says : (max : ℕ) (xs : List ℕ) (n : ℕ) (rest : List ℕ) → max < 10 ^ 64 → number_then max xs ≡ Some (n, rest) → (xs ≡ decimal n ++ 32 ∷ rest) × (n ≤ max)
 unfolding number_then

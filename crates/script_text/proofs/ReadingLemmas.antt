@@ -1,9 +1,12 @@
 -- Steps of the reader's loops.
-use Rattle.std.proofs.Common.{◌≡◌, ℕ, ◌+◌, ◌-◌, ◌*◌, ◌%◌, ◌<◌, ◌≤◌, suc, List, [], ◌∷◌, ◌++◌, length, get_or, drop, refl, ap, arith, drop-cons, add-one, ◌∙◌, sym, ◌&&◌, nat_le, if◌then◌else◌, None, Some, Option, append_assoc}
+use Rattle.std.proofs.Common.{◌≡◌, ℕ, ◌+◌, ◌-◌, ◌*◌, ◌%◌, ◌<◌, ◌≤◌, suc, zero, List, [], ◌∷◌, ◌++◌, length, get_or, drop, refl, ap, arith, drop-cons, add-one, ◌∙◌, sym, ◌&&◌, nat_le, if◌then◌else◌, None, Some, Option, append_assoc}
 use Rattle.std.proofs.lemmas.List.{drop_all, append-nil}
 use Rattle.std.specs.Option.{option_map}
+use Rattle.std.proofs.lemmas.Option.{same_Some}
+use Rattle.prune_actions.specs.declared.Action.{Action}
+use Rattle.script_text.proofs.NumberLaws.{bound}
 use Rattle.std.specs.Char.{is_ascii_digit}
-use Rattle.script_text.specs.Reading.{digits_on, pairs_of, nibble_of, pair_and}
+use Rattle.script_text.specs.Reading.{◌>>=◌, digits_on, pairs_of, nibble_of, pair_and, action_of, actions_of}
 
 -- the digit at i is read next
 pub digits_on-drop : (max n : ℕ) (w : List ℕ) (i : ℕ) → i < length w
@@ -60,3 +63,25 @@ pairs_end w bytes i h e =
     ap (λ x. Some x) (sym (append-nil bytes)) ∙ e'
 
 pub ruleset pair_lemmas = (pairs_of-odd, pairs_of-drop, pairs_step, pairs_end)
+
+-- what one word more does goes behind what those before it do
+pub actions_of-more : (words : List (List ℕ)) (word : List ℕ) (actions : List (ℕ × Action)) (a : ℕ × Action) → actions_of words ≡ Some actions → action_of word ≡ Some a
+    → actions_of (words ++ word ∷ []) ≡ Some (actions ++ a ∷ [])
+unfolding actions_of
+actions_of-more [] word actions a h e = rw (← same_Some [] actions h, e) refl
+actions_of-more (first ∷ words) word actions a h e =
+    let front = bound (action_of first) _ actions h in
+    let more = bound (actions_of words) _ actions front.2 in
+    let all = actions_of-more words word more.0 a more.1 e in
+    rw (front.1, all) (ap (λ xs. Some (xs ++ a ∷ [])) (same_Some (front.0 ∷ more.0) actions more.2))
+
+none_after : (o : Option (ℕ × Action)) (rest : Option (List (ℕ × Action))) → rest ≡ None → (o >>= λ a. rest >>= λ more. Some (a ∷ more)) ≡ None
+none_after None rest e = refl
+none_after (Some a) rest e = rw e refl
+
+-- where one word does nothing, all do nothing
+pub actions_of-stop : (words : List (List ℕ)) (i : ℕ) (word : List ℕ) → i < length words → word ≡ get_or words i word → action_of word ≡ None → actions_of words ≡ None
+unfolding actions_of
+actions_of-stop [] i word h at e = absurd (omega arith)
+actions_of-stop (first ∷ words) zero word h at e = rw (← at, e) refl
+actions_of-stop (first ∷ words) (suc i) word h at e = none_after (action_of first) (actions_of words) (actions_of-stop words i word (omega arith) at e)

@@ -3,7 +3,9 @@ use Rattle.std.specs.Prelude.{◌≡◌, ℕ, ℤ, ◌/◌, ◌%◌, ◌^◌, �
 use Rattle.std.specs.Int.{w64, w128}
 use Rattle.std.specs.List.{flat_map, AllByRecursion}
 use Rattle.std.specs.Fmt.{decimal, signed_decimal, digit_glyph}
-use Rattle.calls.specs.Words.{RowToWrite}
+use Rattle.prune_actions.specs.declared.Action.{Action}
+use Rattle.prune_actions.specs.declared.Action.TheVariants.{Unuse, Kill, Redirect}
+use Rattle.calls.specs.Words.{RowToWrite, PlanToApply}
 use Rattle.calls.specs.declared.settings.Settings.{Settings}
 use Rattle.calls.specs.declared.step.Step.{Step}
 use Rattle.calls.specs.declared.step.Step.TheVariants as step
@@ -45,6 +47,20 @@ range_words s index low high = decimal s ++ spaced (decimal index ++ spaced (sig
 -- a session and a row
 abbrev pub row_words : ℕ → RowToWrite → List ℕ
 row_words s row = decimal s ++ spaced (row_text row.key row.cols row.body)
+
+-- what is done to a slot: `u2` makes it unused, `d2` dead, and `r1:3` has slot 1 lead to slot 3
+abbrev pub action_text : ℕ × Action → List ℕ
+action_text (n, Unuse) = codes "u" ++ decimal n
+action_text (n, Kill) = codes "d" ++ decimal n
+action_text (n, Redirect k) = codes "r" ++ (decimal n ++ (codes ":" ++ decimal k))
+
+-- what is done to slots, in their order, each behind a space
+abbrev pub actions_text : List (ℕ × Action) → List ℕ
+actions_text actions = flat_map (λ a. spaced (action_text a)) actions
+
+-- a page, and a plan of what is done to its slots
+abbrev pub plan_words : ℕ → PlanToApply → List ℕ
+plan_words p plan = decimal p ++ spaced (decimal plan.change ++ actions_text plan.actions)
 
 -- a digit for a column: 1 where it has an index
 abbrev pub flag_text : Bool → List ℕ
@@ -92,6 +108,7 @@ step_text (step.OpenHeap s) = codes "openheap" ++ spaced (decimal s)
 step_text (step.Next s n) = codes "next" ++ spaced (key_words s n)
 step_text (step.Close s) = codes "close" ++ spaced (decimal s)
 step_text (step.Prune p) = codes "prune" ++ spaced (decimal p)
+step_text (step.ApplyPlan p plan) = codes "apply" ++ spaced (plan_words p plan)
 step_text (step.VacuumBegin mode) = codes "vacuum begin" ++ spaced (mode_text mode)
 step_text step.VacuumStep = codes "vacuum step"
 step_text step.VacuumCancel = codes "vacuum cancel"
@@ -118,6 +135,15 @@ RowFits s row = (s < 2 ^ 8) × (row.key < 2 ^ 64) × (length row.cols ≡ 4) × 
 abbrev pub RangeFits : ℕ → ℕ → ℤ → ℤ → Type 0
 RangeFits s index low high = (s < 2 ^ 8) × (index < 2 ^ 8) × FitsSigned w128 low × FitsSigned w128 high
 
+-- a slot's number has 16 bits
+abbrev pub ActionFits : ℕ × Action → Type 0
+ActionFits (n, Redirect k) = (n < 2 ^ 16) × (k < 2 ^ 16)
+ActionFits (n, other) = n < 2 ^ 16
+
+-- a page's number has 32 bits, and a change number 64
+abbrev pub PlanFits : ℕ → PlanToApply → Type 0
+PlanFits p plan = (p < 2 ^ 32) × (plan.change < 2 ^ 64) × AllByRecursion ActionFits plan.actions
+
 -- each number of a step is in the range of its type; a count of rows has 16 bits, and a page's number 32
 abbrev pub StepFits : Step → Type 0
 StepFits (step.Begin s) = s < 2 ^ 8
@@ -136,6 +162,7 @@ StepFits (step.OpenHeap s) = s < 2 ^ 8
 StepFits (step.Next s n) = (s < 2 ^ 8) × (n < 2 ^ 16)
 StepFits (step.Close s) = s < 2 ^ 8
 StepFits (step.Prune p) = p < 2 ^ 32
+StepFits (step.ApplyPlan p plan) = PlanFits p plan
 StepFits (step.VacuumBegin mode) = Unit {0}
 StepFits step.VacuumStep = Unit {0}
 StepFits step.VacuumCancel = Unit {0}

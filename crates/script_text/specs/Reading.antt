@@ -3,7 +3,10 @@ use Rattle.std.specs.Prelude.{ℕ, ℤ, pos, negsuc, ◌+◌, ◌-◌, ◌*◌, 
 use Rattle.std.specs.Option.{option_map}
 use Rattle.std.specs.Char.{is_ascii_digit}
 use Rattle.std.specs.Str.{bytes_eq}
-use Rattle.calls.specs.Words.{RowToWrite}
+use Rattle.std.specs.List.{slice_split}
+use Rattle.prune_actions.specs.declared.Action.{Action}
+use Rattle.prune_actions.specs.declared.Action.TheVariants.{Unuse, Kill, Redirect}
+use Rattle.calls.specs.Words.{RowToWrite, PlanToApply}
 use Rattle.calls.specs.declared.settings.Settings.{Settings}
 use Rattle.calls.specs.declared.step.Step.TheVariants as step
 use Rattle.calls.specs.declared.vacuum.Mode.TheVariants as mode
@@ -15,9 +18,17 @@ abbrev pub ◌>>=◌ : {A B : Type 0} → Option A → (A → Option B) → Opti
 None >>= f = None
 (Some x) >>= f = f x
 
+-- what stands before the first byte that is x, and what stands behind it
+abbrev pub cut_at : ℕ → List ℕ → Option (List ℕ × List ℕ)
+cut_at x xs = option_map (λ i. (take i xs, drop (i + 1) xs)) (position (λ b. b == x) xs)
+
 -- the word at the front, and what stands behind the space after it
 abbrev pub cut : List ℕ → Option (List ℕ × List ℕ)
-cut xs = option_map (λ i. (take i xs, drop (i + 1) xs)) (position (λ b. b == 32) xs)
+cut xs = cut_at 32 xs
+
+-- the words of a text
+abbrev pub words_of : List ℕ → List (List ℕ)
+words_of xs = slice_split (λ b. b == 32) xs
 
 -- the number of at most max that the digits write when they follow those of n
 unfoldable pub digits_on : ℕ → ℕ → List ℕ → Option ℕ
@@ -114,6 +125,43 @@ range_words_of xs = do
   high ← bound_of low.1
   Some (s.0, index.0, low.0, high)
 
+-- a slot, and that to which it is to lead
+unfoldable pub redirect_of : List ℕ → Option (ℕ × Action)
+redirect_of w = do
+  slots ← cut_at 58 w
+  n ← number_of 65535 slots.0
+  k ← number_of 65535 slots.1
+  Some (n, Redirect k)
+
+-- what is done to a slot
+unfoldable pub action_of : List ℕ → Option (ℕ × Action)
+action_of w = if slice_index w 0 == 117 then option_map (λ n. (n, Unuse)) (number_of 65535 (drop 1 w))
+    else if slice_index w 0 == 100 then option_map (λ n. (n, Kill)) (number_of 65535 (drop 1 w))
+    else if slice_index w 0 == 114 then redirect_of (drop 1 w)
+    else None
+
+unfoldable pub actions_of : List (List ℕ) → Option (List (ℕ × Action))
+actions_of [] = Some []
+actions_of (word ∷ words) = do
+  action ← action_of word
+  actions ← actions_of words
+  Some (action ∷ actions)
+
+-- a change number, and what is done to slots
+unfoldable pub plan_of : List (List ℕ) → Option PlanToApply
+plan_of [] = None
+plan_of (word ∷ words) = do
+  change ← number_of (2 ^ 64 - 1) word
+  actions ← actions_of words
+  Some (record { change = change; actions = actions })
+
+-- a page and a plan
+unfoldable pub plan_words_of : List ℕ → Option (ℕ × PlanToApply)
+plan_words_of xs = do
+  p ← number_then 4294967295 xs
+  plan ← plan_of (words_of p.1)
+  Some (p.0, plan)
+
 -- a digit for each of the four columns
 unfoldable pub flag_of : ℕ → Option Bool
 flag_of c = if c == 48 then Some false else if c == 49 then Some true else None
@@ -175,6 +223,7 @@ other_verbs =
     ∷ (codes "openheap", λ rest. option_map (λ s. Do (step.OpenHeap s)) (number_of 255 rest))
     ∷ (codes "close", λ rest. option_map (λ s. Do (step.Close s)) (number_of 255 rest))
     ∷ (codes "prune", λ rest. option_map (λ p. Do (step.Prune p)) (number_of 4294967295 rest))
+    ∷ (codes "apply", λ rest. option_map (λ p. Do (step.ApplyPlan p.0 p.1)) (plan_words_of rest))
     ∷ (codes "vacuum", vacuum_line_of)
     ∷ (codes "createindex", λ rest. option_map (λ c. Do (step.CreateIndex c)) (number_of 255 rest))
     ∷ (codes "page", λ rest. option_map (λ p. Page p) (number_of 4294967295 rest))

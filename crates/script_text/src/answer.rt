@@ -129,6 +129,7 @@ fn refusal(out: &mut Vec<u8>, refusal: Refusal) -> Result<(), RefusedGrowth>
         Refusal::NoVacuum => extend(out, b"18 NoVacuum"),
         Refusal::NoSuchPage => extend(out, b"19 NoSuchPage"),
         Refusal::NoSuchIndex => extend(out, b"20 NoSuchIndex"),
+        Refusal::Stale => extend(out, b"21 Stale"),
         Refusal::IndexTooNew => extend(out, b"22 IndexTooNew"),
         Refusal::NoSuchSession => extend(out, b"23 NoSuchSession"),
         Refusal::BadBounds => extend(out, b"24 BadBounds"),

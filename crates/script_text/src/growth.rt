@@ -5,6 +5,7 @@
 
 ghost use Rattle.std.specs.Prelude.{◌≡◌, ◌∷◌, ◌++◌, ◌+◌, ◌/◌, ◌<◌, ◌≤◌, [], length, vec_len, vec_capacity, IfOk, OnOk, OnErr};
 
+use calls::Action;
 use std::alloc::Global;
 
 /// That a growth was refused.
@@ -23,6 +24,21 @@ pub(crate) fn push(out: &mut Vec<u8>, byte: u8) -> Result<(), RefusedGrowth>
     ensures full { OnErr result (vec_capacity out.old ≤ vec_len out.old) }
 {
     match out.push(byte) {
+        Ok(()) => Ok(()),
+        Err(_) => Err(REFUSED),
+    }
+}
+
+/// Adds what is done to a slot.
+pub(crate) fn push_action(
+    actions: &mut Vec<(u16, Action)>,
+    slot: u16,
+    action: Action,
+) -> Result<(), RefusedGrowth>
+    ensures added { OnOk result (actions.new.items ≡ actions.old.items ++ (slot, action) ∷ []) }
+    ensures full { OnErr result (vec_capacity actions.old ≤ vec_len actions.old) }
+{
+    match actions.push((slot, action)) {
         Ok(()) => Ok(()),
         Err(_) => Err(REFUSED),
     }

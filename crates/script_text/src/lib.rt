@@ -14,6 +14,7 @@ mod heading;
 mod inspected;
 mod line;
 mod page;
+mod plan;
 mod step;
 mod words;
 mod worker_step;

@@ -3,11 +3,12 @@
 ghost use Rattle.std.specs.Prelude.{◌≡◌, ◌++◌, IfOk};
 ghost use Rattle.std.specs.Option.{option_map};
 ghost use Rattle.script_text.specs.Grammar.{Spells};
-ghost use Rattle.script_text.specs.Reading.{number_of, row_words_of, key_words_of, count_words_of, range_words_of, vacuum_line_of, line_in, usual_verbs, other_verbs, line_at as line_at_of};
+ghost use Rattle.script_text.specs.Reading.{number_of, row_words_of, key_words_of, count_words_of, range_words_of, plan_words_of, vacuum_line_of, line_in, usual_verbs, other_verbs, line_at as line_at_of};
 
 use crate::growth::RefusedGrowth;
+use crate::plan::plan;
 use crate::words::{body, bound, bound_then, column_then, cut, number, number_then};
-use calls::{Mode, RowIn, Step};
+use calls::{Mode, PlanIn, RowIn, Step};
 use std::alloc::Global;
 
 /// The longest line, its line feed not counted.
@@ -94,6 +95,20 @@ fn range(text: &[u8]) -> Option<(u8, u8, i128, i128)>
     Some((s as u8, index as u8, low, high))
 }
 
+// A page and a plan.
+#[tactic(auto, unfolding(crate::specs::Reading::plan_words_of))]
+fn page_and_plan(alloc: Global, text: &[u8]) -> Result<Option<(u32, PlanIn)>, RefusedGrowth>
+    ensures { IfOk result (λ o. option_map (λ p. (p.0, p.1)) o ≡ plan_words_of text.now) }
+{
+    let Some((page, rest)) = number_then(text, u64::from(u32::MAX)) else {
+        return Ok(None);
+    };
+    let Some(plan) = plan(alloc, rest)? else {
+        return Ok(None);
+    };
+    Ok(Some((page as u32, plan)))
+}
+
 // A session, an index or a column.
 fn number8(word: &[u8]) -> Option<u8>
     ensures { result ≡ number_of 255 word.now }
@@ -129,33 +144,35 @@ fn vacuum_line(words: &[u8]) -> Option<Line>
 }
 
 // What a line asks for that begins with this word, one of those that are asked for less often.
-fn other_line(word: &[u8], rest: &[u8]) -> Option<Line>
-    ensures { result ≡ line_in other_verbs word.now rest.now }
+fn other_line(alloc: Global, word: &[u8], rest: &[u8]) -> Result<Option<Line>, RefusedGrowth>
+    ensures { IfOk result (λ o. o ≡ line_in other_verbs word.now rest.now) }
 {
     if word == b"savepoint".as_slice() {
-        number8(rest).map(|s| Line::Do(Step::Savepoint(s)))
+        Ok(number8(rest).map(|s| Line::Do(Step::Savepoint(s))))
     } else if word == b"rollbackto".as_slice() {
-        number8(rest).map(|s| Line::Do(Step::RollbackTo(s)))
+        Ok(number8(rest).map(|s| Line::Do(Step::RollbackTo(s))))
     } else if word == b"release".as_slice() {
-        number8(rest).map(|s| Line::Do(Step::Release(s)))
+        Ok(number8(rest).map(|s| Line::Do(Step::Release(s))))
     } else if word == b"openindex".as_slice() {
-        range(rest).map(|(s, index, low, high)| Line::Do(Step::OpenIndex(s, index, low, high)))
+        Ok(range(rest).map(|(s, index, low, high)| Line::Do(Step::OpenIndex(s, index, low, high))))
     } else if word == b"openheap".as_slice() {
-        number8(rest).map(|s| Line::Do(Step::OpenHeap(s)))
+        Ok(number8(rest).map(|s| Line::Do(Step::OpenHeap(s))))
     } else if word == b"close".as_slice() {
-        number8(rest).map(|s| Line::Do(Step::Close(s)))
+        Ok(number8(rest).map(|s| Line::Do(Step::Close(s))))
     } else if word == b"prune".as_slice() {
-        page(rest).map(|p| Line::Do(Step::Prune(p)))
+        Ok(page(rest).map(|p| Line::Do(Step::Prune(p))))
+    } else if word == b"apply".as_slice() {
+        Ok(page_and_plan(alloc, rest)?.map(|(p, plan)| Line::Do(Step::ApplyPlan(p, plan))))
     } else if word == b"vacuum".as_slice() {
-        vacuum_line(rest)
+        Ok(vacuum_line(rest))
     } else if word == b"createindex".as_slice() {
-        number8(rest).map(|c| Line::Do(Step::CreateIndex(c)))
+        Ok(number8(rest).map(|c| Line::Do(Step::CreateIndex(c))))
     } else if word == b"page".as_slice() {
-        page(rest).map(|p| Line::Page(p))
+        Ok(page(rest).map(|p| Line::Page(p)))
     } else if word == b"entries".as_slice() {
-        number8(rest).map(|i| Line::Entries(i))
+        Ok(number8(rest).map(|i| Line::Entries(i)))
     } else {
-        None
+        Ok(None)
     }
 }
 
@@ -182,7 +199,7 @@ fn line_for(alloc: Global, word: &[u8], rest: &[u8]) -> Result<Option<Line>, Ref
     } else if word == b"abort".as_slice() {
         Ok(number8(rest).map(|s| Line::Do(Step::Abort(s))))
     } else {
-        Ok(other_line(word, rest))
+        other_line(alloc, word, rest)
     }
 }
 

@@ -1,14 +1,15 @@
 //! The text of a step.
 
 ghost use Rattle.std.specs.Prelude.{◌≡◌, ◌++◌, codes, OnOk};
-ghost use Rattle.script_text.specs.Grammar.{spaced, step_text, key_words, range_words, row_words, with_feed};
+ghost use Rattle.script_text.specs.Grammar.{spaced, step_text, key_words, plan_words, range_words, row_words, with_feed};
 ghost use Rattle.script_text.specs.Workers.{noted_text};
 
 use crate::answer::{body, columns};
 use crate::entries::spaced_value;
 use crate::growth::{RefusedGrowth, extend, push};
 use crate::page::{label, spaced_number};
-use calls::{Mode, RowIn, Step};
+use crate::plan::put_actions;
+use calls::{Mode, PlanIn, RowIn, Step};
 
 // A verb, a session, and a key or how many rows.
 #[tactic(auto, unfolding(crate::specs::Answers::labelled))]
@@ -45,6 +46,17 @@ fn range(out: &mut Vec<u8>, s: u8, index: u8, low: i128, high: i128) -> Result<(
     spaced_value(out, high)
 }
 
+// A page and a plan.
+#[tactic(auto, unfolding(crate::specs::Answers::labelled))]
+fn plan(out: &mut Vec<u8>, page: u32, plan: &PlanIn) -> Result<(), RefusedGrowth>
+    ensures { OnOk result
+        (out.new.items ≡ out.old.items ++ (codes "apply" ++ spaced (plan_words page plan.now))) }
+{
+    label(out, b"apply", u64::from(page))?;
+    spaced_number(out, plan.change)?;
+    put_actions(out, plan.actions.as_slice())
+}
+
 #[tactic(auto, unfolding(crate::specs::Answers::labelled))]
 fn text(out: &mut Vec<u8>, step: &Step) -> Result<(), RefusedGrowth>
     ensures { OnOk result (out.new.items ≡ out.old.items ++ step_text step.now) }
@@ -66,6 +78,7 @@ fn text(out: &mut Vec<u8>, step: &Step) -> Result<(), RefusedGrowth>
         Step::Next(s, count) => key(out, b"next", *s, u64::from(*count)),
         Step::Close(s) => label(out, b"close", u64::from(*s)),
         Step::Prune(page) => label(out, b"prune", u64::from(*page)),
+        Step::ApplyPlan(page, new) => plan(out, *page, new),
         Step::VacuumBegin(Mode::Normal) => extend(out, b"vacuum begin normal"),
         Step::VacuumBegin(Mode::Aggressive) => extend(out, b"vacuum begin aggressive"),
         Step::VacuumStep => extend(out, b"vacuum step"),

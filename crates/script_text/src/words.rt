@@ -2,25 +2,32 @@
 
 ghost use Rattle.std.specs.Prelude.{◌≡◌, ◌<◌, ◌≤◌, ◌==◌, ◌&&◌, ◌||◌, nat_lt, slice_index, length, position, IfOk, IfSome};
 ghost use Rattle.std.specs.Option.{option_map};
-ghost use Rattle.script_text.specs.Reading.{cut as cut_of, digits_on, number_of, number_then as number_then_of, column_of, column_then as column_then_of, bound_of, bound_then as bound_then_of, nibble_of, pairs_of, body_of};
+ghost use Rattle.script_text.specs.Reading.{cut as cut_of, cut_at as cut_at_of, digits_on, number_of, number_then as number_then_of, column_of, column_then as column_then_of, bound_of, bound_then as bound_then_of, nibble_of, pairs_of, body_of};
 
 use crate::growth::{RefusedGrowth, push, room_for_pairs};
 use std::alloc::Global;
 
-// The index of the first space.
-fn space(text: &[u8]) -> Option<usize>
-    ensures at { result ≡ position (λ b. b == 32) text.now }
+// The index of the first of these bytes.
+fn place(text: &[u8], byte: u8) -> Option<usize>
+    ensures at { result ≡ position (λ b. b == byte) text.now }
     ensures within { IfSome result (λ i. i < length text.now) }
 {
-    text.iter().position(|b| *b == b' ')
+    text.iter().position(|b| *b == byte)
+}
+
+// What stands before the first of these bytes, and what stands behind it.
+pub(crate) fn cut_at(text: &[u8], byte: u8) -> Option<(&[u8], &[u8])>
+    ensures { option_map (λ x. (x.0.now, x.1.now)) result ≡ cut_at_of byte text.now }
+{
+    let i = place(text, byte)?;
+    Some((&text[..i], &text[i + 1..]))
 }
 
 // The word at the front, and what stands behind the space after it.
 pub(crate) fn cut(text: &[u8]) -> Option<(&[u8], &[u8])>
     ensures { option_map (λ x. (x.0.now, x.1.now)) result ≡ cut_of text.now }
 {
-    let i = space(text)?;
-    Some((&text[..i], &text[i + 1..]))
+    cut_at(text, b' ')
 }
 
 // What digits spell in a number of this type, up to a highest.

@@ -54,6 +54,7 @@ fn is_session(step: &Step) -> bool
 {
     match step {
         Step::Prune(_)
+        | Step::ApplyPlan(_, _)
         | Step::VacuumBegin(_)
         | Step::VacuumStep
         | Step::VacuumCancel
@@ -83,6 +84,7 @@ fn session_of(step: &Step) -> Option<u8>
         | Step::Next(s, _)
         | Step::Close(s) => Some(*s),
         Step::Prune(_)
+        | Step::ApplyPlan(_, _)
         | Step::VacuumBegin(_)
         | Step::VacuumStep
         | Step::VacuumCancel

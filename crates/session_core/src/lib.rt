@@ -14,7 +14,9 @@ mod vacuuming;
 mod views;
 mod waiting;
 
-pub use calls::{Mode, Piece, Refusal, Reply, Row, RowIn, Settings, SettingsFault, Step};
+pub use calls::{
+    Action, Mode, Piece, PlanIn, Refusal, Reply, Row, RowIn, Settings, SettingsFault, Step,
+};
 pub use engine::Engine;
 pub use page_slots::Page;
 pub use runs::{RunFault, run};

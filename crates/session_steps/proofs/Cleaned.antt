@@ -28,14 +28,18 @@ use Rattle.sound_page.proofs.Undone.{aborted-has}
 use Rattle.index_lookup.specs.Pages.{slots_on, version_in}
 use Rattle.heap_write.specs.Heap.{HeapView, slots_of}
 use Rattle.heap_write.specs.Writes.{Prunes}
-use Rattle.table_integrity.specs.Table.{SoundTable}
-use Rattle.table_integrity.proofs.Places.{RemovesOn, prunes-stand}
-use Rattle.table_integrity.proofs.Keeping.{pruned-stays}
+use Rattle.heap_write.specs.declared.applying.ApplyFault.{ApplyFault}
+use Rattle.heap_write.specs.declared.applying.ApplyFault.TheVariants as apply_fault
+use Rattle.table_integrity.specs.Table.{SoundTable, StaysSoundTable}
+use Rattle.table_integrity.proofs.Places.{RemovesOn, prunes-stand, applies-stand}
+use Rattle.table_integrity.proofs.Keeping.{pruned-stays, applied-stays}
 use Rattle.history.specs.History.{Write}
 use Rattle.history.specs.World.{World, OpenSession, joined, start_now}
 use Rattle.calls.specs.declared.step.Step.TheVariants as step
 use Rattle.calls.specs.declared.reply.Reply.TheVariants as reply
+use Rattle.calls.specs.declared.reply.Refusal.{Refusal}
 use Rattle.calls.specs.declared.reply.Refusal.TheVariants as refusal
+use Rattle.calls.specs.Words.{PlanToApply}
 use Rattle.calls.specs.declared.settings.Settings.{Settings}
 use Rattle.refinement.specs.Agrees as relation_agrees
 use Rattle.visibility.specs.Seeing as readers
@@ -47,7 +51,7 @@ use Rattle.session_steps.specs.declared.session.SessionIsolation.{SessionIsolati
 use Rattle.session_steps.specs.declared.session.SessionIsolation.TheVariants.{BySnapshot, ByStatement}
 use Rattle.session_steps.specs.State.{State, session_at, seen, seen_in, reader_of, kept_by, IsByStatement, horizon_of, held_back}
 use Rattle.session_steps.specs.Agrees.{Agrees, Follows}
-use Rattle.session_steps.specs.Exact.{Cleans}
+use Rattle.session_steps.specs.Exact.{Cleans, AppliesPlan}
 use Rattle.session_steps.proofs.Owns.{reader-is}
 use Rattle.session_steps.proofs.Statements.{statement_sight, cursor_sight, kept-at}
 use Rattle.session_steps.proofs.Horizons.{upto-horizon, below-xmin}
@@ -176,12 +180,12 @@ state_with a h xs = record { settings = a; heap = h; sessions = xs }
 abbrev with_parts : State → HeapView → State
 with_parts st h = state_with st.settings h st.sessions
 
-pruned : (st : State) (h : HeapView) (p : ℕ) (w : World) → Prunes st.heap h p (horizon_of st) → Agrees st w → Agrees (with_parts st h) w
-pruned st h p w prunes agrees =
-    let stays = pruned-stays st.heap h p (horizon_of st) agrees.sound.table prunes in
-    let f = theory.Follows-prune (seen st) p (version_in (slots_of h)) (removes-past st w (version_in (slots_of h)) p agrees (prunes-stand st.heap h p (horizon_of st) prunes)) w agrees.found in
-    let statuses : h.statuses ≡ st.heap.statuses = ap (λ (g : HeapView). g.statuses) prunes.is in
-    let limit : h.max_pages ≡ st.heap.max_pages = ap (λ (g : HeapView). g.max_pages) prunes.is in
+-- Of one page versions go that are cut by pruning at the horizon.
+thinned : (st : State) (h : HeapView) (p : ℕ) (w : World) → h.statuses ≡ st.heap.statuses → h.max_pages ≡ st.heap.max_pages → StaysSoundTable st.heap h (horizon_of st)
+    → RemovesOn (version_in (slots_of st.heap)) (version_in (slots_of h)) p (IsCut st.heap.statuses (horizon_of st) (slots_on (slots_of st.heap) p))
+    → Agrees st w → Agrees (with_parts st h) w
+thinned st h p w statuses limit stays removes agrees =
+    let f = theory.Follows-prune (seen st) p (version_in (slots_of h)) (removes-past st w (version_in (slots_of h)) p agrees removes) w agrees.found in
     agree agrees stays.in_use (marks-stay st.sessions) (unmade refl refl) (subst (λ t. relation_agrees.HeapAgrees (seen_in (slots_of h) t st.sessions) w) (sym statuses) f.1) (record {
       count = agrees.sound.count;
       max_pages = limit ∙ agrees.sound.max_pages;
@@ -195,14 +199,41 @@ pruned st h p w prunes agrees =
       table = subst (λ t. SoundTable h (earliest (next_id t) (held_back st.sessions))) (sym statuses) stays.sound;
     })
 
-pub Follows-prune : (st st' : State) (p : ℕ) → Cleans st st' p → Follows st (step.Prune p) reply.Done st'
-Follows-prune st st' p cleans w agrees =
-    let stays = pruned-stays st.heap st'.heap p (horizon_of st) agrees.sound.table cleans.heap in
-    let is : st' ≡ with_parts st st'.heap = same st'.settings st'.heap st'.sessions st.settings st.sessions cleans.settings cleans.sessions in
-    (tt, subst (λ st'. Agrees st' w) (sym is) (pruned st st'.heap p w cleans.heap agrees), stays.led)
+pruned : (st : State) (h : HeapView) (p : ℕ) (w : World) → Prunes st.heap h p (horizon_of st) → Agrees st w → Agrees (with_parts st h) w
+pruned st h p w prunes agrees = thinned st h p w (ap (λ (g : HeapView). g.statuses) prunes.is) (ap (λ (g : HeapView). g.max_pages) prunes.is)
+    (pruned-stays st.heap h p (horizon_of st) agrees.sound.table prunes) (prunes-stand st.heap h p (horizon_of st) prunes) agrees
+
+with-heap : (st st' : State) → st'.settings ≡ st.settings → st'.sessions ≡ st.sessions → st' ≡ with_parts st st'.heap
+with-heap st st' settings sessions = same st'.settings st'.heap st'.sessions st.settings st.sessions settings sessions
   where
     same : (a : Settings) (h : HeapView) (xs : List (Option Session)) (b : Settings) (ys : List (Option Session)) → a ≡ b → xs ≡ ys → state_with a h xs ≡ state_with b h ys
     same a h xs b ys e f = rw (e, f) refl
+
+pub Follows-prune : (st st' : State) (p : ℕ) → Cleans st st' p → Follows st (step.Prune p) reply.Done st'
+Follows-prune st st' p cleans w agrees =
+    let stays = pruned-stays st.heap st'.heap p (horizon_of st) agrees.sound.table cleans.heap in
+    (tt, subst (λ st'. Agrees st' w) (sym (with-heap st st' cleans.settings cleans.sessions)) (pruned st st'.heap p w cleans.heap agrees), stays.led)
+
+-- a plan that checks, whoever made it
+pub Follows-apply : (st st' : State) (p : ℕ) (plan : PlanToApply) → AppliesPlan st st' p plan → Follows st (step.ApplyPlan p plan) reply.Done st'
+Follows-apply st st' p plan a w agrees =
+    let stays = applied-stays st.heap st'.heap p (horizon_of st) plan.change plan.actions agrees.sound.table a.heap in (
+      tt,
+      subst (λ st'. Agrees st' w) (sym (with-heap st st' a.settings a.sessions)) (thinned st st'.heap p w (ap (λ (g : HeapView). g.statuses) a.heap.is)
+          (ap (λ (g : HeapView). g.max_pages) a.heap.is) stays (applies-stand st.heap st'.heap p (horizon_of st) plan.change plan.actions a.heap) agrees),
+      stays.led,
+    )
+
+-- the refusal of a plan that is not applied
+abbrev pub named : ApplyFault → Refusal
+named apply_fault.NoSuchPage = refusal.NoSuchPage
+named apply_fault.Stale = refusal.Stale
+
+pub Follows-unapplied : (st : State) (p : ℕ) (plan : PlanToApply) (fault : ApplyFault) → Follows st (step.ApplyPlan p plan) (reply.Refused (named fault)) st
+Follows-unapplied st p plan apply_fault.NoSuchPage =
+    Follows-same st (step.ApplyPlan p plan) (reply.Refused refusal.NoSuchPage) tt (theory.Follows-unapplied (seen st) p plan refusal.NoSuchPage (λ w. tt))
+Follows-unapplied st p plan apply_fault.Stale =
+    Follows-same st (step.ApplyPlan p plan) (reply.Refused refusal.Stale) tt (theory.Follows-unapplied (seen st) p plan refusal.Stale (λ w. tt))
 
 pub Follows-no_such_page : (st : State) (p : ℕ) → Follows st (step.Prune p) (reply.Refused refusal.NoSuchPage) st
 Follows-no_such_page st p = Follows-same st (step.Prune p) (reply.Refused refusal.NoSuchPage) tt (theory.Follows-unpruned (seen st) p refusal.NoSuchPage (λ w. tt))

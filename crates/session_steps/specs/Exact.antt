@@ -8,7 +8,10 @@ use Rattle.commit_status.specs.declared.status.Status.TheVariants as status
 use Rattle.commit_status.specs.Window.{next_id}
 use Rattle.snapshot.specs.Snap.{Snap, taken}
 use Rattle.heap_write.specs.Heap.{HeapView}
-use Rattle.heap_write.specs.Writes.{Prunes}
+use Rattle.heap_write.specs.Writes.{Prunes, Applies}
+use Rattle.heap_write.specs.Refusals.{Unapplied}
+use Rattle.heap_write.specs.declared.applying.ApplyFault.{ApplyFault}
+use Rattle.heap_write.specs.declared.applying.ApplyFault.TheVariants as apply_fault
 use Rattle.heap_write.specs.declared.heap.WriteFault.{WriteFault}
 use Rattle.heap_write.specs.declared.heap.WriteFault.TheVariants as fault
 use Rattle.calls.specs.declared.step.Step.{Step}
@@ -16,7 +19,7 @@ use Rattle.calls.specs.declared.step.Step.TheVariants as step
 use Rattle.calls.specs.declared.reply.Reply.{Reply}
 use Rattle.calls.specs.declared.reply.Reply.TheVariants as reply
 use Rattle.calls.specs.declared.reply.Refusal.TheVariants as refusal
-use Rattle.calls.specs.Words.{row_of}
+use Rattle.calls.specs.Words.{PlanToApply, row_of}
 use Rattle.refinement.specs.Cursors.{heap_start}
 use Rattle.session_steps.specs.declared.session.Session.{Session}
 use Rattle.session_steps.specs.declared.session.SessionIsolation.TheVariants.{BySnapshot, ByStatement}
@@ -82,6 +85,16 @@ pub record Cleans (old new : State) (p : ℕ) : Type 0 where
   pub sessions : new.sessions ≡ old.sessions
   pub heap : Prunes old.heap new.heap p (horizon_of old)
 
+-- a plan that checks at the horizon is applied to one page, and nothing else changes
+pub record AppliesPlan (old new : State) (p : ℕ) (plan : PlanToApply) : Type 0 where
+  pub settings : new.settings ≡ old.settings
+  pub sessions : new.sessions ≡ old.sessions
+  pub heap : Applies old.heap new.heap p (horizon_of old) plan.change plan.actions
+
+-- a plan is not applied to the page, for this reason, and all stays
+abbrev pub LeavesPlan : State → ℕ → PlanToApply → ApplyFault → State → Type 0
+LeavesPlan old p plan fault new = Unapplied old.heap p (horizon_of old) plan.change plan.actions fault × (new ≡ old)
+
 -- the snapshot that is taken now
 abbrev pub snapshot_of : State → Snap
 snapshot_of st = taken (next_id st.heap.statuses) (owns_of st.sessions)
@@ -118,7 +131,7 @@ OpensCursor old new s cursor = HasCursor old new s (Some cursor) (Some (snapshot
 -- a beginning takes no id, and by snapshot the snapshot of that moment, and an end gives its status to the session's ids, and no
 -- others; neither changes a page, nor do savepoints; a return to one aborts the ids that were given since, and no others; a step of
 -- a cursor changes that cursor alone, but by statement a snapshot is kept from its opening to its closing; memory is refused only
--- where something has to grow, and never to a prune, a beginning by statement or the opening of a cursor by snapshot. (That no read,
+-- where something has to grow, and never to a prune or a plan, a beginning by statement or the opening of a cursor by snapshot. (That no read,
 -- return, release, closing, commit or abort is refused memory is said by what the history allows.)
 abbrev pub Exact : State → Step → Reply → State → Type 0
 Exact old (step.Begin s) reply.Done new = Opens old new s (BySnapshot (snapshot_of old))
@@ -149,6 +162,10 @@ Exact old (step.Abort s) reply.RolledBack new = Closes old new s status.Aborted
 Exact old (step.Prune p) reply.Done new = Cleans old new p
 Exact old (step.Prune p) (reply.Refused refusal.NoSuchPage) new = (length old.heap.pages.pages ≤ p) × (new ≡ old)
 Exact old (step.Prune p) (reply.Refused refusal.NoMemory) new = ⊥
+Exact old (step.ApplyPlan p plan) reply.Done new = AppliesPlan old new p plan
+Exact old (step.ApplyPlan p plan) (reply.Refused refusal.NoSuchPage) new = LeavesPlan old p plan apply_fault.NoSuchPage new
+Exact old (step.ApplyPlan p plan) (reply.Refused refusal.Stale) new = LeavesPlan old p plan apply_fault.Stale new
+Exact old (step.ApplyPlan p plan) (reply.Refused refusal.NoMemory) new = ⊥
 Exact old step (reply.Refused refusal) new = new ≡ old
 Exact old step reply new = ⊥
 

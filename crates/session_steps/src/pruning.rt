@@ -1,4 +1,4 @@
-//! A page is cleaned while sessions go on.
+//! A page is cleaned, or a plan for one is applied, while sessions go on.
 
 ghost use Rattle.std.specs.Prelude.{◌≡◌, take};
 ghost use Rattle.snapshot.specs.Snap.{earliest};
@@ -10,8 +10,8 @@ ghost use Rattle.session_steps.specs.Replies.{reply_to};
 use crate::engine::SessionEngine;
 use crate::outcome::Ack;
 use crate::session::Session;
-use calls::Refusal;
-use heap_write::PruneFault;
+use calls::{PlanIn, Refusal};
+use heap_write::{ApplyFault, PruneFault};
 use snapshot::{OwnIds, earlier};
 use xid_circle::Xid;
 
@@ -62,6 +62,23 @@ impl SessionEngine {
         match self.heap.prune(page, horizon) {
             Ok(()) => Ok(Ack::Done),
             Err(PruneFault::NoSuchPage) => Err(Refusal::NoSuchPage),
+        }
+    }
+
+    /// Does on the page what the plan names, where it checks: made for this page as it is, and taking nothing that somebody may see.
+    /// Refusals in order: NoSuchPage, Stale. It takes no memory.
+    pub(crate) fn apply_plan(&mut self, page: u32, plan: &PlanIn) -> Result<Ack, Refusal>
+        ensures { AnswersStep self.old (Step.ApplyPlan page plan.now) (reply_to result) self.new }
+    {
+        let horizon = self.horizon();
+        let actions = plan.actions.as_slice();
+        match self
+            .heap
+            .apply_if_checked(page, plan.change, actions, horizon)
+        {
+            Ok(()) => Ok(Ack::Done),
+            Err(ApplyFault::NoSuchPage) => Err(Refusal::NoSuchPage),
+            Err(ApplyFault::Stale) => Err(Refusal::Stale),
         }
     }
 }

@@ -43,6 +43,7 @@ impl SessionEngine {
             Step::Commit(s) => self.commit(s),
             Step::Abort(s) => self.abort(s),
             Step::Prune(page) => self.prune(page),
+            Step::ApplyPlan(page, plan) => self.apply_plan(page, &plan),
             Step::VacuumBegin(_) | Step::VacuumStep | Step::VacuumCancel | Step::CreateIndex(_) => {
                 return;
             }

@@ -175,6 +175,14 @@ fn makes_fail(reply: &Reply) -> bool {
     matches!(reply, Reply::Refused(Refusal::Conflict | Refusal::Deadlock))
 }
 
+// What the engine has to reply to a plan of a page in use, where it has replied this. Whether the plan checks is left to it.
+fn expected_of_plan(reply: &Reply) -> Reply {
+    match reply {
+        Reply::Refused(Refusal::Stale) => Reply::Refused(Refusal::Stale),
+        _ => Reply::Done,
+    }
+}
+
 // Whether the step was done. What is read changes nothing, and isn't asked for here.
 fn is_done(reply: &Reply) -> bool {
     matches!(reply, Reply::Done | Reply::Committed | Reply::RolledBack)
@@ -330,7 +338,7 @@ impl Pair {
             ids: self.engine.ids(),
             needs_freeze: self.needs_freeze(step),
             has_page: match step {
-                Step::Prune(page) => self.engine.page(*page).is_some(),
+                Step::Prune(page) | Step::ApplyPlan(page, _) => self.engine.page(*page).is_some(),
                 _ => false,
             },
             has_index: match step {
@@ -440,13 +448,11 @@ impl Pair {
             return self.expected_of_write(s, step, before, reply);
         }
         match step {
-            Step::Prune(_) => {
-                if before.has_page {
-                    Some(Reply::Done)
-                } else {
-                    Some(Reply::Refused(Refusal::NoSuchPage))
-                }
+            Step::Prune(_) | Step::ApplyPlan(_, _) if !before.has_page => {
+                Some(Reply::Refused(Refusal::NoSuchPage))
             }
+            Step::Prune(_) => Some(Reply::Done),
+            Step::ApplyPlan(_, _) => Some(expected_of_plan(reply)),
             Step::VacuumBegin(_) | Step::VacuumStep | Step::VacuumCancel => {
                 expected_of_vacuum(self.vacuum, before.ids.1, step, reply)
             }

@@ -69,7 +69,7 @@ fn reply_written(answered: Result<(), Refused>) -> Option<Reply>
 }
 
 /// Does the step, whose row is not too large. Nothing is answered where the engine has no word for the answer, and to
-/// the pruning of a page and the steps of a vacuum, of which the history knows nothing.
+/// the pruning of a page, a plan and the steps of a vacuum, of which the history knows nothing.
 pub(crate) fn answer(plain: &mut PlainHistory, step: &Step) -> Option<Reply> {
     match step {
         Step::Begin(s) => reply_done(plain.begin(*s)),
@@ -90,7 +90,8 @@ pub(crate) fn answer(plain: &mut PlainHistory, step: &Step) -> Option<Reply> {
         Step::Next(s, count) => reply_rows(plain.next(*s, *count)),
         Step::Close(s) => reply_done(plain.close(*s)),
         Step::CreateIndex(column) => reply_done(plain.make_index(*column)),
-        Step::Prune(_) | Step::VacuumBegin(_) | Step::VacuumStep | Step::VacuumCancel => None,
+        Step::Prune(_) | Step::ApplyPlan(_, _) => None,
+        Step::VacuumBegin(_) | Step::VacuumStep | Step::VacuumCancel => None,
     }
 }
 

@@ -14,14 +14,16 @@ use Rattle.commit_status.specs.Window.{Window, IsActive}
 use Rattle.visibility.specs.Visible.{IsDead}
 use Rattle.sound_page.proofs.Undone.{committed-some}
 use Rattle.hot_chain.specs.Chain.{has_aborted, is_root, is_root_in}
-use Rattle.prune.specs.declared.action.Action.{Action}
+use Rattle.prune_actions.specs.declared.Action.{Action}
 use Rattle.prune.specs.Actions.{acted}
 use Rattle.prune.specs.Pruning.{PrunesSlot, by_root, by_none, IsPruned, loose_in, orphan_action}
 use Rattle.sound_page.specs.Sound.{lead, IsIn, SoundPage}
 use Rattle.sound_page.proofs.Links.{member-version}
 use Rattle.sound_page.proofs.ChainPlaces.{place-of}
 use Rattle.prune.proofs.Removing.{pruned-removes}
-use Rattle.prune.proofs.SoundAfter.{pruned-sound, pruned-keeps_chains}
+use Rattle.prune.specs.Thinning.{IsThinned}
+use Rattle.prune.proofs.Thinned.{thinned-sound, thinned-keeps_chains, thinned-dead}
+use Rattle.prune.proofs.Thins.{pruned-thins}
 use Rattle.tuple_writes.specs.Headers.{root_header, heap_only_header, replaced_header}
 use Rattle.tuple_writes.specs.Writes.{with_root, with_replaced, with_updated}
 use Rattle.tuple_writes.specs.Keeps.{IsDeletable, KeepsEntries}
@@ -216,23 +218,23 @@ dead-stays w horizon slots after n p at =
         let none : orphan_action w slots n ≡ None = ap (λ (s : Option Slot). loose_in w (option_map (λ t. t.header) (option_and_then version_of s))) at in
         is ∙ ap (acted (slot_at slots n)) (e ∙ none) ∙ at
 
-prunes-page : (value_of : Row → ℤ) (since : Option ℕ) (w : Window) (horizon : ℕ) (slots after : List Slot) → SoundPage w horizon slots → IsPruned w horizon slots after
+thins-page : (value_of : Row → ℤ) (since : Option ℕ) (w : Window) (horizon : ℕ) (slots after : List Slot) → SoundPage w horizon slots → IsThinned w horizon slots after
     → PageGoesOn value_of since w w slots after (λ n. ⊥)
-prunes-page value_of since w horizon slots after sound p =
-    let chains = pruned-keeps_chains w horizon slots after sound p in
+thins-page value_of since w horizon slots after sound p =
+    let chains = thinned-keeps_chains w horizon slots after sound p in
     record {
       stays = λ n may. ⊎_elim
           (λ root. ⊎_elim
           (λ same. stays-as (slot_at slots n) (slot_at after n) same may)
           (λ led. leads n root led.0 led.1)
           (chains.roots n root))
-          (λ dead. let is = dead-stays w horizon slots after n p dead in (inr is, died is))
+          (λ dead. let is = thinned-dead w horizon slots after n p dead in (inr is, died is))
           may;
       chains = λ root n t i at. inl (record {
         place = n;
         version = t;
         within = chains.no_new root n i;
-        there = (pruned-removes w horizon slots after p).kept n t at;
+        there = p.removes.kept n t at;
         value = refl;
         key = refl;
         excused = λ excused. excused;
@@ -284,12 +286,18 @@ updating-stays value_of since w horizon n k x page pages pages' entries row old 
     stays-on value_of since w horizon n pages pages' entries (with_updated slots k x page row) sound puts a.sound
     (updates-page value_of since w horizon k x page slots row old (sound.heap n) free few there value key a)
 
+pub thinning-stays : (value_of : Row → ℤ) (since : Option ℕ) (w : Window) (horizon n : ℕ) (pages pages' : List (List Slot)) (entries : List Entry) (after : List Slot)
+    → EntriesAreSound value_of since w horizon pages entries → IsThinned w horizon (slots_on pages n) after → Puts pages pages' n after
+    → StaysSound value_of since w horizon pages pages' entries entries
+thinning-stays value_of since w horizon n pages pages' entries after sound p puts =
+    stays-on value_of since w horizon n pages pages' entries after sound puts (thinned-sound w horizon (slots_on pages n) after (sound.heap n) p)
+    (thins-page value_of since w horizon (slots_on pages n) after (sound.heap n) p)
+
 pub pruning-stays : (value_of : Row → ℤ) (since : Option ℕ) (w : Window) (horizon n : ℕ) (pages pages' : List (List Slot)) (entries : List Entry) (after : List Slot)
     → EntriesAreSound value_of since w horizon pages entries → IsPruned w horizon (slots_on pages n) after → Puts pages pages' n after
     → StaysSound value_of since w horizon pages pages' entries entries
 pruning-stays value_of since w horizon n pages pages' entries after sound p puts =
-    stays-on value_of since w horizon n pages pages' entries after sound puts (pruned-sound w horizon (slots_on pages n) after (sound.heap n) p)
-    (prunes-page value_of since w horizon (slots_on pages n) after (sound.heap n) p)
+    thinning-stays value_of since w horizon n pages pages' entries after sound (pruned-thins w horizon (slots_on pages n) after p (sound.heap n)) puts
 
 pub growing-stays : (value_of : Row → ℤ) (since : Option ℕ) (w : Window) (horizon n : ℕ) (pages pages' : List (List Slot)) (entries : List Entry)
     → EntriesAreSound value_of since w horizon pages entries → Puts pages pages' n (slots_on pages n) → StaysSound value_of since w horizon pages pages' entries entries

@@ -16,6 +16,7 @@ use Rattle.visibility.specs.Visible.{IsVisible, IsOtherWriterIn, IsNewerCommitIn
 use Rattle.visibility.specs.Seeing.{Touches}
 use Rattle.hot_chain.specs.Chain.{is_root_in}
 use Rattle.prune.specs.Pruning.{IsPruned}
+use Rattle.prune.specs.Thinning.{IsThinned}
 use Rattle.tuple_writes.specs.Writes.{with_replaced, with_root, with_updated}
 use Rattle.tuple_writes.specs.Keeps.{IsDeletable}
 use Rattle.tuple_writes.specs.Laws.{DeletedWhatWasMade, AloneDeletedTheirs}
@@ -139,6 +140,12 @@ UpdatingKeepsEntries = (value_of : Row → ℤ) (since : Option ℕ) (w : Window
 abbrev pub PruningKeepsEntries : Type 0
 PruningKeepsEntries = (value_of : Row → ℤ) (since : Option ℕ) (w : Window) (horizon n : ℕ) (pages pages' : List (List Slot)) (entries : List Entry) (after : List Slot)
     → EntriesAreSound value_of since w horizon pages entries → IsPruned w horizon (slots_on pages n) after → Puts pages pages' n after
+    → StaysSound value_of since w horizon pages pages' entries entries
+
+-- or by a part of that, as by any plan that checks
+abbrev pub ThinningKeepsEntries : Type 0
+ThinningKeepsEntries = (value_of : Row → ℤ) (since : Option ℕ) (w : Window) (horizon n : ℕ) (pages pages' : List (List Slot)) (entries : List Entry) (after : List Slot)
+    → EntriesAreSound value_of since w horizon pages entries → IsThinned w horizon (slots_on pages n) after → Puts pages pages' n after
     → StaysSound value_of since w horizon pages pages' entries entries
 
 -- a page without slots comes into use

@@ -1,6 +1,6 @@
 //! The laws of sound entries. Each function does nothing: its contract is the law.
 
-ghost use Rattle.sound_entries.specs.Laws.{LedByEntry, EachRootHasEntry, FoundByIndex, TouchedByIndex, FoundIsOnHeap, TheRowIsFound, PlaceIsOnHeap, NewerCommitIsOnHeap, OtherWriterIsOnHeap, WhoMayScanSeesNoExcused, WhoBeginsMayScan, GivingKeepsSince, FinishingKeepsSince, NoEntriesAreSound, AddingKeepsEntries, TakingKeepsEntries, UpdatingKeepsEntries, PruningKeepsEntries, PagesGrowSound, EntriesGoSound, GivingKeepsEntries, CommittingKeepsEntries, AbortingKeepsEntries, LaterHorizonKeepsEntries, LedByTwoSteps};
+ghost use Rattle.sound_entries.specs.Laws.{LedByEntry, EachRootHasEntry, FoundByIndex, TouchedByIndex, FoundIsOnHeap, TheRowIsFound, PlaceIsOnHeap, NewerCommitIsOnHeap, OtherWriterIsOnHeap, WhoMayScanSeesNoExcused, WhoBeginsMayScan, GivingKeepsSince, FinishingKeepsSince, NoEntriesAreSound, AddingKeepsEntries, TakingKeepsEntries, UpdatingKeepsEntries, PruningKeepsEntries, ThinningKeepsEntries, PagesGrowSound, EntriesGoSound, GivingKeepsEntries, CommittingKeepsEntries, AbortingKeepsEntries, LaterHorizonKeepsEntries, LedByTwoSteps};
 
 /// A version that is neither undone nor excused is in the chain of exactly one entry, which has its value and its key.
 pub fn led_by_entry()
@@ -91,6 +91,11 @@ pub fn updating_keeps_entries()
 /// The table stays sound when a page is pruned. The entries stay.
 pub fn pruning_keeps_entries()
     ensures { PruningKeepsEntries }
+{}
+
+/// The table stays sound when of each chain of a page a prefix goes that pruning would cut. The entries stay.
+pub fn thinning_keeps_entries()
+    ensures { ThinningKeepsEntries }
 {}
 
 /// The table stays sound when a page comes into use.

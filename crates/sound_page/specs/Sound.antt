@@ -6,7 +6,6 @@ use Rattle.page_slots.specs.Slots.{slot_at, version_at}
 use Rattle.tuple_header.specs.Version.{Version}
 use Rattle.tuple_header.specs.Marks.{is_heap_only}
 use Rattle.commit_status.specs.Window.{Window, IsCommitted, IsAborted}
-use Rattle.xid_circle.specs.Circle.{Precedes}
 use Rattle.visibility.specs.Visible.{IsFrozen}
 use Rattle.hot_chain.specs.Chain.{has_aborted, is_replaced, is_root}
 use Rattle.sound_page.specs.Links.{link, Reaches}
@@ -30,11 +29,11 @@ pub record IsIn (w : Window) (slots : List Slot) (root n : ℕ) : Type 0 where
   pub later : Reaches (link w slots) entry n
 
 -- a heap-only version, made for good
-pub record IsTarget (w : Window) (horizon : ℕ) (slots : List Slot) (k : ℕ) : Type 0 where
+pub record IsTarget (w : Window) (slots : List Slot) (k : ℕ) : Type 0 where
   pub version : Version
   pub there : version_at slots k ≡ Some version
   pub heap_only : is_heap_only version.header ≡ true
-  pub made : IsFrozen version.header ⊎ (IsCommitted w version.header.xmin.0 × Precedes version.header.xmin.0 horizon)
+  pub made : IsFrozen version.header ⊎ IsCommitted w version.header.xmin.0
 
 pub record SomeRoot (w : Window) (slots : List Slot) (n : ℕ) : Type 0 where
   pub root : ℕ
@@ -57,7 +56,7 @@ pub record SoundPage (w : Window) (horizon : ℕ) (slots : List Slot) : Type 0 w
   pub whole : (n : ℕ) (t : Version) → version_at slots n ≡ Some t → is_replaced (has_aborted w) t.header ≡ true → SomeNext w slots n
   -- a chain does not come back
   pub ends : (n k : ℕ) → link w slots n ≡ Some k → ¬ Reaches (link w slots) k n
-  pub redirects : (n k : ℕ) → slot_at slots n ≡ Some (Redirect k) → IsTarget w horizon slots k
+  pub redirects : (n k : ℕ) → slot_at slots n ≡ Some (Redirect k) → IsTarget w slots k
   -- a heap-only version is in one chain, unless its inserter is aborted
   pub owned : (n : ℕ) (t : Version) → version_at slots n ≡ Some t → is_heap_only t.header ≡ true
       → (¬ IsFrozen t.header × IsAborted w t.header.xmin.0) ⊎ SomeRoot w slots n

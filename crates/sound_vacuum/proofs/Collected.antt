@@ -29,14 +29,17 @@ use Rattle.index_lookup.specs.Pages as lists
 use Rattle.table_indexes.specs.Indexes.{entries_at, entries_in, since_at, IsInUse, SameEntries}
 use Rattle.table_indexes.proofs.IndexLemmas.{same-entries}
 use Rattle.heap_write.specs.Heap.{HeapView, slots_of, page_on, Keeps}
-use Rattle.heap_write.specs.Writes.{PutsRoot, SetsXmax, HotUpdates, ColdUpdates, UpdatesOnPage, Replaces, PrunesIfFull, Prunes}
+use Rattle.heap_write.specs.Writes.{PutsRoot, SetsXmax, HotUpdates, ColdUpdates, UpdatesOnPage, Replaces, PrunesIfFull, Prunes, Applies}
+use Rattle.prune_actions.specs.declared.Action.{Action}
+use Rattle.prune.specs.Actions.{applied}
+use Rattle.prune.proofs.IdlePlans.{checked-dead}
 use Rattle.heap_write.specs.Refusals.{FailsUpdate}
 use Rattle.heap_write.specs.declared.heap.WriteFault.{WriteFault}
 use Rattle.heap_write.specs.declared.heap.WriteFault.TheVariants as fault
 use Rattle.table_integrity.specs.Table.{SoundTable, StaysSoundTable}
 use Rattle.table_integrity.specs.Laws.{FinishesInTable}
 use Rattle.table_integrity.specs.Readers.{FindsAt, FindsRowAt, FindsTheSame}
-use Rattle.table_integrity.proofs.Places.{slots_on-page_on, version-on, free_place, root_version, root-puts, root-stands, away-puts, here-puts, by-root-still, prunes-on, prunes-puts}
+use Rattle.table_integrity.proofs.Places.{slots_on-page_on, version-on, free_place, root_version, root-puts, root-stands, away-puts, here-puts, by-root-still, prunes-on, prunes-puts, applies-on, applies-puts}
 use Rattle.table_integrity.proofs.InUse.{used-by, same-in, enters-used, enters-adds, index-sound, table-stays}
 use Rattle.root_index.specs.declared.progress.Progress.{Progress}
 use Rattle.root_index.specs.declared.progress.Progress.TheVariants.{Done}
@@ -122,6 +125,12 @@ pruned-keep h h' number horizon p = same-keep h h' (same-entries h.indexes h'.in
     (subst (λ slots. DeadStay slots p.after.slots) (sym (prunes-on h h' number horizon p))
     (λ k dead. dead-stays h.statuses horizon p.before.slots p.after.slots k p.pruned dead)))
 
+applied-keep : (h h' : HeapView) (number horizon change : ℕ) (actions : List (ℕ × Action)) → Applies h h' number horizon change actions → KeepsDeadSlots h h'
+applied-keep h h' number horizon change actions a = same-keep h h' (same-entries h.indexes h'.indexes (ap (λ (g : HeapView). g.indexes) a.is))
+    (put-dead (slots_of h) (slots_of h') number (applied actions a.before).slots (applies-puts h h' number horizon change actions a)
+    (subst (λ slots. DeadStay slots (applied actions a.before).slots) (sym (applies-on h h' number horizon change actions a))
+    (checked-dead h.statuses horizon a.before change actions a.checks)))
+
 readied-keep : (h h' : HeapView) (place : Tid) (horizon size : ℕ) → PrunesIfFull h h' place horizon size → KeepsDeadSlots h h'
 readied-keep h h' place horizon size (PrunesIfFull.has_room room is) =
     pages-keep h h' (ap (λ (g : HeapView). slots_of g) is) (same-entries h.indexes h'.indexes (ap (λ (g : HeapView). g.indexes) is))
@@ -192,6 +201,7 @@ steps-keep h h' (StepsBetween.fails_update own place row horizon fault f) = fail
 steps-keep h h' (StepsBetween.keeps k) = kept-keep h h' k
 steps-keep h h' (StepsBetween.finishes ids status f) = finished-keep h h' ids status f
 steps-keep h h' (StepsBetween.prunes number horizon p) = pruned-keep h h' number horizon p
+steps-keep h h' (StepsBetween.applies number horizon change actions a) = applied-keep h h' number horizon change actions a
 steps-keep h h' (StepsBetween.visits horizon cutoff p v) = visited-keep h h' horizon cutoff p v
 
 -- A piece of an index.

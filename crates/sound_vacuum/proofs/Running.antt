@@ -20,8 +20,12 @@ use Rattle.index_nodes.specs.declared.entry.Entry.{Entry}
 use Rattle.index_lookup.specs.Pages.{slots_on, slot_in, version_in}
 use Rattle.table_indexes.specs.Indexes.{IndexesView, entries_in, IsInUse}
 use Rattle.heap_write.specs.Heap.{HeapView, slots_of}
-use Rattle.heap_write.specs.Writes.{Prunes}
-use Rattle.table_integrity.proofs.Places.{prunes-on, prunes-puts}
+use Rattle.heap_write.specs.Writes.{Prunes, Applies}
+use Rattle.page_slots.specs.View.{PageView}
+use Rattle.prune_actions.specs.declared.Action.{Action}
+use Rattle.prune.specs.Actions.{applied}
+use Rattle.prune.proofs.IdlePlans.{checked-idle}
+use Rattle.table_integrity.proofs.Places.{BecomesPage, becomes-on, becomes-puts, prunes-becomes, prunes-puts, applies-becomes}
 use Rattle.calls.specs.declared.vacuum.Mode.{Mode}
 use Rattle.calls.specs.declared.vacuum.Mode.TheVariants.{Aggressive}
 use Rattle.calls.specs.declared.vacuum.Piece.{Piece}
@@ -48,7 +52,7 @@ use Rattle.sound_vacuum.proofs.Cleaned.{steps-end, stays-clean, stays-young, vis
 use Rattle.sound_vacuum.proofs.Growing.{steps-grow, steps-upto}
 use Rattle.vacuum_passes.proofs.OnePage.{never-drops}
 use Rattle.sound_vacuum.proofs.Behind.{nothing-behind, piece-behind, index-behind, all-behind, steps-behind, steps-all}
-use Rattle.sound_vacuum.proofs.Settled.{settled-idle, freed-visible}
+use Rattle.sound_vacuum.proofs.Settled.{settled-alive, settled-idle, freed-visible}
 use Rattle.sound_vacuum.proofs.Stepping.{first-cutoff, the-cutoff, active-late, active-young, skipped-visible, skipped-frozen, notes-marks, notes-same, notes-slots, notes-version, notes-count, notes-page, visit-table, visit-marks, visit-safe, sweep-table, sweep-safe, free-table, free-marks, free-safe, same-safe}
 use Rattle.sound_vacuum.proofs.Readying.{clean-same, young-same, clean-less, young-less, ids-same, ready-same, passed-ready}
 
@@ -498,24 +502,38 @@ pub others-go_on : (h h' : HeapView) (v : VacuumView) (horizon later : ℕ) → 
     → turns h.statuses.first horizon ≤ turns h.statuses.first later → KeepsVacuum h horizon v → KeepsVacuum h' later (disturbed true v)
 others-go_on h h' v horizon later can can' step on keeps = others-keep h h' v horizon later true can can' step on keeps (λ e last. absurd (cc e))
 
-pub pruning-goes_on : (h h' : HeapView) (v : VacuumView) (horizon number at : ℕ) → CanVacuum h horizon → CanVacuum h' horizon → Prunes h h' number at
+-- a page alone changes, and what is settled on it stays
+page-goes_on : (h h' : HeapView) (v : VacuumView) (horizon number : ℕ) (before after : PageView) → CanVacuum h horizon → CanVacuum h' horizon → StepsBetween h h'
+    → BecomesPage h h' number before after → (AreSettled h.statuses horizon before.slots → after.slots ≡ before.slots)
     → KeepsVacuum h horizon v → KeepsVacuum h' horizon (disturbed false v)
-pruning-goes_on h h' v horizon number at can can' p keeps = others-keep h h' v horizon horizon false can can' (StepsBetween.prunes number at p) (omega arith) keeps (λ quiet last.
+page-goes_on h h' v horizon number before after can can' step b idle keeps = others-keep h h' v horizon horizon false can can' step (omega arith) keeps (λ quiet last.
     let none : horizon ≡ next_id h.statuses = last ∙ ap next_id ids in
     let k = keeps.quiet quiet none in
     record {
-      pages = ap (λ (g : HeapView). length g.pages.pages) p.is ∙ length-set h.pages.pages number p.after ∙ k.pages;
+      pages = ap (λ (g : HeapView). length g.pages.pages) b.is ∙ length-set h.pages.pages number after ∙ k.pages;
       ready = λ mode q below.
           let r = k.ready mode q below in
-          ready-same h h' horizon v.store v.store q ids (⊎_elim (λ same. same-there q same r.settled) (λ off. (prunes-puts h h' number at p).others q off) (cases_eq q number))
-          (ap (λ (g : HeapView). mark_on g.pages.marks q) p.is) (λ n there. there) r;
+          ready-same h h' horizon v.store v.store q ids (⊎_elim (λ same. same-there q same r.settled) (λ off. (becomes-puts h h' number before after b).others q off) (cases_eq q number))
+          (ap (λ (g : HeapView). mark_on g.pages.marks q) b.is) (λ n there. there) r;
     })
   where
     ids : h'.statuses ≡ h.statuses
-    ids = ap (λ (g : HeapView). g.statuses) p.is
+    ids = ap (λ (g : HeapView). g.statuses) b.is
 
     same-there : (q : ℕ) → q ≡ number → AreSettled h.statuses horizon (slots_on (slots_of h) q) → slots_on (slots_of h') q ≡ slots_on (slots_of h) q
     same-there q same settled =
-        let on = prunes-on h h' number at p in
-        let idle = settled-idle h.statuses horizon at p.before.slots p.after.slots (subst (AreSettled h.statuses horizon) (ap (slots_on (slots_of h)) same ∙ on) settled) p.pruned in
-        ap (slots_on (slots_of h')) same ∙ (prunes-puts h h' number at p).put ∙ idle ∙ sym on ∙ ap (slots_on (slots_of h)) (sym same)
+        let on = becomes-on h h' number before after b in
+        let still = idle (subst (AreSettled h.statuses horizon) (ap (slots_on (slots_of h)) same ∙ on) settled) in
+        ap (slots_on (slots_of h')) same ∙ (becomes-puts h h' number before after b).put ∙ still ∙ sym on ∙ ap (slots_on (slots_of h)) (sym same)
+
+pub pruning-goes_on : (h h' : HeapView) (v : VacuumView) (horizon number at : ℕ) → CanVacuum h horizon → CanVacuum h' horizon → Prunes h h' number at
+    → KeepsVacuum h horizon v → KeepsVacuum h' horizon (disturbed false v)
+pruning-goes_on h h' v horizon number at can can' p keeps =
+    page-goes_on h h' v horizon number p.before p.after can can' (StepsBetween.prunes number at p) (prunes-becomes h h' number at p)
+    (λ settled. settled-idle h.statuses horizon at p.before.slots p.after.slots settled p.pruned) keeps
+
+pub applying-goes_on : (h h' : HeapView) (v : VacuumView) (horizon number at change : ℕ) (actions : List (ℕ × Action)) → CanVacuum h horizon → CanVacuum h' horizon
+    → Applies h h' number at change actions → KeepsVacuum h horizon v → KeepsVacuum h' horizon (disturbed false v)
+applying-goes_on h h' v horizon number at change actions can can' a keeps =
+    page-goes_on h h' v horizon number a.before (applied actions a.before) can can' (StepsBetween.applies number at change actions a) (applies-becomes h h' number at change actions a)
+    (λ settled. checked-idle h.statuses at a.before change actions a.checks (settled-alive h.statuses horizon at a.before.slots settled)) keeps

@@ -26,7 +26,7 @@ use Rattle.table_integrity.proofs.Places.{free_place}
 use Rattle.sound_vacuum.specs.Maps.{MapsAreTrue, flagged_as}
 use Rattle.sound_vacuum.specs.Cleaning.{IsNoVisit}
 use Rattle.sound_vacuum.specs.Between.{StepsBetween}
-use Rattle.sound_vacuum.proofs.Cleaned.{pruned-maps}
+use Rattle.sound_vacuum.proofs.Cleaned.{pruned-maps, applied-maps}
 use Rattle.sound_vacuum.proofs.LaterMaps.{later-of, added-maps}
 use Rattle.sound_vacuum.proofs.Noted.{noted-true}
 use Rattle.sound_vacuum.proofs.OnePage.{set-here, set-other}
@@ -122,6 +122,10 @@ pages-true h h' horizon (StepsBetween.finishes ids status f) none t = subst (λ 
 pages-true h h' horizon (StepsBetween.prunes number later p) none t =
     subst (λ ms. MapsAreTrue h.statuses horizon h'.pages.pages ms) (sym (ap (λ (g : HeapView). g.pages.marks) p.is))
     (subst (λ v. MapsAreTrue v horizon h'.pages.pages h.pages.marks) (ap (λ (g : HeapView). g.statuses) p.is) (pruned-maps h h' h.pages.marks number later horizon t p))
+pages-true h h' horizon (StepsBetween.applies number later change actions a) none t =
+    subst (λ ms. MapsAreTrue h.statuses horizon h'.pages.pages ms) (sym (ap (λ (g : HeapView). g.pages.marks) a.is))
+    (subst (λ v. MapsAreTrue v horizon h'.pages.pages h.pages.marks) (ap (λ (g : HeapView). g.statuses) a.is)
+    (applied-maps h h' h.pages.marks number later change actions horizon t a))
 pages-true h h' horizon (StepsBetween.visits later cutoff p v) none t = absurd none
 
 pub steps-true : (h h' : HeapView) (horizon later : ℕ) (step : StepsBetween h h') → IsNoVisit step → IsWindow h.statuses → IsWindow h'.statuses → IsUpToNext h.statuses horizon → IsUpToNext h'.statuses later

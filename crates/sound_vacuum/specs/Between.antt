@@ -8,7 +8,8 @@ use Rattle.index_nodes.specs.declared.entry.Entry.{Entry}
 use Rattle.index_lookup.specs.Pages.{slot_in}
 use Rattle.table_indexes.specs.Indexes.{entries_at, entries_in, IsInUse}
 use Rattle.heap_write.specs.Heap.{HeapView, slots_of, Keeps}
-use Rattle.heap_write.specs.Writes.{Inserts, Updates, Deletes, Prunes}
+use Rattle.heap_write.specs.Writes.{Inserts, Updates, Deletes, Prunes, Applies}
+use Rattle.prune_actions.specs.declared.Action.{Action}
 use Rattle.heap_write.specs.Refusals.{FailsUpdate}
 use Rattle.heap_write.specs.declared.heap.WriteFault.{WriteFault}
 use Rattle.table_integrity.specs.Table.{SoundTable, StaysSoundTable}
@@ -40,6 +41,8 @@ pub data StepsBetween (h h' : HeapView) : Type 0 where
   keeps : Keeps h h' → StepsBetween h h'
   finishes : (ids : List ℕ) (status : Status) → FinishesInTable h h' ids status → StepsBetween h h'
   prunes : (number horizon : ℕ) → Prunes h h' number horizon → StepsBetween h h'
+  applies : (number horizon change : ℕ) (actions : List (ℕ × Action)) → Applies h h' number horizon change actions
+      → StepsBetween h h'
   visits : (horizon cutoff p : ℕ) → VisitsAt h h' horizon cutoff p → StepsBetween h h'
 
 -- None of them revives a dead slot, or lets an entry come that leads to one. (A new version takes a slot that was unused; so an entry that

@@ -13,17 +13,18 @@ use Rattle.snapshot.specs.Snap.{Snap}
 use Rattle.visibility.specs.Seeing.{Reads}
 use Rattle.visibility.specs.Visible.{ReadsIn, IsVisible}
 use Rattle.visibility.proofs.Dead.{aborted-unread}
+use Rattle.prune_actions.specs.declared.Action.{Action}
 use Rattle.prune.specs.Cutting.{IsCut}
 use Rattle.prune.proofs.Unseen.{cut-unseen}
 use Rattle.sound_page.proofs.ReaderLemmas.{open-reader}
 use Rattle.tuple_writes.proofs.Slotted.{active-some}
 use Rattle.index_lookup.specs.Pages.{slots_on, version_in}
 use Rattle.heap_write.specs.Heap.{HeapView, slots_of}
-use Rattle.heap_write.specs.Writes.{TakesIds, Inserts, Updates, Deletes, Prunes}
+use Rattle.heap_write.specs.Writes.{TakesIds, Inserts, Updates, Deletes, Prunes, Applies}
 use Rattle.table_integrity.specs.Table.{SoundTable, MayDelete}
 use Rattle.table_integrity.specs.Laws.{WritesUnder}
 use Rattle.table_integrity.specs.Readers.{FindsAt, FindsRowAt, IsTableReader, FindsTheSame, IsAuthor, FindsOneMore, Elsewhere}
-use Rattle.table_integrity.proofs.Places.{RemovesOn, Replaced, taken_version, free_place, root_version, root-new, prunes-stand, readies-stand, inserts-stand, deletes-stand, updates-ready, updates-stand}
+use Rattle.table_integrity.proofs.Places.{RemovesOn, Replaced, taken_version, free_place, root_version, root-new, prunes-stand, applies-stand, readies-stand, inserts-stand, deletes-stand, updates-ready, updates-stand}
 use Rattle.table_integrity.proofs.Finding.{both, SameSight, adds-unseen, adds-seen, alters-same, alters-hidden}
 use Rattle.table_integrity.proofs.TakenIds.{takes-ids, takes-versions, takes-active, takes-mine}
 use Rattle.table_integrity.proofs.Sights.{active-unread, new-unseen, new-seen, taken-same, taken-unseen, author-sight}
@@ -50,6 +51,12 @@ pub pruning-unseen : (h h' : HeapView) (number horizon : ℕ) (s : Snap) (own : 
 pruning-unseen h h' number horizon s own sound prunes reader p r =
     subst (λ (w : Window). FindsRowAt h s own p r ↔ FindsAt (IsVisible w s own) (version_in (slots_of h')) p r) (sym (ap (λ (g : HeapView). g.statuses) prunes.is))
     (removed-found h (version_in (slots_of h')) number horizon s own sound reader (prunes-stand h h' number horizon prunes) p r)
+
+pub applying-unseen : (h h' : HeapView) (number horizon change : ℕ) (actions : List (ℕ × Action)) (s : Snap) (own : List ℕ) → SoundTable h horizon → Applies h h' number horizon change actions
+    → IsTableReader h horizon s own → FindsTheSame h h' s own
+applying-unseen h h' number horizon change actions s own sound applies reader p r =
+    subst (λ (w : Window). FindsRowAt h s own p r ↔ FindsAt (IsVisible w s own) (version_in (slots_of h')) p r) (sym (ap (λ (g : HeapView). g.statuses) applies.is))
+    (removed-found h (version_in (slots_of h')) number horizon s own sound reader (applies-stand h h' number horizon change actions applies) p r)
 
 -- a reader that doesn't own the writer's id
 module _ (h h' : HeapView) (horizon : ℕ) (own own' : Own) (x : ℕ) (s : Snap) (ids : List ℕ) (writer : WritesUnder h h' own) (takes : TakesIds h.statuses h'.statuses own own' x)

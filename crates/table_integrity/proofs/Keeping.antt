@@ -8,7 +8,12 @@ use Rattle.commit_status.specs.declared.status.Status.TheVariants.{Committed, Ab
 use Rattle.commit_status.specs.Window.{Window, IsWindow, IsActive, IsUpToNext, turns}
 use Rattle.commit_status.specs.Changes.{Gives}
 use Rattle.prune.specs.Pruning.{IsPruned}
-use Rattle.prune.proofs.SoundAfter.{pruned-sound}
+use Rattle.prune_actions.specs.declared.Action.{Action}
+use Rattle.prune.specs.Actions.{applied}
+use Rattle.prune.specs.Thinning.{IsThinned}
+use Rattle.prune.proofs.Thinned.{thinned-sound}
+use Rattle.prune.proofs.Thins.{checked-thins, pruned-thins}
+use Rattle.sound_page.specs.Sound.{SoundPage}
 use Rattle.tuple_writes.specs.Laws.{DeletedWhatWasMade, AloneDeletedTheirs}
 use Rattle.tuple_writes.proofs.Statuses.{giving-sound, committing-sound, aborting-sound, later-sound}
 use Rattle.snapshot.specs.Own.{Own}
@@ -16,7 +21,7 @@ use Rattle.index_nodes.specs.declared.entry.Entry.{Entry}
 use Rattle.tuple_header.specs.IndexValue.{value_in}
 use Rattle.index_lookup.specs.Pages.{slots_on, Puts}
 use Rattle.sound_entries.specs.Entries.{SoundHeap, SoundEntries, EntriesAreSound, StaysSound}
-use Rattle.sound_entries.proofs.Changes.{pruning-stays, heap-puts}
+use Rattle.sound_entries.proofs.Changes.{thinning-stays, heap-puts}
 use Rattle.sound_entries.proofs.Finishing.{statuses-stay, giving-stays, committing-stays, aborting-stays}
 use Rattle.sound_entries.proofs.Tables.{nothing-sound}
 use Rattle.heap_pages.specs.View.{PagesView}
@@ -25,7 +30,7 @@ use Rattle.index_lookup.specs.Pages as lists
 use Rattle.table_indexes.specs.Indexes.{entries_in, since_at, IsInUse, SameEntries}
 use Rattle.table_indexes.proofs.IndexLemmas.{same-entries, entries-kept}
 use Rattle.heap_write.specs.Heap.{HeapView, SameIds, Keeps, slots_of}
-use Rattle.heap_write.specs.Writes.{TakesIds, PrunesIfFull, Prunes}
+use Rattle.heap_write.specs.Writes.{TakesIds, PrunesIfFull, Prunes, Applies}
 use Rattle.heap_write.specs.Refusals.{FailsUpdate}
 use Rattle.heap_write.specs.declared.heap.WriteFault.{WriteFault}
 use Rattle.heap_write.specs.declared.heap.WriteFault.TheVariants as fault
@@ -34,28 +39,36 @@ use Rattle.table_integrity.specs.Table.{SoundTable, StaysSoundTable}
 use Rattle.table_integrity.specs.Laws.{FinishesInTable}
 use Rattle.table_integrity.proofs.Memory.{same-status, same-sound}
 use Rattle.table_integrity.proofs.TakenIds.{under-keeps, takes-mine, takes-active}
-use Rattle.table_integrity.proofs.Places.{prunes-on, prunes-puts}
+use Rattle.table_integrity.proofs.Places.{BecomesPage, becomes-puts, prunes-becomes, prunes-on, applies-becomes, applies-on}
 use Rattle.table_integrity.proofs.InUse.{OnlyCome, same-come, index-sound, same-stays, stays-then}
 
 -- A page is pruned.
 
-abbrev pub with_pruned : HeapView → ℕ → PageView → HeapView
-with_pruned h number after = record h { pages = record h.pages { pages = slice_set h.pages.pages number after } }
-
-pub pruned-stays : (h h' : HeapView) (number horizon : ℕ) → SoundTable h horizon → Prunes h h' number horizon → StaysSoundTable h h' horizon
-pruned-stays h h' number horizon s p = subst (λ (g : HeapView). StaysSoundTable h g horizon) (sym p.is)
-    (same-stays h after horizon (entries-kept h.indexes) (heap-puts h.statuses horizon number (slots_of h) (slots_of after) p.after.slots s.heap puts
-    (pruned-sound h.statuses horizon (slots_on (slots_of h) number) p.after.slots (s.heap number) pruned))
-    (λ n used. pruning-stays (value_in n) (since_at h.indexes n) h.statuses horizon number (slots_of h) (slots_of after) (entries_in h.indexes n) p.after.slots (index-sound h horizon s n used) pruned puts))
+-- of each chain of one page a prefix goes that pruning would cut
+thinned-stays : (h h' : HeapView) (number horizon : ℕ) (before page : PageView) → SoundTable h horizon → BecomesPage h h' number before page
+    → IsThinned h.statuses horizon (slots_on (slots_of h) number) page.slots → StaysSoundTable h h' horizon
+thinned-stays h h' number horizon before page s b thinned = subst (λ (g : HeapView). StaysSoundTable h g horizon) (sym b.is)
+    (same-stays h after horizon (entries-kept h.indexes) (heap-puts h.statuses horizon number (slots_of h) (slots_of after) page.slots s.heap puts
+    (thinned-sound h.statuses horizon (slots_on (slots_of h) number) page.slots (s.heap number) thinned))
+    (λ n used. thinning-stays (value_in n) (since_at h.indexes n) h.statuses horizon number (slots_of h) (slots_of after) (entries_in h.indexes n) page.slots (index-sound h horizon s n used) thinned puts))
   where
     after : HeapView
-    after = with_pruned h number p.after
+    after = record h { pages = record h.pages { pages = slice_set h.pages.pages number page } }
 
-    pruned : IsPruned h.statuses horizon (slots_on (slots_of h) number) p.after.slots
-    pruned = subst (λ slots. IsPruned h.statuses horizon slots p.after.slots) (sym (prunes-on h h' number horizon p)) p.pruned
+    puts : Puts (slots_of h) (slots_of after) number page.slots
+    puts = subst (λ (g : HeapView). Puts (slots_of h) (slots_of g) number page.slots) b.is (becomes-puts h h' number before page b)
 
-    puts : Puts (slots_of h) (slots_of after) number p.after.slots
-    puts = subst (λ (g : HeapView). Puts (slots_of h) (slots_of g) number p.after.slots) p.is (prunes-puts h h' number horizon p)
+pub pruned-stays : (h h' : HeapView) (number horizon : ℕ) → SoundTable h horizon → Prunes h h' number horizon → StaysSoundTable h h' horizon
+pruned-stays h h' number horizon s p = thinned-stays h h' number horizon p.before p.after s (prunes-becomes h h' number horizon p)
+    (pruned-thins h.statuses horizon (slots_on (slots_of h) number) p.after.slots
+    (subst (λ slots. IsPruned h.statuses horizon slots p.after.slots) (sym (prunes-on h h' number horizon p)) p.pruned) (s.heap number))
+
+pub applied-stays : (h h' : HeapView) (number horizon change : ℕ) (actions : List (ℕ × Action)) → SoundTable h horizon → Applies h h' number horizon change actions → StaysSoundTable h h' horizon
+applied-stays h h' number horizon change actions s a =
+    let on = applies-on h h' number horizon change actions a in
+    let sound = subst (SoundPage h.statuses horizon) on (s.heap number) in
+    thinned-stays h h' number horizon a.before (applied actions a.before) s (applies-becomes h h' number horizon change actions a)
+    (subst (λ slots. IsThinned h.statuses horizon slots (applied actions a.before).slots) (sym on) (checked-thins h.statuses horizon a.before change actions sound a.checks))
 
 -- The slots and the entries are as they were.
 

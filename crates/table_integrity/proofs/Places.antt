@@ -1,6 +1,6 @@
 -- What stands at each place after each change of a table.
 use Rattle.std.proofs.Common.{◌≡◌, ◌≢◌, ◌⊎◌, ℕ, zero, suc, Bool, true, false, List, [], ◌∷◌, map, Option, Some, None, refl, sym, ap, ◌∙◌, subst, ⊎_elim, inl, inr, eq-eqb, eqb-true}
-use Rattle.std.specs.Prelude.{◌++◌, slice_index_or, ◌==◌, ◌&&◌, if◌then◌else◌}
+use Rattle.std.specs.Prelude.{◌++◌, slice_get, slice_set, slice_index_or, ◌==◌, ◌&&◌, if◌then◌else◌}
 use Rattle.std.specs.Option.{option_map, option_and_then}
 use Rattle.std.proofs.lemmas.Bool.{cases_eq}
 use Rattle.std.proofs.lemmas.Option.{slice_get_within, none-some}
@@ -18,12 +18,15 @@ use Rattle.tuple_writes.specs.Headers.{root_header, heap_only_header, replaced_h
 use Rattle.tuple_writes.specs.Writes.{with_root, with_heap_only, with_replaced, with_updated}
 use Rattle.tuple_writes.proofs.Bits.{root-thawed}
 use Rattle.tuple_writes.proofs.Slotted.{replaced-at, replaced-other}
+use Rattle.prune_actions.specs.declared.Action.{Action}
+use Rattle.prune.specs.Actions.{applied}
 use Rattle.prune.specs.Cutting.{RemovesVersions, IsCut}
+use Rattle.prune.proofs.CheckLemmas.{checks-removes}
 use Rattle.index_lookup.specs.Pages.{slots_on, version_in, Puts}
 use Rattle.index_lookup.proofs.PageLists.{slots-there, puts-with_page, puts-pushed}
 use Rattle.snapshot.specs.Own.{Own}
 use Rattle.heap_write.specs.Heap.{HeapView, slots_of, unused_page, page_on, PutsPage}
-use Rattle.heap_write.specs.Writes.{PutsRoot, SetsXmax, HotUpdates, ColdUpdates, UpdatesOnPage, Replaces, PrunesIfFull, Prunes, Inserts, Updates, Deletes}
+use Rattle.heap_write.specs.Writes.{PutsRoot, SetsXmax, HotUpdates, ColdUpdates, UpdatesOnPage, Replaces, PrunesIfFull, Prunes, Applies, Inserts, Updates, Deletes}
 use Rattle.heap_write.proofs.PageLemmas.{slots-kept}
 use Rattle.table_integrity.proofs.Memory.{cut-back}
 
@@ -273,38 +276,73 @@ pub record RemovesOn (store store' : Tid → Option Version) (n : ℕ) (IsGone :
   pub kept : (p : Tid) (t : Version) → store' p ≡ Some t → store p ≡ Some t
   pub gone : (p : Tid) (t : Version) → store p ≡ Some t → (store' p ≡ Some t) ⊎ ((p.page ≡ n) × IsGone p.slot)
 
-pub prunes-on : (h h' : HeapView) (n horizon : ℕ) (p : Prunes h h' n horizon) → slots_on (slots_of h) n ≡ p.before.slots
-prunes-on h h' n horizon p = slots-there h.pages.pages n p.before p.at
+-- this becomes the page of a number, which is in use
+pub record BecomesPage (h h' : HeapView) (n : ℕ) (before after : PageView) : Type 0 where
+  pub at : slice_get h.pages.pages n ≡ Some before
+  pub is : h' ≡ record h { pages = record h.pages { pages = slice_set h.pages.pages n after } }
 
-pub prunes-puts : (h h' : HeapView) (n horizon : ℕ) (p : Prunes h h' n horizon) → Puts (slots_of h) (slots_of h') n p.after.slots
-prunes-puts h h' n horizon p =
-    subst (λ (g : HeapView). Puts (slots_of h) (slots_of g) n p.after.slots) (sym p.is)
-    (puts-with_page h.pages n p.after (slice_get_within h.pages.pages n p.before p.at))
+pub becomes-on : (h h' : HeapView) (n : ℕ) (before after : PageView) → BecomesPage h h' n before after → slots_on (slots_of h) n ≡ before.slots
+becomes-on h h' n before after b = slots-there h.pages.pages n before b.at
 
-pub prunes-stand : (h h' : HeapView) (n horizon : ℕ) → Prunes h h' n horizon
+pub becomes-puts : (h h' : HeapView) (n : ℕ) (before after : PageView) → BecomesPage h h' n before after → Puts (slots_of h) (slots_of h') n after.slots
+becomes-puts h h' n before after b =
+    subst (λ (g : HeapView). Puts (slots_of h) (slots_of g) n after.slots) (sym b.is)
+    (puts-with_page h.pages n after (slice_get_within h.pages.pages n before b.at))
+
+becomes-stand : (h h' : HeapView) (n horizon : ℕ) (before after : PageView) → BecomesPage h h' n before after → RemovesVersions h.statuses horizon before.slots after.slots
     → RemovesOn (version_in (slots_of h)) (version_in (slots_of h')) n (IsCut h.statuses horizon (slots_on (slots_of h) n))
-prunes-stand h h' n horizon p = record {
+becomes-stand h h' n horizon before after b r = record {
   kept = λ q t at. ⊎_elim
-      (λ same. before q same ∙ removes.kept q.slot t (sym (after q same) ∙ at))
-      (λ off. sym (put-other (slots_of h) (slots_of h') n p.after.slots q puts off) ∙ at)
+      (λ same. was q same ∙ removes.kept q.slot t (sym (is q same) ∙ at))
+      (λ off. sym (put-other (slots_of h) (slots_of h') n after.slots q puts off) ∙ at)
       (cases_eq q.page n);
   gone = λ q t at. ⊎_elim
-      (λ same. ⊎_elim (λ stays. inl (after q same ∙ stays)) (λ cut. inr (same, cut)) (removes.gone q.slot t (sym (before q same) ∙ at)))
-      (λ off. inl (put-other (slots_of h) (slots_of h') n p.after.slots q puts off ∙ at))
+      (λ same. ⊎_elim (λ stays. inl (is q same ∙ stays)) (λ cut. inr (same, cut)) (removes.gone q.slot t (sym (was q same) ∙ at)))
+      (λ off. inl (put-other (slots_of h) (slots_of h') n after.slots q puts off ∙ at))
       (cases_eq q.page n);
 }
   where
-    puts : Puts (slots_of h) (slots_of h') n p.after.slots
-    puts = prunes-puts h h' n horizon p
+    puts : Puts (slots_of h) (slots_of h') n after.slots
+    puts = becomes-puts h h' n before after b
 
-    removes : RemovesVersions h.statuses horizon (slots_on (slots_of h) n) p.after.slots
-    removes = subst (λ slots. RemovesVersions h.statuses horizon slots p.after.slots) (sym (prunes-on h h' n horizon p)) p.removes
+    removes : RemovesVersions h.statuses horizon (slots_on (slots_of h) n) after.slots
+    removes = subst (λ slots. RemovesVersions h.statuses horizon slots after.slots) (sym (becomes-on h h' n before after b)) r
 
-    before : (q : Tid) → q.page ≡ n → version_in (slots_of h) q ≡ version_at (slots_on (slots_of h) n) q.slot
-    before q same = ap (λ k. version_at (slots_on (slots_of h) k) q.slot) same
+    was : (q : Tid) → q.page ≡ n → version_in (slots_of h) q ≡ version_at (slots_on (slots_of h) n) q.slot
+    was q same = ap (λ k. version_at (slots_on (slots_of h) k) q.slot) same
 
-    after : (q : Tid) → q.page ≡ n → version_in (slots_of h') q ≡ version_at p.after.slots q.slot
-    after q same = put-here (slots_of h) (slots_of h') n p.after.slots q puts same
+    is : (q : Tid) → q.page ≡ n → version_in (slots_of h') q ≡ version_at after.slots q.slot
+    is q same = put-here (slots_of h) (slots_of h') n after.slots q puts same
+
+pub prunes-becomes : (h h' : HeapView) (n horizon : ℕ) (p : Prunes h h' n horizon) → BecomesPage h h' n p.before p.after
+prunes-becomes h h' n horizon p = record { at = p.at; is = p.is }
+
+pub prunes-on : (h h' : HeapView) (n horizon : ℕ) (p : Prunes h h' n horizon) → slots_on (slots_of h) n ≡ p.before.slots
+prunes-on h h' n horizon p = becomes-on h h' n p.before p.after (prunes-becomes h h' n horizon p)
+
+pub prunes-puts : (h h' : HeapView) (n horizon : ℕ) (p : Prunes h h' n horizon) → Puts (slots_of h) (slots_of h') n p.after.slots
+prunes-puts h h' n horizon p = becomes-puts h h' n p.before p.after (prunes-becomes h h' n horizon p)
+
+pub prunes-stand : (h h' : HeapView) (n horizon : ℕ) → Prunes h h' n horizon
+    → RemovesOn (version_in (slots_of h)) (version_in (slots_of h')) n (IsCut h.statuses horizon (slots_on (slots_of h) n))
+prunes-stand h h' n horizon p = becomes-stand h h' n horizon p.before p.after (prunes-becomes h h' n horizon p) p.removes
+
+-- A plan is applied to a page.
+
+pub applies-becomes : (h h' : HeapView) (n horizon change : ℕ) (actions : List (ℕ × Action)) (a : Applies h h' n horizon change actions) → BecomesPage h h' n a.before (applied actions a.before)
+applies-becomes h h' n horizon change actions a = record { at = a.at; is = a.is }
+
+pub applies-on : (h h' : HeapView) (n horizon change : ℕ) (actions : List (ℕ × Action)) (a : Applies h h' n horizon change actions) → slots_on (slots_of h) n ≡ a.before.slots
+applies-on h h' n horizon change actions a = becomes-on h h' n a.before (applied actions a.before) (applies-becomes h h' n horizon change actions a)
+
+pub applies-puts : (h h' : HeapView) (n horizon change : ℕ) (actions : List (ℕ × Action)) (a : Applies h h' n horizon change actions)
+    → Puts (slots_of h) (slots_of h') n (applied actions a.before).slots
+applies-puts h h' n horizon change actions a = becomes-puts h h' n a.before (applied actions a.before) (applies-becomes h h' n horizon change actions a)
+
+pub applies-stand : (h h' : HeapView) (n horizon change : ℕ) (actions : List (ℕ × Action)) → Applies h h' n horizon change actions
+    → RemovesOn (version_in (slots_of h)) (version_in (slots_of h')) n (IsCut h.statuses horizon (slots_on (slots_of h) n))
+applies-stand h h' n horizon change actions a = becomes-stand h h' n horizon a.before (applied actions a.before) (applies-becomes h h' n horizon change actions a)
+    (checks-removes h.statuses horizon a.before change actions a.checks)
 
 pub readies-stand : (h h' : HeapView) (place : Tid) (horizon size : ℕ) → PrunesIfFull h h' place horizon size
     → RemovesOn (version_in (slots_of h)) (version_in (slots_of h')) place.page (IsCut h.statuses horizon (slots_on (slots_of h) place.page))

@@ -9,10 +9,11 @@ use Rattle.commit_status.specs.Window.{IsWindow, IsActive, IsUpToNext, turns}
 use Rattle.commit_status.specs.Changes as changes
 use Rattle.snapshot.specs.Own.{Own}
 use Rattle.tuple_writes.specs.Laws.{DeletedWhatWasMade, AloneDeletedTheirs}
+use Rattle.prune_actions.specs.declared.Action.{Action}
 use Rattle.index_lookup.specs.Pages.{slots_on}
 use Rattle.table_indexes.specs.Indexes.{entries_in}
 use Rattle.heap_write.specs.Heap.{HeapView, slots_of, Keeps}
-use Rattle.heap_write.specs.Writes.{Inserts, Updates, Deletes, Prunes}
+use Rattle.heap_write.specs.Writes.{Inserts, Updates, Deletes, Prunes, Applies}
 use Rattle.heap_write.specs.Refusals.{FailsUpdate}
 use Rattle.heap_write.specs.declared.heap.WriteFault.{WriteFault}
 use Rattle.table_integrity.specs.Table.{SoundTable, StaysSoundTable, MayDelete}
@@ -46,6 +47,11 @@ FailingUpdateKeepsTable = (h h' : HeapView) (horizon : ℕ) (own : Own) (place :
 
 abbrev pub PruningKeepsTable : Type 0
 PruningKeepsTable = (h h' : HeapView) (number horizon : ℕ) → SoundTable h horizon → Prunes h h' number horizon → StaysSoundTable h h' horizon
+
+-- a plan that checks, whoever made it, and when
+abbrev pub ApplyingKeepsTable : Type 0
+ApplyingKeepsTable = (h h' : HeapView) (number horizon change : ℕ) (actions : List (ℕ × Action)) → SoundTable h horizon → Applies h h' number horizon change actions
+    → StaysSoundTable h h' horizon
 
 -- more memory alone
 abbrev pub KeepingKeepsTable : Type 0

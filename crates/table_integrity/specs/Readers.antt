@@ -10,9 +10,10 @@ use Rattle.snapshot.specs.Snap.{Snap}
 use Rattle.snapshot.specs.Own.{Own}
 use Rattle.visibility.specs.Visible.{IsFrozen, IsVisible}
 use Rattle.sound_page.specs.Readers.{IsOpenReader}
+use Rattle.prune_actions.specs.declared.Action.{Action}
 use Rattle.index_lookup.specs.Pages.{slots_on, version_in}
 use Rattle.heap_write.specs.Heap.{HeapView, slots_of}
-use Rattle.heap_write.specs.Writes.{Inserts, Updates, Deletes, Prunes}
+use Rattle.heap_write.specs.Writes.{Inserts, Updates, Deletes, Prunes, Applies}
 use Rattle.table_integrity.specs.Table.{SoundTable, MayDelete}
 use Rattle.table_integrity.specs.Laws.{WritesUnder}
 
@@ -40,6 +41,11 @@ FindsTheSame h h' s own = (p : Tid) (row : Row) → FindsRowAt h s own p row ↔
 abbrev pub PruningIsUnseen : Type 0
 PruningIsUnseen = (h h' : HeapView) (number horizon : ℕ) (s : Snap) (own : List ℕ) → SoundTable h horizon → Prunes h h' number horizon → IsTableReader h horizon s own
     → FindsTheSame h h' s own
+
+-- that a plan was applied, whoever made it
+abbrev pub ApplyingIsUnseen : Type 0
+ApplyingIsUnseen = (h h' : HeapView) (number horizon change : ℕ) (actions : List (ℕ × Action)) (s : Snap) (own : List ℕ) → SoundTable h horizon
+    → Applies h h' number horizon change actions → IsTableReader h horizon s own → FindsTheSame h h' s own
 
 -- a write is seen by nobody who doesn't own its id
 abbrev pub InsertingIsUnseen : Type 0

@@ -1,6 +1,6 @@
 //! What each step keeps of a table. Each function does nothing: its contract is the law.
 
-ghost use Rattle.table_integrity.specs.Laws.{InsertingKeepsTable, UpdatingKeepsTable, DeletingKeepsTable, FailingUpdateKeepsTable, PruningKeepsTable, KeepingKeepsTable, CommittingKeepsTable, AbortingKeepsTable, LaterHorizonKeepsTable, EmptyTableIsSound};
+ghost use Rattle.table_integrity.specs.Laws.{InsertingKeepsTable, UpdatingKeepsTable, DeletingKeepsTable, FailingUpdateKeepsTable, PruningKeepsTable, ApplyingKeepsTable, KeepingKeepsTable, CommittingKeepsTable, AbortingKeepsTable, LaterHorizonKeepsTable, EmptyTableIsSound};
 ghost use Rattle.table_integrity.specs.Making.{MakingLeavesTableSound, MakingKeepsTargets, MakingKeepsSince};
 ghost use Rattle.table_integrity.specs.Forgetting.{ForgettingKeepsTable, ForgettingKeepsSince, ForgettingKeepsScan};
 
@@ -28,6 +28,11 @@ pub fn failing_update_keeps_table()
 /// A table stays sound when a page is pruned at the horizon.
 pub fn pruning_keeps_table()
     ensures { PruningKeepsTable }
+{}
+
+/// A table stays sound when a plan that checks at the horizon is applied to a page.
+pub fn applying_keeps_table()
+    ensures { ApplyingKeepsTable }
 {}
 
 /// A table stays sound when it has more memory.

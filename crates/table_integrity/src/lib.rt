@@ -10,6 +10,7 @@ pub mod laws;
 mod readers;
 
 pub use readers::{
-    delete_is_found, delete_takes_row, deleting_is_unseen, insert_is_found, insert_puts_row,
-    inserting_is_unseen, pruning_is_unseen, update_is_found, update_puts_row, updating_is_unseen,
+    applying_is_unseen, delete_is_found, delete_takes_row, deleting_is_unseen, insert_is_found,
+    insert_puts_row, inserting_is_unseen, pruning_is_unseen, update_is_found, update_puts_row,
+    updating_is_unseen,
 };

@@ -1,11 +1,16 @@
 //! What readers find after each step. Each function does nothing: its contract is the law.
 
-ghost use Rattle.table_integrity.specs.Readers.{PruningIsUnseen, InsertingIsUnseen, UpdatingIsUnseen, DeletingIsUnseen, InsertIsFound, UpdateIsFound, DeleteIsFound};
+ghost use Rattle.table_integrity.specs.Readers.{PruningIsUnseen, ApplyingIsUnseen, InsertingIsUnseen, UpdatingIsUnseen, DeletingIsUnseen, InsertIsFound, UpdateIsFound, DeleteIsFound};
 ghost use Rattle.table_integrity.specs.ByKey.{InsertPutsRow, UpdatePutsRow, DeleteTakesRow};
 
 /// No reader can tell that a page was pruned.
 pub fn pruning_is_unseen()
     ensures { PruningIsUnseen }
+{}
+
+/// No reader can tell that a plan was applied that checks.
+pub fn applying_is_unseen()
+    ensures { ApplyingIsUnseen }
 {}
 
 /// No reader that doesn't own the id of an insert can tell that there was one.

@@ -1,6 +1,6 @@
 //! Settings at the ends of their ranges, and the copy of a step.
 
-use calls::{RowIn, Settings, SettingsFault, Step};
+use calls::{Action, PlanIn, RowIn, Settings, SettingsFault, Step};
 use std::alloc::{AllocError, Global};
 use std::test::Fail;
 
@@ -136,4 +136,21 @@ fn a_step_with_a_row_is_copied(rt: HostRuntime) -> Result<(), Fail> {
     let copy = copy_of(rt.alloc(), step)?;
     assert!(rt; is_insert_of(&copy, 7, b"abc"));
     Ok(())
+}
+
+static FRONT: [(u16, Action); 2] = [(1, Action::Redirect(3)), (2, Action::Unuse)];
+
+#[test]
+fn a_step_with_a_plan_is_copied(rt: HostRuntime) -> Result<(), Fail> {
+    let plan = PlanIn {
+        change: 5,
+        actions: Vec::from_slice(rt.alloc(), &FRONT)?,
+    };
+    match copy_of(rt.alloc(), Step::ApplyPlan(7, plan))? {
+        Step::ApplyPlan(7, copy) => {
+            assert!(rt; copy.change == 5 && copy.actions.as_slice() == FRONT.as_slice());
+            Ok(())
+        }
+        _ => Err(Fail::new(format_args!("the copy is another step"))),
+    }
 }

@@ -121,7 +121,7 @@ fn place_of_refusal(refusal: Refusal) -> Option<usize>
         Refusal::VacuumRunning => Some(31),
         Refusal::NoVacuum => Some(32),
         Refusal::Deadlock => Some(DEADLOCK),
-        Refusal::NoMemory => None,
+        Refusal::Stale | Refusal::NoMemory => None,
     }
 }
 

@@ -36,7 +36,7 @@ fn line_ends_so(
 }
 
 // Lines with what they and the `begin 0` before them are answered.
-static ALLOWED: [(&[u8], &[u8]); 55] = [
+static ALLOWED: [(&[u8], &[u8]); 58] = [
     (b"begin 63", b"ok\nok\n"),
     (b"begin 0", b"ok\nerror 2 AlreadyOpen\n"),
     (b"begin 255", b"ok\nerror 23 NoSuchSession\n"),
@@ -53,6 +53,15 @@ static ALLOWED: [(&[u8], &[u8]); 55] = [
     (b"page 4294967295", b"ok\nerror 19 NoSuchPage\n"),
     (b"prune 0", b"ok\nerror 19 NoSuchPage\n"),
     (b"prune 4294967295", b"ok\nerror 19 NoSuchPage\n"),
+    (b"apply 0 0", b"ok\nerror 19 NoSuchPage\n"),
+    (
+        b"apply 4294967295 18446744073709551615 u0 d65535 r0:65535",
+        b"ok\nerror 19 NoSuchPage\n",
+    ),
+    (
+        b"insert 0 1 5 0 0 0 -\napply 0 0\napply 0 1\napply 0 1 u1\nabort 0\napply 0 1 u1\napply 0 1 r1:1\napply 0 1 d1\napply 0 1 d1\npage 0",
+        b"ok\nok\nerror 21 Stale\nok\nerror 21 Stale\nrolled back\nerror 21 Stale\nerror 21 Stale\nok\nerror 21 Stale\npage 0 change 2 visible 0 slots 1\n1 dead\n",
+    ),
     (
         b"update 64 0 -9223372036854775808 9223372036854775807 -1 0 00ff1a",
         b"ok\nerror 23 NoSuchSession\n",
@@ -158,7 +167,7 @@ fn allowed_lines(rt: HostRuntime) -> Result<(), Fail> {
 }
 
 // Lines that are not allowed.
-static BAD: [&[u8]; 120] = [
+static BAD: [&[u8]; 147] = [
     b"",
     b" ",
     b"begin",
@@ -202,6 +211,33 @@ static BAD: [&[u8]; 120] = [
     b"prune",
     b"prune 4294967296",
     b"prune 0 0",
+    b"apply",
+    b"apply 0",
+    b"apply 0 ",
+    b"apply  0 0",
+    b"apply 4294967296 0",
+    b"apply 0 18446744073709551616",
+    b"apply 0 00",
+    b"apply -0 0",
+    b"apply 0 0 ",
+    b"apply 0 0 u",
+    b"apply 0 0 u01",
+    b"apply 0 0 u65536",
+    b"apply 0 0 d-1",
+    b"apply 0 0 1",
+    b"apply 0 0 x1",
+    b"apply 0 0 U1",
+    b"apply 0 0 u1 ",
+    b"apply 0 0 u1  d2",
+    b"apply 0 0 u1,d2",
+    b"apply 0 0 u1:2",
+    b"apply 0 0 r1",
+    b"apply 0 0 r1:",
+    b"apply 0 0 r:1",
+    b"apply 0 0 r1:01",
+    b"apply 0 0 r1:65536",
+    b"apply 0 0 r1:2:3",
+    b"apply 0 0 r1 :2",
     b"vacuum",
     b"vacuum ",
     b"vacuum begin",

@@ -16,6 +16,8 @@ mod leaves;
 #[cfg(test)]
 mod makings;
 #[cfg(test)]
+mod plans;
+#[cfg(test)]
 mod savepoints;
 #[cfg(test)]
 mod statements;

@@ -2,6 +2,7 @@
 
 use crate::cursors::CURSORS;
 use crate::makings::MAKINGS;
+use crate::plans::PLANS;
 use crate::savepoints::SAVEPOINTS;
 use crate::statements::STATEMENTS;
 use crate::table::{CASES, Case};
@@ -123,4 +124,9 @@ fn worked_waits(rt: HostRuntime) -> Result<(), Fail> {
 #[test]
 fn worked_makings(rt: HostRuntime) -> Result<(), Fail> {
     run_all(rt.alloc(), &MAKINGS)
+}
+
+#[test]
+fn worked_plans(rt: HostRuntime) -> Result<(), Fail> {
+    run_all(rt.alloc(), &PLANS)
 }

@@ -2,7 +2,8 @@
 
 use page_slots::{Page, Slot};
 use session_core::{
-    Engine, Mode, Piece, Refusal, Reply, Row, RowIn, RowPlace, Settings, SettingsFault, Step, run,
+    Action, Engine, Mode, Piece, PlanIn, Refusal, Reply, Row, RowIn, RowPlace, Settings,
+    SettingsFault, Step, run,
 };
 use std::alloc::{AllocError, Global};
 use std::test::Fail;
@@ -34,6 +35,8 @@ pub enum Ask {
     Commit(u8),
     Abort(u8),
     Prune(u32),
+    /// Applies a plan that was made for this change number of the page.
+    ApplyPlan(u32, u64, &'static [(u16, Action)]),
     VacuumBegin(Mode),
     VacuumStep,
     VacuumCancel,
@@ -115,6 +118,12 @@ fn row_of(alloc: Global, key: u64, length: usize) -> Result<RowIn, AllocError> {
     })
 }
 
+fn plan_of(alloc: Global, change: u64, named: &[(u16, Action)]) -> Result<PlanIn, AllocError> {
+    let mut actions = Vec::new(alloc);
+    actions.extend_from_slice(named)?;
+    Ok(PlanIn { change, actions })
+}
+
 // The step that is asked for, if it is one.
 fn step_of(alloc: Global, ask: Ask) -> Result<Option<Step>, AllocError> {
     Ok(Some(match ask {
@@ -136,6 +145,9 @@ fn step_of(alloc: Global, ask: Ask) -> Result<Option<Step>, AllocError> {
         Ask::Commit(s) => Step::Commit(s),
         Ask::Abort(s) => Step::Abort(s),
         Ask::Prune(page) => Step::Prune(page),
+        Ask::ApplyPlan(page, change, actions) => {
+            Step::ApplyPlan(page, plan_of(alloc, change, actions)?)
+        }
         Ask::VacuumBegin(mode) => Step::VacuumBegin(mode),
         Ask::VacuumStep => Step::VacuumStep,
         Ask::VacuumCancel => Step::VacuumCancel,

@@ -9,7 +9,6 @@ use Rattle.page_slots.proofs.SlotLemmas.{slot_at-from_version_at, version_at-fro
 use Rattle.tuple_header.specs.Version.{Version}
 use Rattle.tuple_header.specs.declared.version.Header.{Header}
 use Rattle.tuple_header.specs.Marks.{is_frozen, is_heap_only}
-use Rattle.xid_circle.specs.Circle.{Precedes}
 use Rattle.xid_circle.specs.Following.{ReachesIn}
 use Rattle.commit_status.specs.declared.status.Status.TheVariants.{InProgress, Committed, Aborted}
 use Rattle.commit_status.specs.Window.{Window, IsCommitted, IsAborted, IsInProgress}
@@ -336,13 +335,13 @@ grown-unfrozen w horizon slots after n k a b u sound g next at f = ⊎_elim old 
         (λ x. none-some (version_at slots b) h.old (ap (version_at slots) x.to ∙ x.fresh) h.there)
         (g.back a b next)
 
-grown-target : (w : Window) (horizon : ℕ) (slots after : List Slot) (n k j : ℕ) → IsWrite w slots after n k → IsTarget w horizon slots j → IsTarget w horizon after j
-grown-target w horizon slots after n k j g t =
+grown-target : (w : Window) (slots after : List Slot) (n k j : ℕ) → IsWrite w slots after n k → IsTarget w slots j → IsTarget w after j
+grown-target w slots after n k j g t =
     let h = g.kept j t.version t.there in record {
       version = h.new;
       there = h.there;
       heap_only = h.same.heap_only ∙ t.heap_only;
-      made = ⊎_elim (λ f. inl (to-frozen w t.version h.new h.same f)) (λ c. inr (subst (IsCommitted w) (sym h.same.inserter) c.0, subst (λ x. Precedes x horizon) (sym h.same.inserter) c.1)) t.made;
+      made = ⊎_elim (λ f. inl (to-frozen w t.version h.new h.same f)) (λ c. inr (subst (IsCommitted w) (sym h.same.inserter) c)) t.made;
     }
 
 pub write-sound : (w : Window) (horizon : ℕ) (slots after : List Slot) (n k : ℕ) → SoundPage w horizon slots → IsWrite w slots after n k → SoundPage w horizon after
@@ -353,7 +352,7 @@ write-sound w horizon slots after n k sound g = record {
   unfrozen = λ a b u next at. grown-unfrozen w horizon slots after n k a b u sound g next at;
   whole = g.whole;
   ends = λ a b next. grown-ends w horizon slots after n k a b sound g next;
-  redirects = λ m j at. grown-target w horizon slots after n k j g (sound.redirects m j (g.redirect_was m j at));
+  redirects = λ m j at. grown-target w slots after n k j g (sound.redirects m j (g.redirect_was m j at));
   owned = λ m u at h. ⊎_elim
       (λ old. ⊎_elim
       (λ gone. inl (λ f. gone.0 (from-frozen w old.old u old.same f), subst (IsAborted w) (sym old.same.inserter) gone.1))

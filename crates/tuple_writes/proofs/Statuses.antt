@@ -151,7 +151,7 @@ goes_on-sound w v horizon later slots g sound = record {
     there = t.there;
     heap_only = t.heap_only;
     made = ⊎_elim (λ f. inl f) (λ thawed. ⊎_elim (λ f. inl f)
-        (λ c. inr (g.committed k t.version t.there (λ f. let e : true ≡ false = sym f ∙ thawed in absurd (cc)) c.0, g.past t.version.header.xmin.0 c.0 c.1)) t.made) (cases_Bool (is_frozen t.version.header));
+        (λ c. inr (g.committed k t.version t.there (λ f. let e : true ≡ false = sym f ∙ thawed in absurd (cc)) c)) t.made) (cases_Bool (is_frozen t.version.header));
   };
   owned = λ n t at h. ⊎_elim (λ a. inl (a.0, g.aborted_maker n t at a.0 a.1)) (λ r. owned-forth w v horizon later slots n t sound g at r) (sound.owned n t at h);
   alone = λ a b n x y. sound.alone a b n (in-back w v horizon later slots a n g x) (in-back w v horizon later slots b n g y);

@@ -114,6 +114,7 @@ same-ring e w s o agrees = ap (λ waits. ClosesRing waits s o) (fun_ext agrees.s
 busy-stays : (old : EngineView) (step : Step) (s o : ℕ) (below : EngineView) → session_of step ≡ Some s → EngineExact old step (reply.Refused (refusal.Busy o)) below
     → (below.core ≡ old.core) × (below.vacuum ≡ option_map (disturbed true) old.vacuum)
 busy-stays old (step.Prune p) s o below is exact = absurd (none-some s is)
+busy-stays old (step.ApplyPlan p plan) s o below is exact = absurd (none-some s is)
 busy-stays old (step.VacuumBegin mode) s o below is exact = absurd exact
 busy-stays old step.VacuumStep s o below is exact = absurd exact
 busy-stays old step.VacuumCancel s o below is exact = absurd exact

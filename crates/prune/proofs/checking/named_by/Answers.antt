@@ -1,5 +1,5 @@
 use Rattle.std.proofs.Common.{refl, get_or}
-use Rattle.prune.specs.declared.action.Action.TheVariants as action
+use Rattle.prune_actions.specs.declared.Action.TheVariants as action
 use Rattle.prune.proofs.Listing.{prefix-of}
 use Rattle.prune.proofs.NamedLemmas.{naming-start, naming-step}
 use Rattle.prune.proofs.checking.named_by.Goals as goal

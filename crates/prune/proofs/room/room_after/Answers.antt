@@ -1,6 +1,6 @@
 use Rattle.std.proofs.Common.{◌≡◌, ℕ, ◌+◌, ◌||◌, Bool, ◌∷◌, drop, get_or, sym, ap, ◌∙◌, subst}
-use Rattle.prune.specs.declared.action.Action.{Action}
-use Rattle.prune.specs.declared.action.Action.TheVariants as action
+use Rattle.prune_actions.specs.declared.Action.{Action}
+use Rattle.prune_actions.specs.declared.Action.TheVariants as action
 use Rattle.prune.specs.Actions.{applied, made_by}
 use Rattle.page_slots.specs.Slots.{is_unused, bytes_taken, the_slot}
 use Rattle.prune.proofs.Listing.{prefix-of}

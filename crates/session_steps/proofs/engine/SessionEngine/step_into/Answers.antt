@@ -9,7 +9,7 @@ use Rattle.session_steps.specs.Replies.{reply_to}
 use Rattle.session_steps.specs.Exact.{AnswersStep}
 use Rattle.session_steps.proofs.CursorSteps.{stored-step}
 use Rattle.session_steps.proofs.engine.SessionEngine.step_into.Goals as goal
-use Rattle.session_steps.proofs.engine.SessionEngine.step_into.Goals.{in-Begin, in-BeginReadCommitted, in-Insert, in-Update, in-Delete, in-Savepoint, in-RollbackTo, in-Release, in-OpenIndex, in-OpenHeap, in-Close, in-Commit, in-Abort, in-Prune}
+use Rattle.session_steps.proofs.engine.SessionEngine.step_into.Goals.{in-Begin, in-BeginReadCommitted, in-Insert, in-Update, in-Delete, in-Savepoint, in-RollbackTo, in-Release, in-OpenIndex, in-OpenHeap, in-Close, in-Commit, in-Abort, in-Prune, in-ApplyPlan}
 
 -- of the step that was asked for, and what came of it
 told : {step asked : Step} {answer came : Result Ack Refusal} {new after : State} (P : Step → Result Ack Refusal → State → Type 0) → step ≡ asked → answer ≡ came → new ≡ after → P asked came after → P step answer new
@@ -50,6 +50,7 @@ returns c =
       | in-Commit w ↦ told P w.in-Commit.is w.answer-is w.self-is (w.commit-answer.ensures, refl)
       | in-Abort w ↦ told P w.in-Abort.is w.answer-is w.self-is (w.abort-answer.ensures, refl)
       | in-Prune w ↦ told P w.in-Prune.is w.answer-is w.self-is (w.prune-answer.ensures, refl)
+      | in-ApplyPlan w ↦ told P w.in-ApplyPlan.is w.answer-is w.self-is (w.apply_plan-answer.ensures, refl)
     ] in
     record {
       answers = λ beside. subst (λ (reply : Reply). AnswersStep c.args.self.now c.args.step reply c.match-step.self) (sym c.put_reply.ensures) does.0;

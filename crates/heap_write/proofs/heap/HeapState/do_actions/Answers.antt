@@ -6,7 +6,7 @@ use Rattle.heap_write.specs.Heap.{HeapView}
 use Rattle.heap_write.specs.Steps.{with_applied}
 use Rattle.heap_write.proofs.PageLemmas.{page-at}
 use Rattle.heap_write.proofs.HintLemmas.{hints-ended}
-use Rattle.heap_write.proofs.heap.HeapState.apply_plan.Goals as goal
+use Rattle.heap_write.proofs.heap.HeapState.do_actions.Goals as goal
 
 pub invariant_of-self : goal.invariant_of-self
 invariant_of-self c =
@@ -21,7 +21,7 @@ returns c =
     let e = c.edit.ensures.edits in
     let n = c.args.number in
     let pages = c.self.inside.pages in
-    let actions = c.args.plan.now.actions.items in
+    let actions = c.args.actions.now in
     let done : e.1 ≡ applied actions e.0 = search rules in
     let after : HeapView = record { pages = c.edit.new.self; statuses = c.self.inside.statuses; indexes = c.self.inside.indexes; max_pages = c.self.inside.max_pages } in
     subst (λ (h : HeapView). after ≡ with_applied h n actions) c.self.view_is

@@ -1,5 +1,0 @@
-use Rattle.prune.proofs.Listing.{IsApplying}
-use Rattle.prune.proofs.applying.apply.Given as goal
-
-abbrev pub invariant-loop-action : goal.invariant-loop-action
-invariant-loop-action l = IsApplying l.plan.actions.items l.fn.page l.page l.action-index
