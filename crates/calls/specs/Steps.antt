@@ -20,6 +20,7 @@ session_of (step.OpenIndex s index low high) = Some s
 session_of (step.OpenHeap s) = Some s
 session_of (step.Next s n) = Some s
 session_of (step.Close s) = Some s
+session_of (step.TakePage s p) = Some s
 session_of (step.Prune p) = None
 session_of (step.ApplyPlan p plan) = None
 session_of (step.VacuumBegin mode) = None

@@ -3,7 +3,7 @@
 use crate::vacuum::Piece;
 use tuple_header::Row;
 
-/// Why a step was not done. After each, the history and every session's rows are as they were; `Conflict` makes the
+/// Why a step was not done. After each, the history and every session's rows are as they were; `Conflict` and `Deadlock` make the
 /// transaction fail.
 #[derive(Clone, Copy, Debug, PartialEq, Eq)]
 pub enum Refusal {

@@ -83,6 +83,8 @@ pub enum Step {
     Next(u8, u16),
     /// Closes the cursor.
     Close(u8),
+    /// Reads all rows of a page, counted from 0, that the session reads.
+    TakePage(u8, u32),
     /// Takes from a page, counted from 0, what nobody can see any more.
     Prune(u32),
     /// Does on a page, counted from 0, what a plan names, where the plan still checks.
@@ -181,6 +183,7 @@ impl Step {
             Step::OpenHeap(s) => Ok(Step::OpenHeap(*s)),
             Step::Next(s, count) => Ok(Step::Next(*s, *count)),
             Step::Close(s) => Ok(Step::Close(*s)),
+            Step::TakePage(s, page) => Ok(Step::TakePage(*s, *page)),
             Step::Prune(page) => Ok(Step::Prune(*page)),
             Step::ApplyPlan(page, plan) => Ok(Step::ApplyPlan(*page, plan.copy(alloc)?)),
             Step::VacuumBegin(mode) => Ok(Step::VacuumBegin(*mode)),

@@ -27,6 +27,11 @@ without keys rest key = if list_any (λ taken. taken == key) keys then None else
 abbrev pub IsOver : (ℕ → Option Row) → Type 0
 IsOver rest = (key : ℕ) → rest key ≡ None
 
+-- each is the row of its key, and none of them comes twice
+pub record AreOf (row : ℕ → Option Row) (rows : List Row) : Type 0 where
+  pub theirs : (i : ℕ) (r : Row) → slice_get rows i ≡ Some r → row r.key ≡ Some r
+  pub once : (i j : ℕ) (a b : Row) → slice_get rows i ≡ Some a → slice_get rows j ≡ Some b → a.key ≡ b.key → i ≡ j
+
 -- some rows of the rest, none of them twice
 pub record ArePart (rest : ℕ → Option Row) (rows : List Row) : Type 0 where
   pub some : 0 < length rows

@@ -1,13 +1,15 @@
 -- The reply to each step is one that the history allows, and the engine agrees with the next world.
 use Rattle.std.proofs.Common.{◌≡◌, ℕ, ◌<◌, Option, Some, None, true, false, refl, sym, ap, ◌∙◌, subst, ◌⊎◌}
-use Rattle.std.specs.Prelude.{Contains}
+use Rattle.std.specs.Prelude.{Contains, Vec}
+use Rattle.std.specs.declared.alloc.Global.{Global}
 use Rattle.xid_circle.specs.declared.Tid.{Tid}
 use Rattle.tuple_header.specs.declared.version.Row.{Row}
 use Rattle.tuple_header.specs.Version.{Version}
 use Rattle.commit_status.specs.declared.status.Status.{Status}
 use Rattle.commit_status.specs.declared.status.Status.TheVariants.{Committed, Aborted}
 use Rattle.snapshot.specs.Snap.{Snap}
-use Rattle.history.specs.World.{World, view, world_sessions}
+use Rattle.history.specs.World.{World, OpenSession, IsReady, view, world_sessions}
+use Rattle.history.specs.Cursors.{AreOf}
 use Rattle.history.specs.Moves.{stepped}
 use Rattle.calls.specs.Words.{PlanToApply}
 use Rattle.calls.specs.declared.step.Step.TheVariants as step
@@ -126,6 +128,24 @@ Follows-get h s e k found at sound finds w agrees = let open_ = agrees.opened s 
   (open_.0, record { there = open_.1; sound = sym open_.2.same_failed ∙ sound }, found_is_view h w s e k found at agrees finds),
   Agrees-stepped h w s agrees,
 )
+
+-- TakePage.
+
+pub Follows-unready_page : (h : Heap) (s p : ℕ) (r : Refusal) → BarsReady (seen_sessions h) s r → HeapFollows h (step.TakePage s p) (reply.Refused r) h
+Follows-unready_page h s p refusal.NoSuchPage is w agrees = absurd is
+Follows-unready_page h s p refusal.NoMemory is w agrees = absurd is
+Follows-unready_page h s p r is w agrees = (allows_unready h w s r agrees is, Agrees-stepped h w s agrees)
+
+pub Follows-page_refused : (h : Heap) (s p : ℕ) (e : SeenSession) (r : Refusal) → h.session s ≡ Some e → e.failed ≡ false
+    → ((w : World) (m : OpenSession) → IsReady w s m → Allows w (step.TakePage s p) (reply.Refused r)) → HeapFollows h (step.TakePage s p) (reply.Refused r) h
+Follows-page_refused h s p e r at sound allows w agrees = let open_ = agrees.opened s e at in
+    (allows w open_.0 (record { there = open_.1; sound = sym open_.2.same_failed ∙ sound }), Agrees-stepped h w s agrees)
+
+-- of one world, in which the rows are the view's
+pub rows-follow : (h : Heap) (s p : ℕ) (e : SeenSession) (rows : Vec Row Global) (at : h.session s ≡ Some e) → e.failed ≡ false → (w : World) (agrees : HeapAgrees h w)
+    → AreOf (view w.history (agrees.opened s e at).0) rows.items → Allows w (step.TakePage s p) (reply.Rows rows) × HeapAgrees h (stepped w s)
+rows-follow h s p e rows at sound w agrees of = let open_ = agrees.opened s e at in
+    ((open_.0, record { there = open_.1; sound = sym open_.2.same_failed ∙ sound }, of), Agrees-stepped h w s agrees)
 
 -- Commit and Abort.
 

@@ -2,7 +2,7 @@
 use Rattle.std.specs.Prelude.{◌≡◌, ℕ, ◌-◌, ◌<◌, ◌≤◌, List, [], ◌∷◌, length, Option, Some, None, Bool, true, false, IsSome, ◌<ℤ◌, ◌≤ℤ◌}
 use Rattle.history.specs.History.{IsLate}
 use Rattle.history.specs.World.{World, OpenSession, Cursor, beginning, start_now, view, LacksIndex, MayIndex, MayScan, ClosesRing, IsReady, IsWriter, MayWrite, IsBlocked, world_sessions}
-use Rattle.history.specs.Cursors.{keys_of, IsOver, HandsOutPart}
+use Rattle.history.specs.Cursors.{AreOf, keys_of, IsOver, HandsOutPart}
 use Rattle.history.specs.Moves.{stepped, begun, begun_by_statement, blocked_by, change, with_row, without_row, as_failed, with_savepoint, rolled_back_to, without_savepoint, aborted, committed_by, with_index_cursor, with_heap_cursor, with_taken, without_cursor, with_index_on}
 use Rattle.history.specs.Laws.{FirstCommitterWins, HeldInTime, HeldOnce}
 use Rattle.calls.specs.declared.step.Step.{Step}
@@ -102,6 +102,10 @@ Allows w (step.Next s n) (reply.Refused refusal.NoMemory) = (m : OpenSession) ×
 Allows w (step.Next s n) (reply.Refused refusal) = BarsWithCursor (world_sessions w) s refusal
 Allows w (step.Close s) reply.Done = (m : OpenSession) × IsReady w s m × IsSome m.cursor
 Allows w (step.Close s) (reply.Refused refusal) = BarsWithCursor (world_sessions w) s refusal
+Allows w (step.TakePage s p) (reply.Rows rows) = (m : OpenSession) × IsReady w s m × AreOf (view w.history m) rows.items
+Allows w (step.TakePage s p) (reply.Refused refusal.NoSuchPage) = (m : OpenSession) × IsReady w s m
+Allows w (step.TakePage s p) (reply.Refused refusal.NoMemory) = (m : OpenSession) × IsReady w s m
+Allows w (step.TakePage s p) (reply.Refused refusal) = BarsReady (world_sessions w) s refusal
 Allows w (step.Prune p) reply.Done = Unit {0}
 Allows w (step.Prune p) (reply.Refused refusal.NoSuchPage) = Unit {0}
 Allows w (step.Prune p) (reply.Refused refusal.NoMemory) = Unit {0}

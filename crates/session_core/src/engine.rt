@@ -82,7 +82,8 @@ fn session_of(step: &Step) -> Option<u8>
         | Step::OpenIndex(s, _, _, _)
         | Step::OpenHeap(s)
         | Step::Next(s, _)
-        | Step::Close(s) => Some(*s),
+        | Step::Close(s)
+        | Step::TakePage(s, _) => Some(*s),
         Step::Prune(_)
         | Step::ApplyPlan(_, _)
         | Step::VacuumBegin(_)

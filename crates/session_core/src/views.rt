@@ -1,7 +1,9 @@
-//! Pages as they are, for plans that are made while steps go on.
+//! Pages as they are, for plans that are made while steps go on, and for rows that are read then.
 
 ghost use Rattle.std.specs.Prelude.{◌≡◌, ◌≤◌, ◌-◌, drop, take, length, IfOk, MatchResult};
 ghost use Rattle.page_views.specs.View.{pages_behind, numbered};
+ghost use Rattle.tickets.specs.View.{ticket_rows};
+ghost use Rattle.session_steps.specs.Tickets.{TakesTicket, RefusesTicket, AreViewed};
 ghost use Rattle.session_core.specs.Views.{AreViews, RefusesViews};
 
 use crate::engine::Engine;
@@ -11,6 +13,7 @@ use page_views::PageViews;
 use session_steps::SessionEngine;
 use std::alloc::{AllocError, Global};
 use std::sync::Arc;
+use tickets::Ticket;
 
 /// The pages from one number up to another, each beside its number.
 fn share_pages(
@@ -52,5 +55,18 @@ impl Engine {
             return Err(Refusal::NoMemory);
         };
         Ok(PageViews::of(pages, statuses, self.core.horizon()))
+    }
+
+    /// The page of this number with what a statement of the session sees of it, for [`tickets::resolve`] to give the rows at any time. It
+    /// is no step, and changes nothing; whatever is written later, the ticket stays as it was. Refusals in order: NoSuchSession,
+    /// NotOpen, Failed, NoSuchPage, NoMemory.
+    pub fn take_page(&mut self, session: u8, page: u32) -> Result<Ticket, Refusal>
+        ensures same { self.new ≡ self.old }
+        ensures taken { MatchResult result (TakesTicket self.old.engine.core session page)
+            (RefusesTicket self.old.engine.core session page) }
+        ensures view { IfOk result
+            (λ ticket. AreViewed self.old.engine.core session (ticket_rows ticket)) }
+    {
+        self.core.take_page(session, page)
     }
 }

@@ -28,6 +28,8 @@ pub mod HeapWalks
 pub mod NextSteps
 pub mod NextRowsSteps
 pub mod Reading
+pub mod TicketLemmas
+pub mod PageRows
 pub mod Cleaned
 pub mod Giving
 pub mod Writing

@@ -30,6 +30,7 @@ use Rattle.session_steps.specs.Agrees.{Follows}
 use Rattle.session_steps.specs.Changes.{Opens, Closes, SetsSavepoint, Releases, SessionBecomes, RollsBack}
 use Rattle.session_steps.specs.Takes.{HandsOut}
 use Rattle.session_steps.specs.Tests.{MayWriteKey}
+use Rattle.session_steps.specs.Tickets.{AreTicketRows, RefusesTicket}
 use Rattle.session_steps.specs.Writes.{TriesInsert, TriesUpdate, TriesDelete}
 
 -- the session tried to write: nothing but the heap and the session itself changes
@@ -156,6 +157,9 @@ Exact old (step.OpenHeap s) (reply.Refused refusal.NoMemory) new = MustKeep old 
 Exact old (step.Next s n) (reply.Rows rows) new = HandsOut old new s n rows.items
 Exact old (step.Next s n) reply.End new = new ≡ old
 Exact old (step.Close s) reply.Done new = HasCursor old new s None None
+Exact old (step.TakePage s p) (reply.Rows rows) new = AreTicketRows old s p rows.items × (new ≡ old)
+Exact old (step.TakePage s p) (reply.Refused refusal.NoSuchPage) new = RefusesTicket old s p refusal.NoSuchPage × (new ≡ old)
+Exact old (step.TakePage s p) (reply.Refused refusal.NoMemory) new = RefusesTicket old s p refusal.NoMemory × (new ≡ old)
 Exact old (step.Commit s) reply.Committed new = Closes old new s status.Committed
 Exact old (step.Commit s) reply.RolledBack new = Closes old new s status.Aborted
 Exact old (step.Abort s) reply.RolledBack new = Closes old new s status.Aborted

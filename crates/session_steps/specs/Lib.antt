@@ -10,6 +10,7 @@ pub mod Making
 pub mod Vacuums
 pub mod Takes
 pub mod NextRows
+pub mod Tickets
 pub mod Exact
 pub mod Follows
 pub mod New

@@ -1,13 +1,15 @@
 //! A session reads.
 
-ghost use Rattle.std.specs.Prelude.{◌≡◌};
+ghost use Rattle.std.specs.Prelude.{◌≡◌, MatchResult};
 ghost use Rattle.calls.specs.declared.reply.Reply.TheVariants.{Found};
 ghost use Rattle.calls.specs.declared.step.Step.{Step};
 ghost use Rattle.session_steps.specs.Exact.{AnswersStep};
+ghost use Rattle.session_steps.specs.Tickets.{AreTicketRows, RefusesTicket};
 
 use crate::engine::SessionEngine;
-use calls::{Reply, Row};
+use calls::{Refusal, Reply, Row};
 use table_scans::no_row;
+use tickets::resolve;
 use tuple_header::RowRef;
 
 impl SessionEngine {
@@ -22,6 +24,32 @@ impl SessionEngine {
                 put_found(self.heap.row(key, &self.reader(session, &mut place)), reply)
             }
             Err(refusal) => *reply = Reply::Refused(refusal),
+        }
+    }
+
+    /// All rows of the page that the session reads, in the order of their slots. Refusals in order: NoSuchSession, NotOpen, Failed,
+    /// NoSuchPage, NoMemory.
+    pub(crate) fn read_page(&mut self, s: u8, number: u32, reply: &mut Reply)
+        ensures { AnswersStep self.old (Step.TakePage s number) reply.new self.new }
+    {
+        match self.page_rows(s, number) {
+            Ok(rows) => *reply = Reply::Rows(rows),
+            Err(refusal) => *reply = Reply::Refused(refusal),
+        }
+    }
+
+    /// The rows that a ticket resolves to which is taken now.
+    fn page_rows(&mut self, s: u8, number: u32) -> Result<Vec<Row>, Refusal>
+        ensures same { self.new ≡ self.old }
+        ensures rows { MatchResult result (λ rows. AreTicketRows self.old s number rows.items)
+            (RefusesTicket self.old s number) }
+    {
+        // so that it is known that there are 64 places for sessions
+        let _ = &self.sessions;
+        let ticket = self.take_page(s, number)?;
+        match resolve(&ticket) {
+            Ok(rows) => Ok(rows),
+            Err(_) => Err(Refusal::NoMemory),
         }
     }
 }

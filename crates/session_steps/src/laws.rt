@@ -2,6 +2,7 @@
 //! nothing: their contracts are the laws.
 
 ghost use Rattle.session_steps.specs.Laws.{ViewsByIndex, HorizonIsEarliest};
+ghost use Rattle.session_steps.specs.Tickets.{TicketsHoldTheView};
 
 /// Whatever world the engine agrees with, each open session finds its view through each index in use that it may scan, as it is and
 /// as it was at each savepoint. One that would begin now finds what is committed, by each.
@@ -13,4 +14,9 @@ pub fn views_by_index()
 /// the first id of each session alone. (GetOldestNonRemovableTransactionId in src/backend/storage/ipc/procarray.c.)
 pub fn horizon_is_earliest()
     ensures { HorizonIsEarliest }
+{}
+
+/// Tickets that an open session takes of all pages at one state, hold its whole view, and each row once.
+pub fn tickets_hold_the_view()
+    ensures { TicketsHoldTheView }
 {}

@@ -29,6 +29,7 @@ impl SessionEngine {
         let answer = match step {
             Step::Get(s, key) => return self.get(s, key, reply),
             Step::Next(s, n) => return self.next_into(s, n, reply),
+            Step::TakePage(s, page) => return self.read_page(s, page, reply),
             Step::Begin(s) => self.begin(s),
             Step::BeginReadCommitted(s) => self.begin_read_committed(s),
             Step::Insert(s, row) => self.insert(s, row),

@@ -1,5 +1,5 @@
 -- How many rows a reply has.
-use Rattle.std.proofs.Common.{◌≤◌, ℕ, min, max, List, length, Vec, arith}
+use Rattle.std.proofs.Common.{◌≤◌, ℕ, min, max, List, length, Vec, ap, arith}
 use Rattle.std.specs.declared.alloc.Global.{Global}
 use Rattle.tuple_header.specs.declared.version.Row.{Row}
 use Rattle.tuple_header.specs.declared.version.TheConstants.{MOST_SLOTS}
@@ -23,12 +23,14 @@ use Rattle.shared_heap.proofs.Scanned.{few-scanned}
 abbrev pub HasNoMore : IndexesView → ℕ → Type 0
 HasNoMore indexes most = (i : ℕ) → length (entries_in indexes i) ≤ most
 
--- no step but a cursor's is answered rows
-pub data IsNext : Step → Type 0 where
-  next : (s n : ℕ) → IsNext (step.Next s n)
+-- no step but a cursor's or that of a page is answered rows
+pub data AsksForRows : Step → Type 0 where
+  next : (s n : ℕ) → AsksForRows (step.Next s n)
+  page : (s p : ℕ) → AsksForRows (step.TakePage s p)
 
-no_rows : (w : World) (step : Step) (rows : Vec Row Global) → Allows w step (reply.Rows rows) → IsNext step
+no_rows : (w : World) (step : Step) (rows : Vec Row Global) → Allows w step (reply.Rows rows) → AsksForRows step
 no_rows w (step.Next s n) rows allows = next s n
+no_rows w (step.TakePage s p) rows allows = page s p
 no_rows w _ rows allows = absurd allows
 
 few : (t : Sight) (scan : Scan) (n most : ℕ) (rows : List Row) (after : Scan) → HasNoMore t.heap.indexes most → Takes t scan n rows after
@@ -46,7 +48,14 @@ room-next old s n most room no_more enough w new (reply.Rows rows) agrees follow
     let fit = few (session_sight old.engine.core hands.session) hands.before n most rows.items hands.after no_more hands.takes in omega arith
 room-next old s n most room no_more enough w new _ agrees follows exact = tt
 
-pub room-other : (old : WaitingView) (step : Step) (room : ℕ) → (IsNext step → ⊥) → HasRoomFor old step room
+pub room-page : (old : WaitingView) (s p room : ℕ) → MOST_SLOTS ≤ room → HasRoomFor old (step.TakePage s p) room
+room-page old s p room enough w new (reply.Rows rows) agrees follows exact =
+    let are = exact.0.core.0 in
+    let few = are.1.rows.few in
+    let same = ap length are.2 in omega (arith, few, same, enough)
+room-page old s p room enough w new _ agrees follows exact = tt
+
+pub room-other : (old : WaitingView) (step : Step) (room : ℕ) → (AsksForRows step → ⊥) → HasRoomFor old step room
 room-other old step room other w new (reply.Rows rows) agrees follows exact = absurd (other (no_rows w step rows (follows w agrees).0))
 room-other old step room other w new _ agrees follows exact = tt
 

@@ -2,6 +2,8 @@
 
 ghost use Rattle.std.specs.Prelude.{◌≡◌, [], IfOk, IfErr, OnOk, MatchResult};
 ghost use Rattle.calls.specs.Words.{AreSettings};
+ghost use Rattle.tickets.specs.View.{ticket_rows};
+ghost use Rattle.session_steps.specs.Tickets.{TakesTicket, RefusesTicket, AreViewed};
 ghost use Rattle.session_core.specs.Views.{AreViews, RefusesViews};
 ghost use Rattle.shared_heap.specs.Books.{IsBookOf, HasRun, Appends, Calls, FirstThreadsFault};
 
@@ -10,6 +12,7 @@ use page_views::PageViews;
 use session_core::{Engine, Refusal, Reply, RunFault, Settings, SettingsFault, Step};
 use std::alloc::{AllocError, Global};
 use std::marker::Model;
+use tickets::Ticket;
 
 /// An engine with the journal of the calls that it answered, oldest first: a run from a new engine, at whose end the engine is.
 #[derive(Drop)]
@@ -71,6 +74,18 @@ impl Book {
             (RefusesViews self.old.engine.engine.core from to) }
     {
         self.engine.page_views(self.alloc, from, to)
+    }
+
+    /// The page of this number with what a statement of the session sees of it, for [`tickets::resolve`] to give the rows outside the latch.
+    /// It is no step, and isn't noted. Refusals in order: NoSuchSession, NotOpen, Failed, NoSuchPage, NoMemory.
+    pub fn take_page(&mut self, session: u8, page: u32) -> Result<Ticket, Refusal>
+        ensures same { self.new ≡ self.old }
+        ensures taken { MatchResult result (TakesTicket self.old.engine.engine.core session page)
+            (RefusesTicket self.old.engine.engine.core session page) }
+        ensures view { IfOk result
+            (λ ticket. AreViewed self.old.engine.engine.core session (ticket_rows ticket)) }
+    {
+        self.engine.take_page(session, page)
     }
 
     /// Calls the engine, and notes the step with its reply. The room for both is made before: where it is refused, nothing is done.

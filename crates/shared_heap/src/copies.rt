@@ -34,6 +34,7 @@ fn most_rows(engine: &Engine, step: &Step) -> usize
             let most = asked.min(engine.most_entries()) as usize;
             most.max(usize::from(MOST_SLOTS))
         }
+        Step::TakePage(_, _) => usize::from(MOST_SLOTS),
         _ => 0,
     }
 }

@@ -9,6 +9,7 @@ use page_views::PageViews;
 use session_core::{Refusal, Reply, RunFault, Settings, Step};
 use std::alloc::Global;
 use std::sync::{Condvar, Mutex, Wait};
+use tickets::Ticket;
 
 /// A book under a latch.
 #[derive(Drop)]
@@ -68,6 +69,12 @@ impl Shared {
     pub fn page_views<R: Wait>(&self, rt: &R, from: u32, to: u32) -> Result<PageViews, Refusal> {
         let mut book = self.latch.lock(rt);
         book.page_views(from, to)
+    }
+
+    /// Takes the page of this number for the session as [`Book::take_page`] does. What it gives is resolved outside the latch.
+    pub fn take_page<R: Wait>(&self, rt: &R, session: u8, page: u32) -> Result<Ticket, Refusal> {
+        let mut book = self.latch.lock(rt);
+        book.take_page(session, page)
     }
 
     /// The book, once no thread shares it.

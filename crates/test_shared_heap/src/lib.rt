@@ -14,4 +14,6 @@ mod rings;
 #[cfg(test)]
 mod rows;
 #[cfg(test)]
+mod taken;
+#[cfg(test)]
 mod threads;

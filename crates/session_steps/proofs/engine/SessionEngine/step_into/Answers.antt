@@ -30,6 +30,11 @@ returns-in-Next c =
     let does = subst (λ (step : Step). AnswersStep c.args.self.now step c.next_into.new.reply c.next_into.new.self) (sym c.in-Next.is) c.next_into.ensures in
     record { answers = λ beside. does; stays = λ of_vacuum. absurd (not-both c.args.step (ap is_answered_above c.in-Next.is) of_vacuum) }
 
+pub returns-in-TakePage : goal.returns-in-TakePage
+returns-in-TakePage c =
+    let does = subst (λ (step : Step). AnswersStep c.args.self.now step c.read_page.new.reply c.read_page.new.self) (sym c.in-TakePage.is) c.read_page.ensures in
+    record { answers = λ beside. does; stays = λ of_vacuum. absurd (not-both c.args.step (ap is_answered_above c.in-TakePage.is) of_vacuum) }
+
 pub returns : goal.returns
 returns c =
     let P : Step → Result Ack Refusal → State → Type 0 = λ step answer new. AnswersStep c.args.self.now step (reply_to answer) new × (is_answered_above step ≡ false) in
