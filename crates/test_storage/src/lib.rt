@@ -9,6 +9,8 @@ mod entries;
 #[cfg(test)]
 mod headers;
 #[cfg(test)]
+mod held_statuses;
+#[cfg(test)]
 mod ids;
 #[cfg(test)]
 mod pages;

@@ -51,7 +51,8 @@ fn give_under(statuses: &mut StatusTable, parent: Xid) -> Option<Xid> {
     statuses.give(Some(parent)).ok()
 }
 
-fn finish(statuses: &mut StatusTable, x: Xid, status: Status) {
+/// An id in progress becomes this.
+pub fn finish(statuses: &mut StatusTable, x: Xid, status: Status) {
     if statuses.remembers(x) && matches!(statuses.status(x), Status::InProgress) {
         statuses.finish(&[x], status);
     }

@@ -4,6 +4,7 @@ use crate::ids::{next_id, nobody, normal, owner, reader, snapshot_at};
 use crate::stage::{Life, PageStep, header_of, row, run_page};
 use commit_status::{Status, StatusTable};
 use snapshot::Snapshot;
+use status_cache::{StatusCache, visible_cached};
 use std::alloc::Global;
 use std::test::Fail;
 use tuple_header::{Tuple, fault_of};
@@ -31,15 +32,13 @@ fn beside_5(alloc: Global, statuses: &StatusTable) -> Option<Snapshot> {
     }
 }
 
-/// Whether a reader sees a version, where its header and the whole of it say the same.
-fn is_seen(version: &Tuple, reader: &Reader<'_>) -> Option<bool> {
+/// Whether a reader sees a version, where its header and the whole of it say the same, with a cache and without.
+fn is_seen(alloc: Global, version: &Tuple, reader: &Reader<'_>) -> Option<bool> {
     version.is_version();
     let is_seen = reader.sees(&version.header);
-    if reader.sees_version(version) == is_seen {
-        Some(is_seen)
-    } else {
-        None
-    }
+    let mut cache = StatusCache::new(alloc).ok()?;
+    let is_cached_alike = visible_cached(version, reader, &mut cache) == is_seen;
+    (is_cached_alike && reader.sees_version(version) == is_seen).then_some(is_seen)
 }
 
 /// Whether the owner of id 5, or another reader, sees a version.
@@ -51,7 +50,7 @@ pub fn sees(alloc: Global, statuses: &StatusTable, life: Life, is_owner: bool) -
     } else {
         nobody(alloc)
     };
-    is_seen(&version, &reader(&snapshot, &own, statuses))
+    is_seen(alloc, &version, &reader(&snapshot, &own, statuses))
 }
 
 /// The fate of a version at a horizon, where its header and the whole of it say the same.
