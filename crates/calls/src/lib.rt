@@ -5,11 +5,13 @@
 //! session from a step (`Bars`). Which reply is allowed to a step is `refinement`'s to say.
 #![tactic(auto)]
 
+mod checked;
 mod reply;
 mod settings;
 mod step;
 mod vacuum;
 
+pub use checked::CheckedSettings;
 pub use prune_actions::Action;
 pub use reply::{Refusal, Reply};
 pub use settings::{Settings, SettingsFault};

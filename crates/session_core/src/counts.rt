@@ -9,6 +9,25 @@ ghost use Rattle.vacuum_passes.specs.View.{VacuumView};
 
 use crate::engine::Engine;
 use calls::Mode;
+use commit_status::StatusTable;
+
+/// How many more ids can be given. So many that it could never be more are halved until the last that can be given is found.
+fn ids_left(statuses: &StatusTable) -> u32
+    ensures { (n : ℕ) → CanGive statuses.now n ↔ (n ≤ result) }
+{
+    statuses.fact_window();
+    let mut can = 0u32;
+    let mut cannot = 2144483649u32;
+    'halves: while can + 1 < cannot {
+        let middle = (can + cannot) / 2;
+        if statuses.can_give(middle) {
+            can = middle;
+        } else {
+            cannot = middle;
+        }
+    }
+    can
+}
 
 impl Engine {
     /// How many pages are in use.
@@ -36,7 +55,7 @@ impl Engine {
     pub fn ids_left(&self) -> u32
         ensures { (n : ℕ) → CanGive self.now.engine.core.heap.statuses n ↔ (n ≤ result) }
     {
-        self.core.ids_left()
+        ids_left(self.core.statuses())
     }
 
     /// Which sessions are open: a bit for each, the lowest for session 0.

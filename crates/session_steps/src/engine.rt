@@ -12,10 +12,9 @@ ghost use Rattle.session_steps.specs.Tests.{MayAct};
 ghost use Rattle.session_steps.specs.New.{IsNew};
 ghost use Rattle.calls.specs.declared.step.TheConstants.{MOST_SESSIONS};
 
-use crate::checked::CheckedSettings;
 use crate::session::{Session, SessionIsolation};
 use crate::sessions::Sessions;
-use calls::{Refusal, Settings, SettingsFault};
+use calls::{CheckedSettings, Refusal, Settings, SettingsFault};
 use commit_status::Status;
 use heap_write::HeapState;
 use page_slots::Page;

@@ -11,7 +11,6 @@
 #![tactic(auto)]
 
 mod begin;
-mod checked;
 mod checks;
 mod commit;
 mod counts;

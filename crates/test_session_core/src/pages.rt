@@ -2,7 +2,7 @@
 
 use crate::asks::{Answer, Ask, ask_new};
 use session_core::{Refusal, Settings};
-use session_steps::laws::{horizon_is_earliest, views_by_index};
+use session_steps::laws::{horizon_is_earliest, tickets_hold_the_view, views_by_index};
 use std::test::Fail;
 
 const SETTINGS: Settings = Settings {
@@ -195,4 +195,9 @@ fn an_index_shows_the_views() {
 #[test]
 fn nothing_open_is_before_the_horizon() {
     horizon_is_earliest();
+}
+
+#[test]
+fn pages_hold_the_view() {
+    tickets_hold_the_view();
 }

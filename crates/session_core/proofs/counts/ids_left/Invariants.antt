@@ -1,6 +1,6 @@
 use Rattle.std.proofs.Common.{◌-◌, ◌≤◌, ◌<◌}
 use Rattle.commit_status.specs.Changes.{CanGive}
-use Rattle.session_steps.proofs.engine.SessionEngine.ids_left.Given as goal
+use Rattle.session_core.proofs.counts.ids_left.Given as goal
 
 -- so many can be given, and so many cannot
 abbrev pub invariant-halves : goal.invariant-halves

@@ -1,14 +1,11 @@
-use Rattle.std.proofs.Common.{◌↔◌, ◌≤◌, ℕ, arith, ap, ◌∙◌, subst}
-use Rattle.commit_status.specs.Window.{Window}
-use Rattle.commit_status.specs.Changes.{CanGive}
-use Rattle.session_steps.specs.State.{State}
+use Rattle.std.proofs.Common.{arith}
 use Rattle.session_steps.proofs.Counting.{cannot-give, last-given}
-use Rattle.session_steps.proofs.engine.SessionEngine.ids_left.Goals as goal
+use Rattle.session_core.proofs.counts.ids_left.Goals as goal
 
 pub halves-init : goal.halves-init
 halves-init c = record {
   can = λ i lt. absurd (omega (arith, lt));
-  cannot = cannot-give c.statuses-statuses.result.now c.fact_window.ensures;
+  cannot = cannot-give c.args.statuses.now c.fact_window.ensures;
   apart = omega arith;
   bound = omega arith;
 }
@@ -36,7 +33,4 @@ halves-preserved c = record {
 }
 
 pub returns : goal.returns
-returns c =
-    let is = c.statuses-statuses.ensures ∙ ap (λ (st : State). st.heap.statuses) c.self.view_is in
-    subst (λ (w : Window). (n : ℕ) → CanGive w n ↔ (n ≤ c.halves.can)) is
-    (λ n. last-given c.statuses-statuses.result.now c.halves.can c.halves.cannot n c.halves.invariant.can c.halves.invariant.cannot (omega (arith, c.halves-test.false)))
+returns c n = last-given c.args.statuses.now c.halves.can c.halves.cannot n c.halves.invariant.can c.halves.invariant.cannot (omega (arith, c.halves-test.false))

@@ -3,12 +3,12 @@
 ghost use Rattle.std.specs.Prelude.{◌≡◌, ◌<◌, ◌≤◌};
 ghost use Rattle.calls.specs.Words.{AreSettings};
 
-use calls::Settings;
+use crate::settings::Settings;
 use std::marker::Model;
 
 /// Settings that are in their ranges.
 #[derive(Drop)]
-pub(crate) struct CheckedSettings {
+pub struct CheckedSettings {
     settings: Settings,
 }
 
@@ -25,7 +25,7 @@ impl Model for CheckedSettings {
 
 impl CheckedSettings {
     /// These settings, each of which is in its range.
-    pub(crate) fn new(settings: Settings) -> Self
+    pub fn new(settings: Settings) -> Self
         requires { AreSettings settings }
         ensures { result ≡ settings }
     {
@@ -33,7 +33,7 @@ impl CheckedSettings {
     }
 
     /// How many dead slots a vacuum collects at most.
-    pub(crate) fn dead_limit(&self) -> u32
+    pub fn dead_limit(&self) -> u32
         ensures value { result ≡ self.now.dead_limit }
         ensures some { 0 < result }
         ensures few { result ≤ 4096 }
@@ -42,7 +42,7 @@ impl CheckedSettings {
     }
 
     /// How old an id has to be before it is frozen.
-    pub(crate) fn freeze_min_age(&self) -> u32
+    pub fn freeze_min_age(&self) -> u32
         ensures { result ≡ self.now.freeze_min_age }
     {
         self.settings.freeze_min_age
