@@ -47,6 +47,8 @@ static __attribute__((noinline)) uint32_t measured(char kind, uint64_t key) {
     case 'u': return sandpiper_update(&table, 0, &row);
     case 'd': return sandpiper_delete(&table, 0, key);
     case 'n': return sandpiper_next(&table, 0, rows, 100, &count);
+    case 'b': return sandpiper_begin(&table, 0);
+    case 'c': return sandpiper_commit(&table, 0);
     case 'v': return sandpiper_vacuum_step(&table, &piece);
     case 'm': return sandpiper_create_index(&table, (uint8_t)key);
     default: return sandpiper_prune(&table, 0);
@@ -135,6 +137,16 @@ static long pruning_updates(void) {
     return ROWS / ON_A_PAGE;
 }
 
+/* Beginnings and commits in turn, with nothing between. */
+static long empty_transactions(void) {
+    load(1000);
+    for (long count = 0; count < 10000; count++) {
+        expect(SANDPIPER_DONE, measured('b', 0));
+        expect(SANDPIPER_COMMITTED, measured('c', 0));
+    }
+    return 10000;
+}
+
 /* Prunes a page whose one slot holds a version that is not dead. */
 static long prunes(void) {
     load(1);
@@ -209,7 +221,8 @@ static long makings(void) {
 static const struct {
     const char *name;
     long (*run)(void);
-} KINDS[] = {{"get", gets},           {"insert", inserts},       {"hot", hot_updates},          {"delete", deletes},      {"scan", scans},
+} KINDS[] = {{"get", gets},           {"empty", empty_transactions}, {"insert", inserts},        {"hot", hot_updates},
+             {"delete", deletes},     {"scan", scans},
              {"full", full_updates},  {"prunes", pruning_updates}, {"prune", prunes},          {"pruned", pruned},
              {"young", young_visits}, {"freezing", freezing_visits}, {"held", held_visits},    {"cleaning", cleaning_visits},
              {"making", makings}};

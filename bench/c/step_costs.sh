@@ -21,6 +21,7 @@ cost() {
     [ $((whole / count)) -lt "$most" ] || status=1
 }
 cost get 850 "a get by key"
+cost empty 850 "a begin and a commit with nothing between"
 cost insert 2150 "an insert"
 cost hot 3500 "a HOT update on a page with room, but in a hole alone"
 cost delete 1100 "a delete"

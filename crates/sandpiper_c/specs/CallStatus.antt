@@ -1,5 +1,5 @@
 -- What a call answers, and the number that C has for it.
-use Rattle.std.specs.Prelude.{◌≡◌, ℕ, ◌+◌, Bool, true, false, nat_le, Some, None}
+use Rattle.std.specs.Prelude.{◌≡◌, ℕ, ◌+◌, Bool, true, false, nat_le, Some, None, Result, Ok, Err}
 use Rattle.calls.specs.declared.reply.Reply.{Reply}
 use Rattle.calls.specs.declared.reply.Reply.TheVariants as reply
 use Rattle.calls.specs.declared.reply.Refusal.{Refusal}
@@ -21,6 +21,12 @@ status_of_reply reply.End = status.End
 status_of_reply (reply.Worked piece) = status.Worked
 status_of_reply (reply.Ended oldest) = status.Ended
 status_of_reply (reply.Refused r) = status.Refused r
+
+-- of an answer that says whether there is a row
+abbrev pub status_of_found : Result Bool Refusal → CallStatus
+status_of_found (Ok true) = status.Found
+status_of_found (Ok false) = status.NoRow
+status_of_found (Err r) = status.Refused r
 
 -- the status of a fault of the settings; that memory was refused is one status, whatever it was for
 abbrev pub status_of_fault : SettingsFault → CallStatus

@@ -6,6 +6,7 @@ use Rattle.tuple_header.specs.Places.{place_with}
 use Rattle.calls.specs.declared.settings.Settings.{Settings}
 use Rattle.calls.specs.declared.settings.SettingsFault.{SettingsFault}
 use Rattle.calls.specs.declared.step.Step.{Step}
+use Rattle.calls.specs.declared.step.Step.TheVariants as step
 use Rattle.calls.specs.declared.reply.Reply.{Reply}
 use Rattle.calls.specs.declared.reply.Reply.TheVariants as reply
 use Rattle.calls.specs.declared.reply.Refusal.TheVariants as refusal
@@ -42,19 +43,31 @@ ClosesHeld (Some old) code new = (code ≡ number_of_status status.Done) × (new
 abbrev pub ClosesTable : Sandpiper → ℕ → Sandpiper → Type 0
 ClosesTable old code new = ClosesHeld (held_by old) code (held_by new)
 
--- the engine did the step, as its own contract says, and the status is the number of its reply
-pub record TakesStep (old : Held) (step : Step) (code : ℕ) (new : Held) : Type 0 where
-  pub follows : WaitingFollows old.engine step new.reply new.engine
-  pub exact : WaitingExact old.engine step new.reply new.engine
-  pub status : code ≡ number_of_status (status_of_reply new.reply)
+-- the engine did the step with this reply, as its own contract says, and the status is the reply's number
+pub record TakesStep (old : Held) (step : Step) (reply : Reply) (code : ℕ) (new : Held) : Type 0 where
+  pub follows : WaitingFollows old.engine step reply new.engine
+  pub exact : WaitingExact old.engine step reply new.engine
+  pub status : code ≡ number_of_status (status_of_reply reply)
+
+abbrev pub DoesWithReply : Held → Step → ℕ → Held → Type 0
+DoesWithReply old step code new = (reply : Reply) × TakesStep old step reply code new
+
+-- and C's place shows what the reply says
+abbrev pub TakesShowing : Held → Step → ℕ → Held → (Option Reply → Type 0) → Type 0
+TakesShowing old step code new shows = (reply : Reply) × TakesStep old step reply code new × shows (Some reply)
 
 abbrev pub DoesHeld : Option Held → Step → ℕ → Option Held → Type 0
 DoesHeld None step code new = (code ≡ number_of_status status.NoEngine) × (new ≡ None)
-DoesHeld (Some old) step code new = (held : Held) × (new ≡ Some held) × TakesStep old step code held
+DoesHeld (Some old) step code new = (held : Held) × (new ≡ Some held) × DoesWithReply old step code held
 
 -- the engine did the step, or there is none and the status says so
 abbrev pub Does : Sandpiper → Step → ℕ → Sandpiper → Type 0
 Does old step code new = DoesHeld (held_by old) step code (held_by new)
+
+-- the same, and C's place shows what the reply says, or nothing where there is none
+abbrev pub ShowsHeld : Option Held → Step → ℕ → Option Held → (Option Reply → Type 0) → Type 0
+ShowsHeld None step code new shows = (code ≡ number_of_status status.NoEngine) × (new ≡ None) × shows None
+ShowsHeld (Some old) step code new shows = (held : Held) × (new ≡ Some held) × TakesShowing old step code held shows
 
 -- the same of a step with a row, unless memory for its body was refused, and nothing done
 abbrev pub Writes : Sandpiper → (RowToWrite → Step) → RowPlace → ℕ → Sandpiper → Type 0
@@ -65,20 +78,16 @@ Writes old step row code new = ((text : RowToWrite) × IsText row text × Does o
 abbrev pub StaysAsIs : Sandpiper → Sandpiper → Type 0
 StaysAsIs old new = held_by new ≡ held_by old
 
--- the row of a reply, if it has one
-abbrev pub row_found_in : Reply → Option Row
-row_found_in (reply.Found row) = row
-row_found_in reply = None
+-- the row of a reply, if there is one and it has one
+abbrev pub row_found_in : Option Reply → Option Row
+row_found_in (Some (reply.Found row)) = row
+row_found_in answer = None
 
 -- the row is written to C's place, if there is one
 abbrev pub ShowsRow : Option Row → RowPlace → RowPlace → Type 0
 ShowsRow None old new = new ≡ old
 ShowsRow (Some row) old new = new ≡ place_with row old
 
--- the row of the last reply, if there is an engine
-abbrev pub found_by : Option Held → Option Row
-found_by None = None
-found_by (Some held) = row_found_in held.reply
-
-abbrev pub ShowsFound : Sandpiper → RowPlace → RowPlace → Type 0
-ShowsFound table old new = ShowsRow (found_by (held_by table)) old new
+-- the row of the key is looked for, and written to C's place
+abbrev pub Gets : Sandpiper → (session key : ℕ) → RowPlace → (code : ℕ) → RowPlace → Sandpiper → Type 0
+Gets old session key place code after new = ShowsHeld (held_by old) (step.Get session key) code (held_by new) (λ reply. ShowsRow (row_found_in reply) place after)

@@ -1,10 +1,9 @@
 //! Rows, as C reads and writes them.
 
-ghost use Rattle.std.specs.Prelude.{◌≡◌, ◌<◌, IfOk, OnErr};
-ghost use Rattle.tuple_header.specs.Places.{place_with};
+ghost use Rattle.std.specs.Prelude.{◌<◌, IfOk, OnErr};
 ghost use Rattle.sandpiper_c.specs.Rows.{IsText, IsBody};
 
-use session_core::{Row, RowIn, RowPlace};
+use session_core::{RowIn, RowPlace};
 use std::alloc::{AllocError, Global};
 
 /// The bytes that count. Where the length is over 1024 they are as many zeros, which no table takes.
@@ -33,15 +32,4 @@ pub(crate) fn text_of(alloc: Global, row: &RowPlace) -> Result<RowIn, AllocError
         cols: row.cols,
         body: body_of(alloc, &row.body, row.length)?,
     })
-}
-
-/// Writes the row to C's place.
-pub(crate) fn put(place: &mut RowPlace, row: &Row)
-    ensures { place.new ≡ place_with row.now place.old }
-{
-    let body = row.body.as_slice();
-    place.key = row.key;
-    place.cols = row.cols;
-    place.length = body.len() as u16;
-    place.body[..body.len()].copy_from_slice(body);
 }

@@ -1,10 +1,11 @@
 //! What a call answers, and the number that C has for it.
 
 ghost use Rattle.std.specs.Prelude.{◌≡◌};
-ghost use Rattle.sandpiper_c.specs.CallStatus.{status_of_reply, status_of_fault, number_of_refusal, number_of_status};
+ghost use Rattle.sandpiper_c.specs.CallStatus.{status_of_reply, status_of_found, status_of_fault, number_of_refusal, number_of_status};
+ghost use Rattle.session_steps.specs.Replies.{reply_to};
 ghost use Rattle.sandpiper_c.specs.CallStatus.{NumbersDiffer, RefusalsAreHigh};
 
-use session_core::{Refusal, Reply, SettingsFault};
+use session_core::{Ack, Refusal, Reply, SettingsFault};
 
 /// What a call answers. A new refusal is a line in [`of_refusal`], a new reply one in [`CallStatus::of_reply`], each with its twin in
 /// `specs/CallStatus.antt`: all that a step may answer goes through these.
@@ -97,6 +98,29 @@ impl CallStatus {
             Reply::Worked(_) => CallStatus::Worked,
             Reply::Ended(_) => CallStatus::Ended,
             Reply::Refused(refusal) => CallStatus::Refused(*refusal),
+        }
+    }
+
+    /// The status of an answer that has no row.
+    pub(crate) fn of_answer(answer: Result<Ack, Refusal>) -> CallStatus
+        ensures { result ≡ status_of_reply (reply_to answer) }
+    {
+        match answer {
+            Ok(Ack::Done) => CallStatus::Done,
+            Ok(Ack::Committed) => CallStatus::Committed,
+            Ok(Ack::RolledBack) => CallStatus::RolledBack,
+            Err(refusal) => CallStatus::Refused(refusal),
+        }
+    }
+
+    /// The status of an answer that says whether there is a row.
+    pub(crate) fn of_found(answer: Result<bool, Refusal>) -> CallStatus
+        ensures { result ≡ status_of_found answer }
+    {
+        match answer {
+            Ok(true) => CallStatus::Found,
+            Ok(false) => CallStatus::NoRow,
+            Err(refusal) => CallStatus::Refused(refusal),
         }
     }
 

@@ -1,18 +1,17 @@
 //! The steps of sessions that write no row and use no cursor.
 
 ghost use Rattle.calls.specs.declared.step.Step.TheVariants as step;
-ghost use Rattle.sandpiper_c.specs.Calls.{Does, TakesStep, ShowsRow, ShowsFound, row_found_in};
+ghost use Rattle.sandpiper_c.specs.Calls.{Does, DoesWithReply, TakesStep, TakesShowing, ShowsRow, row_found_in, Gets};
 
 use crate::database::Sandpiper;
 use crate::held::Held;
-use crate::rows;
 use crate::status::CallStatus;
-use session_core::{Reply, RowPlace, Step};
+use session_core::{RowPlace, Step};
 use std::alloc::Global;
 
-/// Does the step on what is held. All that a step answers goes through here.
+/// Does the step on what is held.
 pub(crate) fn held_step(held: &mut Held, step: Step) -> u32
-    ensures { TakesStep held.old step result held.new }
+    ensures { TakesStep held.old step held.new.reply result held.new }
 {
     held.engine.step_into(step, &mut held.reply);
     CallStatus::of_reply(&held.reply).number()
@@ -32,13 +31,33 @@ pub(crate) fn do_step(alloc: Global, table: &mut Sandpiper, step: Step) -> u32
     }
 }
 
-/// Writes the row of the reply to C's place, if it has one.
-fn put_found(reply: &Reply, row: &mut RowPlace)
-    ensures { ShowsRow (row_found_in reply.now) row.old row.new }
+/// The session begins.
+fn held_begin(held: &mut Held, session: u8) -> u32
+    ensures { DoesWithReply held.old (step.Begin session) result held.new }
 {
-    if let Reply::Found(Some(found)) = reply {
-        rows::put(row, found);
-    }
+    CallStatus::of_answer(held.engine.begin(session)).number()
+}
+
+/// It commits.
+fn held_commit(held: &mut Held, session: u8) -> u32
+    ensures { DoesWithReply held.old (step.Commit session) result held.new }
+{
+    CallStatus::of_answer(held.engine.commit(session)).number()
+}
+
+/// It aborts.
+fn held_abort(held: &mut Held, session: u8) -> u32
+    ensures { DoesWithReply held.old (step.Abort session) result held.new }
+{
+    CallStatus::of_answer(held.engine.abort(session)).number()
+}
+
+/// It reads the row of a key, which is written to C's place.
+fn held_get(held: &mut Held, session: u8, key: u64, row: &mut RowPlace) -> u32
+    ensures { TakesShowing held.old (step.Get session key) result held.new
+        (λ reply. ShowsRow (row_found_in reply) row.old row.new) }
+{
+    CallStatus::of_found(held.engine.get(session, key, row)).number()
 }
 
 /// Opens the session: it reads what was committed by now.
@@ -46,7 +65,14 @@ fn put_found(reply: &Reply, row: &mut RowPlace)
 pub extern "C" fn sandpiper_begin(alloc: Global, table: &mut Sandpiper, session: u8) -> u32
     ensures { Does table.old (step.Begin session) result table.new }
 {
-    do_step(alloc, table, Step::Begin(session))
+    match table.take(alloc) {
+        Some(mut held) => {
+            let code = held_begin(&mut held, session);
+            table.put(held);
+            code
+        }
+        None => CallStatus::NoEngine.number(),
+    }
 }
 
 /// Opens the session: each of its statements reads what was committed by then.
@@ -70,13 +96,11 @@ pub extern "C" fn sandpiper_get(
     key: u64,
     row: &mut RowPlace,
 ) -> u32
-    ensures does { Does table.old (step.Get session key) result table.new }
-    ensures row { ShowsFound table.new row.old row.new }
+    ensures { Gets table.old session key row.old result row.new table.new }
 {
     match table.take(alloc) {
         Some(mut held) => {
-            let code = held_step(&mut held, Step::Get(session, key));
-            put_found(&held.reply, row);
+            let code = held_get(&mut held, session, key, row);
             table.put(held);
             code
         }
@@ -126,7 +150,14 @@ pub extern "C" fn sandpiper_release(alloc: Global, table: &mut Sandpiper, sessio
 pub extern "C" fn sandpiper_commit(alloc: Global, table: &mut Sandpiper, session: u8) -> u32
     ensures { Does table.old (step.Commit session) result table.new }
 {
-    do_step(alloc, table, Step::Commit(session))
+    match table.take(alloc) {
+        Some(mut held) => {
+            let code = held_commit(&mut held, session);
+            table.put(held);
+            code
+        }
+        None => CallStatus::NoEngine.number(),
+    }
 }
 
 /// Drops what the session wrote, and closes it.
@@ -134,7 +165,14 @@ pub extern "C" fn sandpiper_commit(alloc: Global, table: &mut Sandpiper, session
 pub extern "C" fn sandpiper_abort(alloc: Global, table: &mut Sandpiper, session: u8) -> u32
     ensures { Does table.old (step.Abort session) result table.new }
 {
-    do_step(alloc, table, Step::Abort(session))
+    match table.take(alloc) {
+        Some(mut held) => {
+            let code = held_abort(&mut held, session);
+            table.put(held);
+            code
+        }
+        None => CallStatus::NoEngine.number(),
+    }
 }
 
 /// Takes from a page, counted from 0, what nobody can see any more.

@@ -1,11 +1,12 @@
 //! The steps of a vacuum.
 
-ghost use Rattle.std.specs.Prelude.{◌≡◌};
+ghost use Rattle.std.specs.Prelude.{◌≡◌, Some};
 ghost use Rattle.calls.specs.declared.step.Step.TheVariants as step;
-ghost use Rattle.sandpiper_c.specs.Calls.{Does};
-ghost use Rattle.sandpiper_c.specs.Pieces.{mode_of, shown_piece, piece_in, ShowsPiece, ShowsPieceOf};
+ghost use Rattle.sandpiper_c.specs.Calls.{Does, TakesShowing};
+ghost use Rattle.sandpiper_c.specs.Pieces.{mode_of, shown_piece, piece_in, ShowsPiece, StepsVacuum};
 
 use crate::database::Sandpiper;
+use crate::held::Held;
 use crate::status::CallStatus;
 use crate::steps::{do_step, held_step};
 use session_core::{Mode, Piece, Reply, Step};
@@ -58,7 +59,7 @@ fn of_piece(piece: Piece) -> SandpiperPiece
 
 /// Writes what the reply says of the vacuum to C's place, if it says anything.
 fn put_piece(reply: &Reply, piece: &mut SandpiperPiece)
-    ensures { ShowsPiece (piece_in reply.now) piece.old piece.new }
+    ensures { ShowsPiece (piece_in (Some reply.now)) piece.old piece.new }
 {
     match reply {
         Reply::Worked(did) => *piece = of_piece(*did),
@@ -71,6 +72,16 @@ fn put_piece(reply: &Reply, piece: &mut SandpiperPiece)
         }
         _ => {}
     }
+}
+
+/// The vacuum does its next step, and what it did is written to C's place.
+fn held_vacuum_step(held: &mut Held, piece: &mut SandpiperPiece) -> u32
+    ensures { TakesShowing held.old step.VacuumStep result held.new
+        (λ reply. ShowsPiece (piece_in reply) piece.old piece.new) }
+{
+    let code = held_step(held, Step::VacuumStep);
+    put_piece(&held.reply, piece);
+    code
 }
 
 /// Begins a vacuum: an aggressive one passes over no page that has anything to freeze, and lets old ids be forgotten at its end.
@@ -92,13 +103,11 @@ pub extern "C" fn sandpiper_vacuum_step(
     table: &mut Sandpiper,
     piece: &mut SandpiperPiece,
 ) -> u32
-    ensures does { Does table.old step.VacuumStep result table.new }
-    ensures piece { ShowsPieceOf table.new piece.old piece.new }
+    ensures { StepsVacuum table.old piece.old result piece.new table.new }
 {
     match table.take(alloc) {
         Some(mut held) => {
-            let code = held_step(&mut held, Step::VacuumStep);
-            put_piece(&held.reply, piece);
+            let code = held_vacuum_step(&mut held, piece);
             table.put(held);
             code
         }

@@ -1,5 +1,5 @@
 -- A plan is read just where it is spelled so.
-use Rattle.std.proofs.Common.{◌≡◌, ℕ, ◌+◌, ◌-◌, ◌^◌, ◌<◌, ◌≤◌, List, [], ◌∷◌, ◌++◌, length, drop, get_or, map, refl, ap, ◌∙◌, sym, arith, Option, None, Some, Bool, true, false, cond, eqb, ◌⊎◌, inl, inr, codes}
+use Rattle.std.proofs.Common.{◌≡◌, ℕ, ◌+◌, ◌-◌, ◌^◌, ◌<◌, List, [], ◌∷◌, ◌++◌, drop, get_or, map, refl, ap, ◌∙◌, arith, None, Some, Bool, true, false, cond, eqb, ◌⊎◌, inl, inr, codes}
 use Rattle.std.specs.Option.{option_map}
 use Rattle.std.specs.List.{flat_map, AllByRecursion}
 use Rattle.std.specs.Fmt.{decimal}
@@ -10,7 +10,7 @@ use Rattle.prune_actions.specs.declared.Action.{Action}
 use Rattle.prune_actions.specs.declared.Action.TheVariants.{Unuse, Kill, Redirect}
 use Rattle.calls.specs.Words.{PlanToApply}
 use Rattle.script_text.specs.Grammar.{ActionFits, PlanFits, action_text, actions_text, plan_words, spaced}
-use Rattle.script_text.specs.Reading.{◌>>=◌, words_of, number_of, number_then, redirect_of, action_of, actions_of, plan_of, plan_words_of}
+use Rattle.script_text.specs.Reading.{words_of, number_of, number_then, redirect_of, action_of, actions_of, plan_of, plan_words_of}
 use Rattle.script_text.proofs.ByteLemmas.{Free, Free-append}
 use Rattle.script_text.proofs.NumberLaws.{bound, mapped, cut_at_says, cut_at-free, number_of_says, number_of-decimal, number_then_says, number_then-decimal, decimal_free, decimal_free_past}
 use Rattle.script_text.proofs.WordLemmas.{words_of-free, words_of-cons, words_of_says}

@@ -1,6 +1,6 @@
 -- The words of a text, and what they spell.
-use Rattle.std.proofs.Common.{◌≡◌, ℕ, ◌+◌, ◌<◌, ◌≤◌, suc, List, [], ◌∷◌, ◌++◌, length, take, drop, refl, ap, ◌∙◌, sym, arith, Option, None, Some, ◌-◌, ◌^◌, Bool, true, false, eqb, eq-eqb, position}
-use Rattle.std.specs.List.{flat_map, slice_split, join_with_byte}
+use Rattle.std.proofs.Common.{◌≡◌, ℕ, ◌+◌, ◌≤◌, suc, List, [], ◌∷◌, ◌++◌, length, take, drop, refl, ap, ◌∙◌, sym, arith, Option, None, Some, ◌-◌, ◌^◌, Bool, true, false, eqb, position}
+use Rattle.std.specs.List.{flat_map, join_with_byte}
 use Rattle.std.proofs.lemmas.List.{append-nil}
 use Rattle.std.proofs.lemmas.List.Splits.{slice_split_first, join_with_byte-slice_split}
 use Rattle.std.proofs.lemmas.Option.{none-some}

@@ -1,11 +1,12 @@
 -- What the reply of the engine below makes of the waits.
-use Rattle.std.proofs.Common.{◌≡◌, ◌≢◌, ℕ, Some, None, Bool, not, ◌&&◌, cond, set, refl, sym, subst, inl, inr}
-use Rattle.history.specs.World.{ClosesRing}
+use Rattle.std.proofs.Common.{◌≡◌, ◌≢◌, ℕ, None, Ok, Bool, not, ◌&&◌, cond, set, refl}
 use Rattle.calls.specs.declared.reply.Reply.{Reply}
 use Rattle.calls.specs.declared.reply.Reply.TheVariants as reply
+use Rattle.calls.specs.declared.reply.Refusal.{Refusal}
 use Rattle.calls.specs.declared.reply.Refusal.TheVariants as refusal
-use Rattle.vacuum_engine.specs.State.{failed_at}
-use Rattle.waits.specs.View.{wait_in}
+use Rattle.session_steps.specs.declared.outcome.Ack.{Ack}
+use Rattle.session_steps.specs.declared.outcome.Ack.TheVariants.{Done, Committed, RolledBack}
+use Rattle.session_steps.specs.Replies.{reply_to}
 use Rattle.waiting_engine.specs.State.{WaitingView, woken}
 use Rattle.waiting_engine.specs.Laws.{with_waits}
 use Rattle.waiting_engine.specs.Notes.{was_refused, NotesWait}
@@ -17,11 +18,15 @@ notes-other old s gives (reply.Refused (refusal.Busy o)) new other is = absurd (
 notes-other old s gives (reply.Refused r) new other is = (refl, is)
 notes-other old s gives given new other is = (refl, is)
 
-module _ (old : WaitingView) (s o : ℕ) (gives : Bool) (given : Reply) (busy : given ≡ reply.Refused (refusal.Busy o)) (new : WaitingView) where
-  -- it would close a ring
-  pub notes-ring : ClosesRing (wait_in old.waits) s o → new ≡ with_waits (failed_at old.engine s) (set old.waits s None) → NotesWait old s gives given new (reply.Refused refusal.Deadlock)
-  notes-ring ring is = subst (λ r. NotesWait old s gives r new (reply.Refused refusal.Deadlock)) (sym busy) (inr (record { ring = ring; told = refl; is = is }))
+-- a step was done that hands out no row
+pub notes-done : (old : WaitingView) (s : ℕ) (gives : Bool) (done : Ack) (new : WaitingView) → new ≡ with_waits old.engine (cond gives (woken s (set old.waits s None)) (set old.waits s None))
+    → NotesWait old s gives (reply_to (Ok done)) new (reply_to (Ok done))
+notes-done old s gives Done new is = (refl, is)
+notes-done old s gives Committed new is = (refl, is)
+notes-done old s gives RolledBack new is = (refl, is)
 
-  -- it begins
-  pub notes-busy : ¬ ClosesRing (wait_in old.waits) s o → new ≡ with_waits old.engine (set old.waits s (Some o)) → NotesWait old s gives given new given
-  notes-busy free is = subst (λ r. NotesWait old s gives r new given) (sym busy) (inl (record { free = free; told = busy; is = is }))
+-- or was refused, but not by Busy
+pub notes-refused : (old : WaitingView) (s : ℕ) (gives : Bool) (r : Refusal) (new : WaitingView) → ((o : ℕ) → r ≢ refusal.Busy o) → new ≡ with_waits old.engine (set old.waits s None)
+    → NotesWait old s gives (reply.Refused r) new (reply.Refused r)
+notes-refused old s gives (refusal.Busy o) new never is = absurd (never o refl)
+notes-refused old s gives r new never is = (refl, is)

@@ -7,6 +7,7 @@
 #![tactic(auto)]
 
 mod counts;
+mod direct;
 mod engine;
 mod making;
 mod runs;
@@ -20,4 +21,5 @@ pub use calls::{
 pub use engine::Engine;
 pub use page_slots::Page;
 pub use runs::{RunFault, run};
+pub use session_steps::Ack;
 pub use tuple_header::RowPlace;

@@ -1,13 +1,15 @@
 //! For whom each session waits.
 
-ghost use Rattle.std.specs.Prelude.{◌≡◌, ◌≢◌, ◌&&◌, not, ℕ, if◌then◌else◌, None, slice_set, MatchOption};
+ghost use Rattle.std.specs.Prelude.{◌≡◌, ◌≢◌, ◌&&◌, not, ℕ, if◌then◌else◌, false, None, slice_set, MatchOption};
 ghost use Rattle.waiting_engine.specs.State.{woken};
 ghost use Rattle.waiting_engine.specs.Laws.{with_waits};
 ghost use Rattle.waiting_engine.specs.Notes.{was_refused, NotesWait};
+ghost use Rattle.session_steps.specs.Replies.{reply_to};
 ghost use Rattle.vacuum_engine.specs.State.{failed_at};
 
 use crate::engine::Engine;
 use calls::{Refusal, Reply};
+use session_steps::Ack;
 
 /// The session for which a write has to wait.
 fn holder_in(reply: &Reply) -> Option<u8>
@@ -42,15 +44,49 @@ impl Engine {
             self.end_wait(s, gave);
             return;
         };
+        *reply = Reply::Refused(self.wait_for(s, o));
+    }
+
+    /// Notes the same of an answer that has no row.
+    #[inline(always)]
+    pub(crate) fn note_answer(
+        &mut self,
+        s: u8,
+        gives: bool,
+        answer: Result<Ack, Refusal>,
+    ) -> Result<Ack, Refusal>
+        ensures { NotesWait self.old s gives (reply_to answer) self.new (reply_to result) }
+    {
+        match answer {
+            Ok(done) => {
+                self.end_wait(s, gives);
+                Ok(done)
+            }
+            Err(refusal) => match refusal {
+                Refusal::Busy(o) => Err(self.wait_for(s, o)),
+                _ => {
+                    self.end_wait(s, false);
+                    Err(refusal)
+                }
+            },
+        }
+    }
+
+    /// The session waits for who has the key; or where that would close a ring it fails, and waits for nobody. The refusal says which.
+    fn wait_for(&mut self, s: u8, o: u8) -> Refusal
+        ensures { NotesWait self.old s false (Reply.Refused (Refusal.Busy o)) self.new
+            (Reply.Refused result) }
+    {
         if self.waits.closes_ring(s, o) {
             self.fail(s);
-            *reply = Reply::Refused(Refusal::Deadlock);
-            return;
+            return Refusal::Deadlock;
         }
         self.waits.begin(s, o);
+        Refusal::Busy(o)
     }
 
     /// The session's own wait ends; and where it gives back keys, nobody waits for it any more.
+    #[inline(always)]
     fn end_wait(&mut self, s: u8, gives: bool)
         ensures { self.new ≡ with_waits self.old.engine
             (if gives then woken s (slice_set self.old.waits s None)

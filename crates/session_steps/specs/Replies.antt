@@ -1,5 +1,6 @@
--- The reply to a step that hands out no row.
-use Rattle.std.specs.Prelude.{Result, Ok, Err}
+-- The replies to steps that hand out at most one row.
+use Rattle.std.specs.Prelude.{Result, Ok, Err, Option}
+use Rattle.tuple_header.specs.declared.version.Row.{Row}
 use Rattle.calls.specs.declared.reply.Reply.{Reply}
 use Rattle.calls.specs.declared.reply.Reply.TheVariants as reply
 use Rattle.calls.specs.declared.reply.Refusal.{Refusal}
@@ -11,3 +12,8 @@ reply_to (Ok Done) = reply.Done
 reply_to (Ok Committed) = reply.Committed
 reply_to (Ok RolledBack) = reply.RolledBack
 reply_to (Err refusal) = reply.Refused refusal
+
+-- where a row was looked for
+abbrev pub found_reply : Result (Option Row) Refusal → Reply
+found_reply (Ok row) = reply.Found row
+found_reply (Err refusal) = reply.Refused refusal

@@ -69,7 +69,7 @@ impl SessionEngine {
 
     /// Opens the session: it reads what was committed by now. Refusals in order: NoSuchSession, AlreadyOpen, and NoMemory,
     /// which comes only where its snapshot lists more than 8 ids.
-    pub(crate) fn begin(&mut self, s: u8) -> Result<Ack, Refusal>
+    pub fn begin(&mut self, s: u8) -> Result<Ack, Refusal>
         ensures { AnswersStep self.old (Step.Begin s) (reply_to result) self.new }
     {
         self.may_begin(s)?;

@@ -12,7 +12,7 @@ use commit_status::Status;
 impl SessionEngine {
     /// Makes what the session wrote part of the history, unless it has failed, and closes it. Refusals in order:
     /// NoSuchSession, NotOpen. It takes no memory.
-    pub(crate) fn commit(&mut self, s: u8) -> Result<Ack, Refusal>
+    pub fn commit(&mut self, s: u8) -> Result<Ack, Refusal>
         ensures { AnswersStep self.old (Step.Commit s) (reply_to result) self.new }
     {
         if self.open_session(s)?.failed {
@@ -25,7 +25,7 @@ impl SessionEngine {
     }
 
     /// Drops what the session wrote, and closes it. Refusals in order: NoSuchSession, NotOpen. It takes no memory.
-    pub(crate) fn abort(&mut self, s: u8) -> Result<Ack, Refusal>
+    pub fn abort(&mut self, s: u8) -> Result<Ack, Refusal>
         ensures { AnswersStep self.old (Step.Abort s) (reply_to result) self.new }
     {
         self.open_session(s)?;

@@ -1,9 +1,12 @@
 //! A session reads.
 
-ghost use Rattle.std.specs.Prelude.{◌≡◌, MatchResult};
+ghost use Rattle.std.specs.Prelude.{◌≡◌, IfErr, MatchResult};
 ghost use Rattle.calls.specs.declared.reply.Reply.TheVariants.{Found};
 ghost use Rattle.calls.specs.declared.step.Step.{Step};
+ghost use Rattle.calls.specs.Bars.{BarsReady};
+ghost use Rattle.session_steps.specs.State.{engine_sessions};
 ghost use Rattle.session_steps.specs.Exact.{AnswersStep};
+ghost use Rattle.session_steps.specs.Replies.{found_reply};
 ghost use Rattle.session_steps.specs.Tickets.{AreTicketRows, RefusesTicket};
 
 use crate::engine::SessionEngine;
@@ -13,16 +16,30 @@ use tickets::resolve;
 use tuple_header::RowRef;
 
 impl SessionEngine {
+    /// The row of the key that the session reads, where it stands. Refusals in order: NoSuchSession, NotOpen, Failed. It takes no
+    /// memory.
+    #[inline(always)]
+    pub fn look_up(&self, s: u8, key: u64) -> Result<Option<RowRef<'_>>, Refusal>
+        ensures answers { AnswersStep self.now (Step.Get s key) (found_reply result) self.now }
+        ensures refused { IfErr result
+            (λ refusal. BarsReady (engine_sessions self.now) s refusal) }
+    {
+        match self.ready(s) {
+            Ok(session) => {
+                let mut place = None;
+                Ok(self.heap.row(key, &self.reader(session, &mut place)))
+            }
+            Err(refusal) => Err(refusal),
+        }
+    }
+
     /// The row of the key that the session reads. Refusals in order: NoSuchSession, NotOpen, Failed. It takes no
     /// memory.
     pub(crate) fn get(&self, s: u8, key: u64, reply: &mut Reply)
         ensures { AnswersStep self.now (Step.Get s key) reply.new self.now }
     {
-        match self.ready(s) {
-            Ok(session) => {
-                let mut place = None;
-                put_found(self.heap.row(key, &self.reader(session, &mut place)), reply)
-            }
+        match self.look_up(s, key) {
+            Ok(found) => put_found(found, reply),
             Err(refusal) => *reply = Reply::Refused(refusal),
         }
     }

@@ -34,4 +34,5 @@ mod vacuuming;
 
 pub use calls::{Refusal, Reply, Row, RowIn, Settings, SettingsFault, Step};
 pub use engine::SessionEngine;
+pub use outcome::Ack;
 pub use page_slots::Page;

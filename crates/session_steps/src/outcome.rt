@@ -9,10 +9,13 @@ use heap_write::WriteFault;
 use xid_circle::Xid;
 
 /// What a step has done that hands out no row. A `Reply` has room for one, which costs wherever it is made or handed on.
-#[derive(Clone, Copy, Debug)]
-pub(crate) enum Ack {
+#[derive(Clone, Copy, Debug, PartialEq, Eq)]
+pub enum Ack {
+    /// The step was done, and there is nothing else to say.
     Done,
+    /// What the session wrote is part of the history.
     Committed,
+    /// The transaction was rolled back.
     RolledBack,
 }
 

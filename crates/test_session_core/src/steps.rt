@@ -96,7 +96,7 @@ fn every_kind_of_step(rt: HostRuntime) -> Result<(), Fail> {
     ask_new(rt.alloc(), SETTINGS, &STEPS)
 }
 
-static FRONT: [(u16, Action); 2] = [(1, Action::Redirect(3)), (2, Action::Unuse)];
+const FRONT: &[(u16, Action)] = &[(1, Action::Redirect(3)), (2, Action::Unuse)];
 
 // Slots 1 to 3 hold the versions of key 1, made by three ids, and session 1 reads the first.
 static PLANNED: [(Ask, Answer); 18] = [
@@ -110,13 +110,13 @@ static PLANNED: [(Ask, Answer); 18] = [
     (Ask::Begin(0), Answer::Done),
     (Ask::Update(0, 1, 7), Answer::Done),
     (Ask::Commit(0), Answer::Committed),
-    (Ask::ApplyPlan(0, 5, &FRONT), Refused(Refusal::Stale)),
+    (Ask::ApplyPlan(0, 5, FRONT), Refused(Refusal::Stale)),
     (Ask::Abort(1), Answer::RolledBack),
-    (Ask::ApplyPlan(1, 4, &FRONT), Refused(Refusal::NoSuchPage)),
-    (Ask::ApplyPlan(0, 4, &FRONT), Refused(Refusal::Stale)),
+    (Ask::ApplyPlan(1, 4, FRONT), Refused(Refusal::NoSuchPage)),
+    (Ask::ApplyPlan(0, 4, FRONT), Refused(Refusal::Stale)),
     // A plan may do nothing, and changes nothing then.
     (Ask::ApplyPlan(0, 5, &[]), Answer::Done),
-    (Ask::ApplyPlan(0, 5, &FRONT), Answer::Done),
+    (Ask::ApplyPlan(0, 5, FRONT), Answer::Done),
     (Ask::Slot(1), Answer::Redirect(3)),
     (Ask::Changes(0), Answer::Changes(7)),
 ];

@@ -1,4 +1,4 @@
-use Rattle.std.proofs.Common.{◌≡◌, refl, sym, ap, ◌∙◌}
+use Rattle.std.proofs.Common.{sym, ◌∙◌}
 use Rattle.script_text.proofs.WordLemmas.{plan_of-alone, plan_of-unread, plan_of-undone, plan_of-read}
 use Rattle.script_text.proofs.plan.plan.Goals as goal
 
