@@ -18,6 +18,7 @@ pub(crate) fn held_step(held: &mut Held, step: Step) -> u32
 }
 
 /// Does the step, if the handle has an engine.
+#[inline(always)]
 pub(crate) fn do_step(alloc: Global, table: &mut Sandpiper, step: Step) -> u32
     ensures { Does table.old step result table.new }
 {

@@ -17,7 +17,7 @@ use Rattle.calls.specs.declared.vacuum.Mode.TheVariants as mode
 use Rattle.script_text.specs.declared.line.Line.{Line}
 use Rattle.script_text.specs.declared.line.Line.TheVariants.{Do, VacuumFinish, Ids, Page, Entries}
 use Rattle.script_text.specs.Grammar.{LineFits, Spells, KeyFits, RowFits, RangeFits, spelling, spaced, hex_text, body_text, row_text, key_words, row_words, range_words, plan_words}
-use Rattle.script_text.specs.Reading.{Verbs, usual_verbs, other_verbs, vacuum_line_of, line_in, line_at, cut, number_of, number_then, column_then, bound_of, bound_then, nibble_of, pair_and, pairs_of, body_of, row_words_of, key_words_of, count_words_of, range_words_of, plan_words_of}
+use Rattle.script_text.specs.Reading.{Verbs, usual_verbs, other_verbs, vacuum_line_of, line_in, line_at, cut, number_of, number_then, column_then, bound_of, bound_then, nibble_of, pair_and, pairs_of, body_of, row_words_of, key_words_of, count_words_of, page_words_of, range_words_of, plan_words_of}
 use Rattle.script_text.proofs.ByteLemmas.{Free, Free-append, free_text}
 use Rattle.script_text.proofs.NumberLaws.{guarded, bound, mapped, both_true, cut_says, cut-free, number_of_says, number_of-decimal, number_then_says, number_then-decimal, decimal_free}
 use Rattle.script_text.proofs.PlanLaws.{plan_words_of_says, plan_words_of-words, plan_words_free}
@@ -144,6 +144,15 @@ count_words_of_says xs p h =
     let n_is = number_of_says 65535 s.0.1 n.0 (omega arith) n.1 in
     rw (← same_Some _ p n.2) ((omega (arith, s_is.1), omega (arith, n_is.1)), s_is.0 ∙ ap (λ r. decimal s.0.0 ++ spaced r) n_is.0)
 
+page_words_of_says : (xs : List ℕ) (p : ℕ × ℕ) → page_words_of xs ≡ Some p → ((p.0 < 2 ^ 8) × (p.1 < 2 ^ 32)) × (xs ≡ key_words p.0 p.1)
+unfolding page_words_of
+page_words_of_says xs p h =
+    let s = bound (number_then 255 xs) _ p h in
+    let n = bound (number_of 4294967295 s.0.1) _ p s.2 in
+    let s_is = number_then_says 255 xs s.0.0 s.0.1 (omega arith) s.1 in
+    let n_is = number_of_says 4294967295 s.0.1 n.0 (omega arith) n.1 in
+    rw (← same_Some _ p n.2) ((omega (arith, s_is.1), omega (arith, n_is.1)), s_is.0 ∙ ap (λ r. decimal s.0.0 ++ spaced r) n_is.0)
+
 range_chain : (xs r0 r1 r2 ds di sl sh : List ℕ) → xs ≡ ds ++ 32 ∷ r0 → r0 ≡ di ++ 32 ∷ r1 → r1 ≡ sl ++ 32 ∷ r2 → r2 ≡ sh → xs ≡ ds ++ 32 ∷ (di ++ 32 ∷ (sl ++ 32 ∷ sh))
 range_chain xs r0 r1 r2 ds di sl sh a b c d = cc
 
@@ -239,6 +248,9 @@ next_spelled = words_verb (codes "next") count_words_of (λ p. Do (step.Next p.0
 openindex_spelled : IsSpelled (codes "openindex", λ rest. option_map (λ p. Do (step.OpenIndex p.0 p.1 p.2 p.3)) (range_words_of rest))
 openindex_spelled = words_verb (codes "openindex") range_words_of (λ p. Do (step.OpenIndex p.0 p.1 p.2 p.3)) (λ p. range_words p.0 p.1 p.2 p.3) range_words_of_says (λ p. refl)
 
+takepage_spelled : IsSpelled (codes "takepage", λ rest. option_map (λ p. Do (step.TakePage p.0 p.1)) (page_words_of rest))
+takepage_spelled = words_verb (codes "takepage") page_words_of (λ p. Do (step.TakePage p.0 p.1)) (λ p. key_words p.0 p.1) page_words_of_says (λ p. refl)
+
 prune_spelled : IsSpelled (codes "prune", λ rest. option_map (λ p. Do (step.Prune p)) (number_of 4294967295 rest))
 prune_spelled = number_verb (codes "prune") 4294967295 (λ p. Do (step.Prune p)) (omega arith) (λ p h. omega (arith, h)) (λ p. refl)
 
@@ -280,7 +292,7 @@ usual_spelled : AllByRecursion IsSpelled usual_verbs
 usual_spelled = (get_spelled, (session_verb (codes "begin") (λ s. Do (step.Begin s)) (λ s h. h) (λ s. refl), (session_verb (codes "beginrc") (λ s. Do (step.BeginReadCommitted s)) (λ s h. h) (λ s. refl), (session_verb (codes "commit") (λ s. Do (step.Commit s)) (λ s h. h) (λ s. refl), (insert_spelled, (update_spelled, (delete_spelled, (next_spelled, (session_verb (codes "abort") (λ s. Do (step.Abort s)) (λ s h. h) (λ s. refl), tt)))))))))
 
 other_spelled : AllByRecursion IsSpelled other_verbs
-other_spelled = (session_verb (codes "savepoint") (λ s. Do (step.Savepoint s)) (λ s h. h) (λ s. refl), (session_verb (codes "rollbackto") (λ s. Do (step.RollbackTo s)) (λ s h. h) (λ s. refl), (session_verb (codes "release") (λ s. Do (step.Release s)) (λ s h. h) (λ s. refl), (openindex_spelled, (session_verb (codes "openheap") (λ s. Do (step.OpenHeap s)) (λ s h. h) (λ s. refl), (session_verb (codes "close") (λ s. Do (step.Close s)) (λ s h. h) (λ s. refl), (prune_spelled, (apply_spelled, (vacuum_spelled, (createindex_spelled, (page_spelled, (entries_spelled, tt))))))))))))
+other_spelled = (session_verb (codes "savepoint") (λ s. Do (step.Savepoint s)) (λ s h. h) (λ s. refl), (session_verb (codes "rollbackto") (λ s. Do (step.RollbackTo s)) (λ s h. h) (λ s. refl), (session_verb (codes "release") (λ s. Do (step.Release s)) (λ s h. h) (λ s. refl), (openindex_spelled, (session_verb (codes "openheap") (λ s. Do (step.OpenHeap s)) (λ s h. h) (λ s. refl), (session_verb (codes "close") (λ s. Do (step.Close s)) (λ s h. h) (λ s. refl), (takepage_spelled, (prune_spelled, (apply_spelled, (vacuum_spelled, (createindex_spelled, (page_spelled, (entries_spelled, tt)))))))))))))
 
 All-append : (xs ys : Verbs) → AllByRecursion IsSpelled xs → AllByRecursion IsSpelled ys → AllByRecursion IsSpelled (xs ++ ys)
 All-append [] ys h k = k
@@ -354,6 +366,10 @@ count_words_of-words : (s n : ℕ) → s < 2 ^ 8 → n < 2 ^ 16 → count_words_
 unfolding count_words_of
 count_words_of-words s n hs hn = rw (number_then-decimal 255 s (decimal n) (omega arith) (omega arith), number_of-decimal 65535 n (omega arith) (omega arith)) refl
 
+page_words_of-words : (s p : ℕ) → s < 2 ^ 8 → p < 2 ^ 32 → page_words_of (key_words s p) ≡ Some (s, p)
+unfolding page_words_of
+page_words_of-words s p hs hp = rw (number_then-decimal 255 s (decimal p) (omega arith) (omega arith), number_of-decimal 4294967295 p (omega arith) (omega arith)) refl
+
 range_words_of-words : (s index : ℕ) (low high : ℤ) → RangeFits s index low high → range_words_of (range_words s index low high) ≡ Some (s, index, low, high)
 unfolding range_words_of
 range_words_of-words s index low high h =
@@ -399,6 +415,8 @@ line_at-spelling (Do (step.Next s n)) h =
     with_verb (codes "next") (key_words s n) _ (free_text 32 (codes "next") refl) refl (ap (λ (o : Option (ℕ × ℕ)). option_map (λ p. Do (step.Next p.0 p.1)) o) (count_words_of-words s n h.0 h.1))
 line_at-spelling (Do (step.Close s)) h =
     with_verb (codes "close") (decimal s) _ (free_text 32 (codes "close") refl) refl (ap (λ (o : Option ℕ). option_map (λ s. Do (step.Close s)) o) (number_of-decimal 255 s (omega arith) (omega arith)))
+line_at-spelling (Do (step.TakePage s p)) h =
+    with_verb (codes "takepage") (key_words s p) _ (free_text 32 (codes "takepage") refl) refl (ap (λ (o : Option (ℕ × ℕ)). option_map (λ p. Do (step.TakePage p.0 p.1)) o) (page_words_of-words s p h.0 h.1))
 line_at-spelling (Do (step.Prune p)) h =
     with_verb (codes "prune") (decimal p) _ (free_text 32 (codes "prune") refl) refl (ap (λ (o : Option ℕ). option_map (λ p. Do (step.Prune p)) o) (number_of-decimal 4294967295 p (omega arith) (omega arith)))
 line_at-spelling (Do (step.ApplyPlan p plan)) h =
@@ -486,6 +504,7 @@ Free-spelling (Do (step.OpenIndex s index low high)) h = Free-append 10 (codes "
 Free-spelling (Do (step.OpenHeap s)) h = Free-append 10 (codes "openheap") (spaced (decimal s)) (free_text 10 (codes "openheap") refl) (one_free s (omega arith))
 Free-spelling (Do (step.Next s n)) h = Free-append 10 (codes "next") (spaced (key_words s n)) (free_text 10 (codes "next") refl) (key_words_free s n (h.0, omega (arith, h.1)))
 Free-spelling (Do (step.Close s)) h = Free-append 10 (codes "close") (spaced (decimal s)) (free_text 10 (codes "close") refl) (one_free s (omega arith))
+Free-spelling (Do (step.TakePage s p)) h = Free-append 10 (codes "takepage") (spaced (key_words s p)) (free_text 10 (codes "takepage") refl) (key_words_free s p (h.0, omega (arith, h.1)))
 Free-spelling (Do (step.Prune p)) h = Free-append 10 (codes "prune") (spaced (decimal p)) (free_text 10 (codes "prune") refl) (one_free p (omega arith))
 Free-spelling (Do (step.ApplyPlan p plan)) h = Free-append 10 (codes "apply") (spaced (plan_words p plan)) (free_text 10 (codes "apply") refl) (plan_words_free p plan h)
 Free-spelling (Do (step.VacuumBegin mode.Normal)) h = free_text 10 (codes "vacuum begin normal") refl

@@ -36,7 +36,7 @@ body_text (b ∷ bs) = hex_text (b ∷ bs)
 abbrev pub row_text : ℕ → List ℤ → List ℕ → List ℕ
 row_text k cols body = decimal k ++ (flat_map (λ c. spaced (signed_decimal c)) cols ++ spaced (body_text body))
 
--- a session and a key, or a session and how many rows
+-- a session, and a key, how many rows or a page
 abbrev pub key_words : ℕ → ℕ → List ℕ
 key_words s k = decimal s ++ spaced (decimal k)
 
@@ -107,6 +107,7 @@ step_text (step.OpenIndex s index low high) = codes "openindex" ++ spaced (range
 step_text (step.OpenHeap s) = codes "openheap" ++ spaced (decimal s)
 step_text (step.Next s n) = codes "next" ++ spaced (key_words s n)
 step_text (step.Close s) = codes "close" ++ spaced (decimal s)
+step_text (step.TakePage s p) = codes "takepage" ++ spaced (key_words s p)
 step_text (step.Prune p) = codes "prune" ++ spaced (decimal p)
 step_text (step.ApplyPlan p plan) = codes "apply" ++ spaced (plan_words p plan)
 step_text (step.VacuumBegin mode) = codes "vacuum begin" ++ spaced (mode_text mode)
@@ -161,6 +162,7 @@ StepFits (step.OpenIndex s index low high) = RangeFits s index low high
 StepFits (step.OpenHeap s) = s < 2 ^ 8
 StepFits (step.Next s n) = (s < 2 ^ 8) × (n < 2 ^ 16)
 StepFits (step.Close s) = s < 2 ^ 8
+StepFits (step.TakePage s p) = (s < 2 ^ 8) × (p < 2 ^ 32)
 StepFits (step.Prune p) = p < 2 ^ 32
 StepFits (step.ApplyPlan p plan) = PlanFits p plan
 StepFits (step.VacuumBegin mode) = Unit {0}

@@ -116,6 +116,13 @@ count_words_of xs = do
   n ← number_of 65535 s.1
   Some (s.0, n)
 
+-- a session and a page
+unfoldable pub page_words_of : List ℕ → Option (ℕ × ℕ)
+page_words_of xs = do
+  s ← number_then 255 xs
+  p ← number_of 4294967295 s.1
+  Some (s.0, p)
+
 -- a session, an index and two bounds
 unfoldable pub range_words_of : List ℕ → Option (ℕ × ℕ × ℤ × ℤ)
 range_words_of xs = do
@@ -222,6 +229,7 @@ other_verbs =
     ∷ (codes "openindex", λ rest. option_map (λ p. Do (step.OpenIndex p.0 p.1 p.2 p.3)) (range_words_of rest))
     ∷ (codes "openheap", λ rest. option_map (λ s. Do (step.OpenHeap s)) (number_of 255 rest))
     ∷ (codes "close", λ rest. option_map (λ s. Do (step.Close s)) (number_of 255 rest))
+    ∷ (codes "takepage", λ rest. option_map (λ p. Do (step.TakePage p.0 p.1)) (page_words_of rest))
     ∷ (codes "prune", λ rest. option_map (λ p. Do (step.Prune p)) (number_of 4294967295 rest))
     ∷ (codes "apply", λ rest. option_map (λ p. Do (step.ApplyPlan p.0 p.1)) (plan_words_of rest))
     ∷ (codes "vacuum", vacuum_line_of)

@@ -3,7 +3,7 @@
 ghost use Rattle.std.specs.Prelude.{◌≡◌, ◌++◌, IfOk};
 ghost use Rattle.std.specs.Option.{option_map};
 ghost use Rattle.script_text.specs.Grammar.{Spells};
-ghost use Rattle.script_text.specs.Reading.{number_of, row_words_of, key_words_of, count_words_of, range_words_of, plan_words_of, vacuum_line_of, line_in, usual_verbs, other_verbs, line_at as line_at_of};
+ghost use Rattle.script_text.specs.Reading.{number_of, row_words_of, key_words_of, count_words_of, page_words_of, range_words_of, plan_words_of, vacuum_line_of, line_in, usual_verbs, other_verbs, line_at as line_at_of};
 
 use crate::growth::RefusedGrowth;
 use crate::plan::plan;
@@ -83,6 +83,16 @@ fn count(text: &[u8]) -> Option<(u8, u16)>
     Some((s as u8, n as u16))
 }
 
+// A session and a page.
+#[tactic(auto, unfolding(crate::specs::Reading::page_words_of))]
+fn session_and_page(text: &[u8]) -> Option<(u8, u32)>
+    ensures { option_map (λ p. (p.0, p.1)) result ≡ page_words_of text.now }
+{
+    let (s, rest) = number_then(text, 255)?;
+    let page = number(rest, u64::from(u32::MAX))?;
+    Some((s as u8, page as u32))
+}
+
 // A session, an index and two bounds.
 #[tactic(auto, unfolding(crate::specs::Reading::range_words_of))]
 fn range(text: &[u8]) -> Option<(u8, u8, i128, i128)>
@@ -159,6 +169,8 @@ fn other_line(alloc: Global, word: &[u8], rest: &[u8]) -> Result<Option<Line>, R
         Ok(number8(rest).map(|s| Line::Do(Step::OpenHeap(s))))
     } else if word == b"close".as_slice() {
         Ok(number8(rest).map(|s| Line::Do(Step::Close(s))))
+    } else if word == b"takepage".as_slice() {
+        Ok(session_and_page(rest).map(|(s, page)| Line::Do(Step::TakePage(s, page))))
     } else if word == b"prune".as_slice() {
         Ok(page(rest).map(|p| Line::Do(Step::Prune(p))))
     } else if word == b"apply".as_slice() {

@@ -11,7 +11,7 @@ use crate::page::{label, spaced_number};
 use crate::plan::put_actions;
 use calls::{Mode, PlanIn, RowIn, Step};
 
-// A verb, a session, and a key or how many rows.
+// A verb, a session, and a key, how many rows or a page.
 #[tactic(auto, unfolding(crate::specs::Answers::labelled))]
 fn key(out: &mut Vec<u8>, verb: &[u8], s: u8, key: u64) -> Result<(), RefusedGrowth>
     ensures { OnOk result
@@ -77,6 +77,7 @@ fn text(out: &mut Vec<u8>, step: &Step) -> Result<(), RefusedGrowth>
         Step::OpenHeap(s) => label(out, b"openheap", u64::from(*s)),
         Step::Next(s, count) => key(out, b"next", *s, u64::from(*count)),
         Step::Close(s) => label(out, b"close", u64::from(*s)),
+        Step::TakePage(s, page) => key(out, b"takepage", *s, u64::from(*page)),
         Step::Prune(page) => label(out, b"prune", u64::from(*page)),
         Step::ApplyPlan(page, new) => plan(out, *page, new),
         Step::VacuumBegin(Mode::Normal) => extend(out, b"vacuum begin normal"),

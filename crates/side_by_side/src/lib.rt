@@ -12,6 +12,7 @@ mod cuts;
 mod levels;
 mod look;
 mod making;
+mod page_rows;
 mod pair;
 mod plain_side;
 mod vacuum;

@@ -12,7 +12,8 @@ use crate::cuts::{Chains, chains_of, count_cuts};
 use crate::levels::{Levels, horizon_of, session_of_levels, xmin_of};
 use crate::look::{are_all_visible, count_slots, first_astray, first_misnoted};
 use crate::making::{hindrance, is_exact};
-use crate::plain_side::{all_rows, answer, answer_without_writing, refused_or};
+use crate::page_rows::read_again;
+use crate::plain_side::{all_rows, answer, answer_without_writing, refused_or, refused_to_read};
 use crate::vacuum::{RunningVacuum, expected_of_vacuum};
 use crate::written::{is_too_large, row_to_write, size_on_page, writer_of};
 use page_slots::Page;
@@ -338,7 +339,9 @@ impl Pair {
             ids: self.engine.ids(),
             needs_freeze: self.needs_freeze(step),
             has_page: match step {
-                Step::Prune(page) | Step::ApplyPlan(page, _) => self.engine.page(*page).is_some(),
+                Step::TakePage(_, page) | Step::Prune(page) | Step::ApplyPlan(page, _) => {
+                    self.engine.page(*page).is_some()
+                }
                 _ => false,
             },
             has_index: match step {
@@ -416,6 +419,23 @@ impl Pair {
         }
     }
 
+    // What the engine has to reply to a session that takes the rows of a page, where it has replied this.
+    fn expected_of_taking(
+        &mut self,
+        alloc: Global,
+        s: u8,
+        before: Before,
+        reply: &Reply,
+    ) -> Option<Reply> {
+        if let Some(refused) = refused_to_read(&mut self.plain, s) {
+            return Some(refused);
+        }
+        if !before.has_page {
+            return Some(Reply::Refused(Refusal::NoSuchPage));
+        }
+        read_again(alloc, &self.plain, s, reply).ok()
+    }
+
     // Whether an open session has an id.
     fn has_writer(&self) -> bool {
         for levels in &self.levels {
@@ -457,6 +477,7 @@ impl Pair {
                 expected_of_vacuum(self.vacuum, before.ids.1, step, reply)
             }
             Step::Next(s, _) => self.expected_of_next(alloc, *s, step, reply),
+            Step::TakePage(s, _) => self.expected_of_taking(alloc, *s, before, reply),
             Step::CreateIndex(column) => self.expected_of_making(*column, step, before),
             _ => answer(&mut self.plain, step),
         }

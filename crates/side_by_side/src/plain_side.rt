@@ -69,7 +69,7 @@ fn reply_written(answered: Result<(), Refused>) -> Option<Reply>
 }
 
 /// Does the step, whose row is not too large. Nothing is answered where the engine has no word for the answer, and to
-/// the pruning of a page, a plan and the steps of a vacuum, of which the history knows nothing.
+/// what asks for a page, be it its rows, its pruning or a plan, and the steps of a vacuum: of those the history knows nothing.
 pub(crate) fn answer(plain: &mut PlainHistory, step: &Step) -> Option<Reply> {
     match step {
         Step::Begin(s) => reply_done(plain.begin(*s)),
@@ -90,7 +90,7 @@ pub(crate) fn answer(plain: &mut PlainHistory, step: &Step) -> Option<Reply> {
         Step::Next(s, count) => reply_rows(plain.next(*s, *count)),
         Step::Close(s) => reply_done(plain.close(*s)),
         Step::CreateIndex(column) => reply_done(plain.make_index(*column)),
-        Step::Prune(_) | Step::ApplyPlan(_, _) => None,
+        Step::TakePage(_, _) | Step::Prune(_) | Step::ApplyPlan(_, _) => None,
         Step::VacuumBegin(_) | Step::VacuumStep | Step::VacuumCancel => None,
     }
 }
@@ -124,6 +124,16 @@ pub(crate) fn refused_or(plain: &mut PlainHistory, s: u8, refusal: Refusal) -> O
         Err(Refusal::BadBounds) => Some(Reply::Refused(refusal)),
         Err(why) => reply_refused(why),
         Ok(()) => None,
+    }
+}
+
+/// What the plain program answers where the session may not read. Where it may, nothing is read, and yet it is a step of the session,
+/// whose own wait ends.
+pub(crate) fn refused_to_read(plain: &mut PlainHistory, s: u8) -> Option<Reply> {
+    // Whatever key is read, the refusals are the same.
+    match plain.get(s, 0) {
+        Ok(_) => None,
+        Err(why) => reply_refused(why),
     }
 }
 

@@ -9,7 +9,7 @@ use std::io;
 use tuple_header::Tuple;
 
 /// How many kinds there are.
-pub(crate) const KINDS: usize = 47;
+pub(crate) const KINDS: usize = 49;
 
 const NAMES: [&str; KINDS] = [
     "Done",
@@ -59,6 +59,8 @@ const NAMES: [&str; KINDS] = [
     "indexes made beside sessions by snapshot and by statement",
     "vacuums that ended after an index was made",
     "Deadlock",
+    "rows of a page",
+    "no rows of a page",
 ];
 
 const NEAR: usize = 39;
@@ -73,6 +75,10 @@ const MADE: usize = 44;
 const CLEANED: usize = 45;
 
 const DEADLOCK: usize = 46;
+
+const PAGE_ROWS: usize = 47;
+
+const NO_PAGE_ROWS: usize = 48;
 
 // How many indexes have to be made.
 const MANY_MADE: u64 = 3000;
@@ -95,7 +101,7 @@ pub(crate) struct Counts {
 }
 
 fn place_of_refusal(refusal: Refusal) -> Option<usize>
-    ensures { IfSome result (λ place. place < 47) }
+    ensures { IfSome result (λ place. place < 49) }
 {
     match refusal {
         Refusal::NotOpen => Some(7),
@@ -126,7 +132,7 @@ fn place_of_refusal(refusal: Refusal) -> Option<usize>
 }
 
 fn place_of_reply(reply: &Reply) -> Option<usize>
-    ensures { IfSome result (λ place. place < 47) }
+    ensures { IfSome result (λ place. place < 49) }
 {
     match reply {
         Reply::Done => Some(0),
@@ -144,8 +150,20 @@ fn place_of_reply(reply: &Reply) -> Option<usize>
     }
 }
 
+// Where the step says more of the reply.
+fn place_of_both(step: &Step, reply: &Reply) -> Option<usize>
+    ensures { IfSome result (λ place. place < 49) }
+{
+    match (step, reply) {
+        (Step::VacuumCancel, Reply::Done) => Some(37),
+        (Step::TakePage(_, _), Reply::Rows(rows)) if rows.is_empty() => Some(NO_PAGE_ROWS),
+        (Step::TakePage(_, _), Reply::Rows(_)) => Some(PAGE_ROWS),
+        _ => None,
+    }
+}
+
 fn place_of_version(version: &Tuple, page: u32) -> Option<usize>
-    ensures { IfSome result (λ place. place < 47) }
+    ensures { IfSome result (λ place. place < 49) }
 {
     if version.header.ctid.page != page {
         Some(29)
@@ -157,7 +175,7 @@ fn place_of_version(version: &Tuple, page: u32) -> Option<usize>
 }
 
 fn place_of_slot(slot: &Slot, page: u32) -> Option<usize>
-    ensures { IfSome result (λ place. place < 47) }
+    ensures { IfSome result (λ place. place < 49) }
 {
     match slot {
         Slot::Unused => Some(25),
@@ -193,7 +211,7 @@ impl Counts {
     }
 
     fn add(&mut self, place: Option<usize>)
-        requires { IfSome place (λ place. place < 47) }
+        requires { IfSome place (λ place. place < 49) }
     {
         if let Some(place) = place {
             self.counts[place] = self.counts[place].saturating_add(1);
@@ -204,9 +222,7 @@ impl Counts {
     pub(crate) fn add_step(&mut self, step: &Step, reply: &Reply) {
         self.steps = self.steps.saturating_add(1);
         self.add(place_of_reply(reply));
-        if let (Step::VacuumCancel, Reply::Done) = (step, reply) {
-            self.add(Some(37));
-        }
+        self.add(place_of_both(step, reply));
     }
 
     /// Counts a version that was put in a slot that was used before.

@@ -181,7 +181,8 @@ fn draw_any(
     pages: u32,
 ) -> Result<Step, AllocError> {
     Ok(match generator.below(100) {
-        0..=8 => Step::Get(s, key),
+        0..=7 => Step::Get(s, key),
+        8 => Step::TakePage(s, generator.below(pages.saturating_add(1))),
         9..=12 => draw_open_index(generator, s),
         13..=14 => Step::OpenHeap(s),
         15..=69 => {

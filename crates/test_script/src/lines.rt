@@ -36,7 +36,7 @@ fn line_ends_so(
 }
 
 // Lines with what they and the `begin 0` before them are answered.
-static ALLOWED: [(&[u8], &[u8]); 58] = [
+static ALLOWED: [(&[u8], &[u8]); 63] = [
     (b"begin 63", b"ok\nok\n"),
     (b"begin 0", b"ok\nerror 2 AlreadyOpen\n"),
     (b"begin 255", b"ok\nerror 23 NoSuchSession\n"),
@@ -106,6 +106,14 @@ static ALLOWED: [(&[u8], &[u8]); 58] = [
         b"insert 0 2 5 0 0 0 -\ninsert 0 1 6 -7 0 0 00ff\nopenheap 0\nopenheap 0\nsavepoint 0\nnext 0 1\nnext 0 1\nclose 0\nnext 0 1",
         b"ok\nok\nok\nok\nerror 9 CursorOpen\nerror 9 CursorOpen\nrows 2\nrow 2 5 0 0 0 -\nrow 1 6 -7 0 0 00ff\nend\nok\nerror 10 NoCursor\n",
     ),
+    (b"takepage 0 0", b"ok\nerror 19 NoSuchPage\n"),
+    (b"takepage 0 4294967295", b"ok\nerror 19 NoSuchPage\n"),
+    (b"takepage 1 0", b"ok\nerror 1 NotOpen\n"),
+    (b"takepage 255 0", b"ok\nerror 23 NoSuchSession\n"),
+    (
+        b"insert 0 2 5 0 0 0 -\ninsert 0 1 6 -7 0 0 00ff\nbegin 1\nbeginrc 2\ntakepage 0 0\ntakepage 1 0\ntakepage 2 0\ncommit 0\ntakepage 1 0\ntakepage 2 0",
+        b"ok\nok\nok\nok\nok\nrows 2\nrow 2 5 0 0 0 -\nrow 1 6 -7 0 0 00ff\nrows 0\nrows 0\ncommitted\nrows 0\nrows 2\nrow 2 5 0 0 0 -\nrow 1 6 -7 0 0 00ff\n",
+    ),
     (b"vacuum begin normal", b"ok\nok\n"),
     (b"vacuum begin aggressive", b"ok\nok\n"),
     (b"vacuum step", b"ok\nerror 18 NoVacuum\n"),
@@ -167,7 +175,7 @@ fn allowed_lines(rt: HostRuntime) -> Result<(), Fail> {
 }
 
 // Lines that are not allowed.
-static BAD: [&[u8]; 147] = [
+static BAD: [&[u8]; 158] = [
     b"",
     b" ",
     b"begin",
@@ -208,6 +216,17 @@ static BAD: [&[u8]; 147] = [
     b"ids 0",
     b"page",
     b"page 4294967296",
+    b"takepage",
+    b"takepage ",
+    b"takepage 0",
+    b"takepage 0 ",
+    b"takepage  0 0",
+    b"takepage 0  0",
+    b"takepage 256 0",
+    b"takepage 0 4294967296",
+    b"takepage 0 00",
+    b"takepage 0 -0",
+    b"takepage 0 0 0",
     b"prune",
     b"prune 4294967296",
     b"prune 0 0",

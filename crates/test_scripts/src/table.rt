@@ -14,7 +14,7 @@ pub struct Case {
 }
 
 /// The scripts of reading, inserting and ending, and of ids that start anew.
-pub static CASES: [Case; 11] = [
+pub static CASES: [Case; 12] = [
     Case {
         name: "get_from_an_empty_table",
         script: b"heap 4 1000 0 3 64 0000\nbegin 0\nget 0 1\n",
@@ -128,6 +128,17 @@ pub static CASES: [Case; 11] = [
         answers: b"ok\nok\ncommitted\nok\nok\ncommitted\nok\nok\ncommitted\nok\nok\ncommitted\nok\nok\ncommitted\n\
             ok\nok\ncommitted\nok\nok\ncommitted\nok\nok\ncommitted\nok\nok\ncommitted\nok\nok\ncommitted\n\
             next 7 frozen_below 4294967290\n",
+        status: 0,
+        words: "",
+    },
+    // The page is taken by a session that reads an older version than the last.
+    Case {
+        name: "ticket_of_a_page",
+        script: b"heap 4 1000 0 3 64 0000\nbegin 0\ninsert 0 1 5 0 0 0 -\ncommit 0\nbegin 1\nbegin 0\nupdate 0 1 6 0 0 0 -\ncommit 0\n\
+            takepage 1 0\ntakepage 1 1\n",
+        body: 0,
+        other: 0,
+        answers: b"ok\nok\ncommitted\nok\nok\nok\ncommitted\nrows 1\nrow 1 5 0 0 0 -\nerror 19 NoSuchPage\n",
         status: 0,
         words: "",
     },

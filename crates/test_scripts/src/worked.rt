@@ -87,8 +87,9 @@ fn worked_cases(rt: HostRuntime) -> Result<(), Fail> {
 }
 
 #[test]
-fn worked_chains(rt: HostRuntime) -> Result<(), Fail> {
-    run_all(rt.alloc(), &CHAINS)
+fn worked_updates(rt: HostRuntime) -> Result<(), Fail> {
+    run_all(rt.alloc(), &CHAINS)?;
+    run_all(rt.alloc(), &PAGES)
 }
 
 #[test]
@@ -109,11 +110,6 @@ fn worked_cursors(rt: HostRuntime) -> Result<(), Fail> {
 #[test]
 fn worked_vacuums(rt: HostRuntime) -> Result<(), Fail> {
     run_all(rt.alloc(), &VACUUMS)
-}
-
-#[test]
-fn worked_pages(rt: HostRuntime) -> Result<(), Fail> {
-    run_all(rt.alloc(), &PAGES)
 }
 
 #[test]

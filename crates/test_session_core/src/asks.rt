@@ -32,6 +32,8 @@ pub enum Ask {
     /// Has the next rows written to so many places, up to three.
     Places(u8, usize),
     Close(u8),
+    /// The rows of a page.
+    TakePage(u8, u32),
     Commit(u8),
     Abort(u8),
     Prune(u32),
@@ -142,6 +144,7 @@ fn step_of(alloc: Global, ask: Ask) -> Result<Option<Step>, AllocError> {
         Ask::OpenHeap(s) => Step::OpenHeap(s),
         Ask::Next(s, count) => Step::Next(s, count),
         Ask::Close(s) => Step::Close(s),
+        Ask::TakePage(s, page) => Step::TakePage(s, page),
         Ask::Commit(s) => Step::Commit(s),
         Ask::Abort(s) => Step::Abort(s),
         Ask::Prune(page) => Step::Prune(page),
@@ -173,7 +176,8 @@ fn is_no_memory(reply: &Reply) -> bool {
 
 fn may_grow(ask: Ask) -> bool {
     match ask {
-        Ask::Begin(_) | Ask::Savepoint(_) | Ask::Next(_, _) | Ask::CreateIndex(_) => true,
+        Ask::Begin(_) | Ask::Savepoint(_) | Ask::CreateIndex(_) => true,
+        Ask::Next(_, _) | Ask::TakePage(_, _) => true,
         Ask::Insert(_, _, _) | Ask::InsertBody(_, _, _) => true,
         Ask::Update(_, _, _) | Ask::UpdateBody(_, _, _) | Ask::Delete(_, _) => true,
         _ => false,
@@ -244,24 +248,15 @@ fn is_answer(reply: &Reply, ask: Ask, answer: Answer) -> bool {
 }
 
 fn is_worked(piece: Piece, answer: Answer) -> bool {
-    match answer {
-        Answer::Worked(told) => piece == told,
-        _ => false,
-    }
+    matches!(answer, Answer::Worked(told) if piece == told)
 }
 
 fn is_ended(first: u32, answer: Answer) -> bool {
-    match answer {
-        Answer::Ended(told) => first == told,
-        _ => false,
-    }
+    matches!(answer, Answer::Ended(told) if first == told)
 }
 
 fn is_refusal(refusal: Refusal, answer: Answer) -> bool {
-    match answer {
-        Answer::Refused(told) => refusal == told,
-        _ => false,
-    }
+    matches!(answer, Answer::Refused(told) if refusal == told)
 }
 
 fn reads(engine: &Engine, s: u8, key: u64, answer: Answer) -> bool {
@@ -305,10 +300,7 @@ fn is_slot(page: &Page, number: u16, answer: Answer) -> bool {
         Some(Slot::Unused) => matches!(answer, Answer::Unused),
         Some(Slot::Dead) => matches!(answer, Answer::Dead),
         Some(Slot::Normal(_)) => matches!(answer, Answer::Normal),
-        Some(Slot::Redirect(next)) => match answer {
-            Answer::Redirect(told) => next == told,
-            _ => false,
-        },
+        Some(Slot::Redirect(next)) => matches!(answer, Answer::Redirect(told) if next == told),
         _ => false,
     }
 }

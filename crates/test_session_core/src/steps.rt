@@ -15,20 +15,26 @@ const SETTINGS: Settings = Settings {
     indexed: [false; 4],
 };
 
-static STEPS: [(Ask, Answer); 63] = [
+// The keys of the rows that are committed at the end, by their slots.
+const SEEN: &[u64] = &[1, 4, 5, 6, 7, 8, 9, 10];
+
+static STEPS: [(Ask, Answer); 72] = [
     (Ask::Page(0), Answer::NoPage),
     (Ask::Get(0, 1), Refused(Refusal::NotOpen)),
+    (Ask::TakePage(0, 0), Refused(Refusal::NotOpen)),
     (Ask::InsertBody(0, 1, 0), Refused(Refusal::NotOpen)),
     (Ask::Commit(0), Refused(Refusal::NotOpen)),
     (Ask::Abort(0), Refused(Refusal::NotOpen)),
     (Ask::Begin(64), Refused(Refusal::NoSuchSession)),
     (Ask::Get(64, 1), Refused(Refusal::NoSuchSession)),
+    (Ask::TakePage(64, 0), Refused(Refusal::NoSuchSession)),
     (Ask::InsertBody(255, 1, 0), Refused(Refusal::NoSuchSession)),
     (Ask::Commit(64), Refused(Refusal::NoSuchSession)),
     (Ask::Abort(64), Refused(Refusal::NoSuchSession)),
     (Ask::Prune(0), Refused(Refusal::NoSuchPage)),
     (Ask::Begin(0), Answer::Done),
     (Ask::Begin(0), Refused(Refusal::AlreadyOpen)),
+    (Ask::TakePage(0, 0), Refused(Refusal::NoSuchPage)),
     (Ask::Begin(1), Answer::Done),
     (Ask::Begin(63), Answer::Done),
     // Id 3, slot 1.
@@ -39,10 +45,14 @@ static STEPS: [(Ask, Answer); 63] = [
     (Ask::InsertBody(0, 1, 1025), Refused(Refusal::TooLarge)),
     (Ask::InsertBody(1, 1, 0), Refused(Refusal::Busy(0))),
     (Ask::Get(1, 1), Answer::NoRow),
+    (Ask::TakePage(1, 0), Answer::Keys(&[])),
     (Ask::Get(0, 1), Answer::Body(0)),
+    (Ask::TakePage(0, 0), Answer::Keys(&[1])),
+    (Ask::TakePage(0, 1), Refused(Refusal::NoSuchPage)),
     (Ask::Commit(0), Answer::Committed),
     (Ask::InsertBody(1, 1, 0), Refused(Refusal::Conflict)),
     (Ask::Get(1, 1), Refused(Refusal::Failed)),
+    (Ask::TakePage(1, 1), Refused(Refusal::Failed)),
     (Ask::InsertBody(1, 9, 1025), Refused(Refusal::Failed)),
     (Ask::Begin(1), Refused(Refusal::AlreadyOpen)),
     (Ask::Commit(1), Answer::RolledBack),
@@ -70,6 +80,7 @@ static STEPS: [(Ask, Answer); 63] = [
     // 66 and 246 bytes are 312. Slot 10.
     (Ask::InsertBody(2, 10, 246), Answer::Done),
     (Ask::Get(2, 10), Answer::Body(246)),
+    (Ask::TakePage(2, 0), Answer::Keys(SEEN)),
     (Ask::Commit(2), Answer::Committed),
     (Ask::Begin(3), Answer::Done),
     // There is neither an id nor room.
@@ -82,6 +93,7 @@ static STEPS: [(Ask, Answer); 63] = [
     (Ask::Begin(3), Answer::Done),
     (Ask::Get(3, 3), Answer::NoRow),
     (Ask::Get(3, 10), Answer::Body(246)),
+    (Ask::TakePage(3, 0), Answer::Keys(SEEN)),
     (Ask::Abort(3), Answer::RolledBack),
     (Ask::Ids, Answer::Ids(7, 3)),
     (Ask::Slot(2), Answer::Dead),
