@@ -30,6 +30,7 @@ enum kind {
     NEXT,
     CLOSE_CURSOR,
     PRUNE,
+    APPLY_PLAN,
     VACUUM_BEGIN,
     VACUUM_STEP,
     VACUUM_CANCEL,
@@ -37,14 +38,15 @@ enum kind {
     KINDS
 };
 
-static const char *const words[KINDS] = {"open",        "begin",         "begin by statement", "get",     "insert",       "update",
-                                         "delete",      "savepoint",     "rollback to",        "release", "commit",       "abort",
-                                         "heap cursor", "cursor by key", "cursor by index",    "next",    "close cursor", "prune",
-                                         "vacuum",      "vacuum's step", "vacuum's cancel",    "making"};
+static const char *const words[KINDS] = {"open",         "begin",         "begin by statement", "get",          "insert",          "update",
+                                         "delete",       "savepoint",     "rollback to",        "release",      "commit",          "abort",
+                                         "heap cursor",  "cursor by key", "cursor by index",    "next",         "close cursor",    "prune",
+                                         "plan",         "vacuum",        "vacuum's step",      "vacuum's cancel", "making"};
 
 /* Those that ask for memory. Each has to be refused here, and no other may ask for any. */
 static const bool asks[KINDS] = {[OPEN] = true,      [BEGIN] = true,     [INSERT] = true,      [UPDATE] = true,     [DELETE] = true,
-                                 [SAVEPOINT] = true, [OPEN_HEAP] = true, [OPEN_BY_KEY] = true, [OPEN_INDEX] = true, [CREATE_INDEX] = true};
+                                 [SAVEPOINT] = true, [OPEN_HEAP] = true, [OPEN_BY_KEY] = true, [OPEN_INDEX] = true,
+                                 [APPLY_PLAN] = true, [CREATE_INDEX] = true};
 
 /* The key stands for a page, an index, a column or a mode, where the kind has one of these. */
 struct step {
@@ -79,6 +81,9 @@ static const struct sandpiper_row *row_of(uint64_t key, int64_t value) {
     return &row;
 }
 
+/* A plan for a page of three versions of one row. */
+static const struct sandpiper_action PLAN[] = {{1, SANDPIPER_LEAD, 3}, {2, SANDPIPER_UNUSE, 0}};
+
 static uint32_t take(struct sandpiper *on, struct step step, struct answer *answer) {
     uint8_t s = step.session;
     switch (step.kind) {
@@ -100,6 +105,7 @@ static uint32_t take(struct sandpiper *on, struct step step, struct answer *answ
     case NEXT: return sandpiper_next(on, s, answer->rows, ROWS_AT_A_TIME, &answer->count);
     case CLOSE_CURSOR: return sandpiper_close_cursor(on, s);
     case PRUNE: return sandpiper_prune(on, (uint32_t)step.key);
+    case APPLY_PLAN: return sandpiper_apply_plan(on, (uint32_t)step.key, (uint64_t)step.value, PLAN, sizeof PLAN / sizeof *PLAN);
     case VACUUM_BEGIN: return sandpiper_vacuum_begin(on, step.key);
     case VACUUM_STEP: return sandpiper_vacuum_step(on, &answer->piece);
     case VACUUM_CANCEL: return sandpiper_vacuum_cancel(on);
@@ -364,6 +370,7 @@ static void all_steps(uint64_t rows, uint64_t at_a_time, uint64_t ids) {
     does(CREATE_INDEX, 0, COLUMN, 0);
     spend_ids(DELETE, ids);
     spend_ids(INSERT, ids);
+    ask((struct step){APPLY_PLAN, 0, 0, 5});
     open_many(10, 50);
     for (uint8_t s = 4; s < 8; s++) does(s % 2 ? BEGIN : BEGIN_BY_STATEMENT, s, 0, 0);
     scan_all(4);

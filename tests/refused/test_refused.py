@@ -206,6 +206,7 @@ def savepoints(session: int, count: int) -> Iterator[str]:
 def cursors(session: int) -> Iterator[str]:
     for opening in (f"openheap {session}", f"openindex {session} 0 0 {MOST}", f"openindex {session} 1 {LEAST} {MOST}"):
         yield from (opening, f"next {session} 2", f"next {session} 0", f"next {session} 300", f"close {session}")
+    yield from (f"takepage {session} 0", f"takepage {session} 1", f"takepage {session} 0")
 
 
 def vacuum(mode: str) -> Iterator[str]:
@@ -232,7 +233,8 @@ def all_steps(rows: int, sessions: int) -> List[str]:
         lines += ["begin 0", row(0, "update", key, key * 7 % 50 + key % 4), "commit 0" if key % 8 else "abort 0", "prune 0"]
     lines += ["begin 0", *(f"delete 0 {key}" for key in range(5, rows, 5)), "commit 0", "createindex 2", "createindex 0"]
     lines += many_sessions(10, 10 + sessions)
-    lines += ["begin 3", "beginrc 4", *cursors(3), *cursors(4), "beginrc 5", *savepoints(5, 32), "get 1 2", *vacuum("normal")]
+    lines += ["begin 3", "beginrc 4", *cursors(3), *cursors(4), "beginrc 5", *savepoints(5, 32)]
+    lines += ["get 1 2", "apply 0 0 r1:2 u3 d5", *vacuum("normal")]
     lines += [f"{'commit' if session % 3 else 'abort'} {session}" for session in range(10, 10 + sessions)]
     return [*lines, "commit 5", "next 2 0", "abort 2", "prune 1", "commit 1", "abort 4", "abort 3", *vacuum("aggressive")]
 
@@ -244,6 +246,7 @@ def for_threads(workers: int) -> List[str]:
         for worker in range(workers):
             steps = [f"begin {worker}", *(row(worker, "insert", 100 * worker + 10 * turn + at + 2, at, "61") for at in range(4))]
             steps += [f"savepoint {worker}", f"openheap {worker}", f"next {worker} 0", f"close {worker}", f"release {worker}"]
+            steps += [f"takepage {worker} 0"]
             lines += [f"@{worker} {step}" for step in [*steps, f"commit {worker}"]]
     return lines
 

@@ -163,7 +163,6 @@ fn mark_root(
 
 /// Notes the mark of each slot whose chain holds a dead version. Of a root that is not listed a glance tells that its chain
 /// holds none. Nothing is noted before.
-#[inline(always)]
 pub(crate) fn mark_page(
     marks: &mut Marks,
     doubtful: &[u16],

@@ -1,5 +1,5 @@
 -- What a vacuum's step did, as C reads it.
-use Rattle.std.specs.Prelude.{◌≡◌, Bool, true, false, Option, Some, None}
+use Rattle.std.specs.Prelude.{◌≡◌, ℕ, Bool, true, false, Option, Some, None}
 use Rattle.calls.specs.declared.vacuum.Mode.{Mode}
 use Rattle.calls.specs.declared.vacuum.Mode.TheVariants.{Normal, Aggressive}
 use Rattle.calls.specs.declared.vacuum.Piece.{Piece}

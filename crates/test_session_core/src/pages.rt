@@ -188,16 +188,8 @@ fn the_index_leads_to_roots(rt: HostRuntime) -> Result<(), Fail> {
 
 // A law does nothing, and can be called at any time.
 #[test]
-fn an_index_shows_the_views() {
+fn laws_do_nothing() {
     views_by_index();
-}
-
-#[test]
-fn nothing_open_is_before_the_horizon() {
     horizon_is_earliest();
-}
-
-#[test]
-fn pages_hold_the_view() {
     tickets_hold_the_view();
 }

@@ -27,12 +27,13 @@ fn write_rows<R: Wait>(
     rt: &R,
     alloc: Global,
     shared: &Shared,
-    count: u64,
+    count: u32,
     more: i64,
 ) -> Result<bool, AllocError> {
     let mut all_done = matches!(shared.call(rt, Step::Begin(0)), Reply::Done);
     for key in 0..count {
-        let row = wide_row(alloc, key, (key as i64).wrapping_add(more))?;
+        let value = i64::from(key).wrapping_add(more);
+        let row = wide_row(alloc, u64::from(key), value)?;
         let step = if more == 0 {
             Step::Insert(0, row)
         } else {
