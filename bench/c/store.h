@@ -7,9 +7,11 @@
 #include <stdio.h>
 #include <stdlib.h>
 
+#ifndef BODY_BYTES
 #define BODY_BYTES 16
+#endif
 
-/* A row: a key, four columns, and a body of 16 bytes. */
+/* A row: a key, four columns, and a body of so many bytes. */
 struct row {
     uint64_t key;
     int64_t cols[4];
