@@ -9,15 +9,17 @@
  *
  * THREADS. A handle takes one call at a time. Threads may share it where each call is made under one lock of the caller's, as a mutex.
  * No call waits: after SANDPIPER_BUSY let go of the lock, and try again or abort. No call may be made from a signal handler, from the
- * forked child of a process with threads, or from within malloc, realloc or free. Two handles are independent.
+ * forked child of a process with threads, or from within malloc, realloc or free. Two handles are independent. So is a ticket of all else,
+ * once it is taken: it takes one call at a time too, while other threads read other tickets, and step or close the table that it came from.
  *
  * WAITS. After SANDPIPER_BUSY it is noted that the session waits for the other, until its own next step, whatever that answers, or until
  * the other is committed, aborted or returned to a savepoint. Where a wait would close a ring, the answer is SANDPIPER_DEADLOCK.
  *
  * MEMORY comes from the program's malloc, realloc and free. Where that is refused, the call says SANDPIPER_NO_MEMORY and has changed
  * nothing; it may be repeated. sandpiper_get, _rollback_to, _release, _commit, _abort, _prune, _close, _next, _close_cursor,
- * _slot_at, _page_at, _page_bytes, _check_page, _state, _version, _vacuum_begin, _vacuum_step and _vacuum_cancel ask for none.
- * Nor do _open_heap, _open_by_key and _open_index, unless the session reads by statement and more than 8 ids are in progress.
+ * _slot_at, _page_at, _page_bytes, _check_page, _state, _version, _keep_places, _vacuum_begin, _vacuum_step, _vacuum_cancel and
+ * _close_ticket ask for none.
+ * Nor do _open_heap, _open_by_key, _open_index and _open_keys, unless the session reads by statement and more than 8 ids are in progress.
  *
  * STATUSES. Each call returns one of those below. From 16 on something was refused. Whatever the status is, also where nobody reads
  * it, the table is whole and usable. A refused call leaves all rows as they were. After SANDPIPER_CONFLICT and SANDPIPER_DEADLOCK the
@@ -73,7 +75,7 @@ enum sandpiper_status {
     SANDPIPER_NO_ROW = 2,             /* there is none, and the place is as it was */
     SANDPIPER_COMMITTED = 3,          /* what the session wrote was committed */
     SANDPIPER_ROLLED_BACK = 4,        /* what the session wrote was rolled back: by an abort, or since its transaction had failed */
-    SANDPIPER_ROWS = 5,               /* the cursor has handed out rows: one at least */
+    SANDPIPER_ROWS = 5,               /* the cursor has handed out rows or keys, or the ticket's rows are shown: one at least */
     SANDPIPER_END = 6,                /* the cursor has handed out all, and stays open */
     SANDPIPER_WORKED = 7,             /* the vacuum did a part of its work, and goes on */
     SANDPIPER_ENDED = 8,              /* the vacuum has ended */
@@ -104,7 +106,9 @@ enum sandpiper_status {
     SANDPIPER_STALE = 39,             /* the plan does not check: the page was changed since, or somebody may see what would go */
     SANDPIPER_NO_ENGINE = 48,         /* the handle has no table */
     SANDPIPER_HAS_ENGINE = 49,        /* sandpiper_open: the handle has a table already */
-    SANDPIPER_NO_PLACE = 50,          /* sandpiper_next, _page_bytes: there is no place for a row, or for a page */
+    SANDPIPER_NO_PLACE = 50,          /* sandpiper_next, _page_bytes, _ticket_rows: there is no place for a row, a page, or all rows */
+    SANDPIPER_NO_TICKET = 51,         /* the ticket has no page */
+    SANDPIPER_HAS_TICKET = 52,        /* sandpiper_take_page: the ticket has a page already */
     /* sandpiper_open: the first setting that is out of its range */
     SANDPIPER_BAD_MAX_PAGES = 64,
     SANDPIPER_BAD_STOP_AGE = 65,
@@ -120,6 +124,9 @@ uint32_t sandpiper_version(void);
 
 /* Opening. The settings are read, and may be let go after the call. */
 uint32_t sandpiper_open(const struct sandpiper_settings *settings, struct sandpiper *table);
+/* Forgets where keys were put, and notes it from now on, or never: DONE. A new table notes it. It makes gets faster and takes 8 to 16
+ * bytes of memory a row, and no answer changes by it. */
+uint32_t sandpiper_keep_places(struct sandpiper *table, bool wanted);
 /* Ends all sessions, uncommitted, and gives the table's memory back. The handle may be opened again. */
 uint32_t sandpiper_close(struct sandpiper *table);
 
@@ -151,18 +158,41 @@ uint32_t sandpiper_update_many(struct sandpiper *table, uint8_t session, const s
 
 /* Cursors. A session has one at most. open_heap takes all rows, page by page. open_by_key takes those whose key, and open_index
  * those whose value in index c + 1, which is column c, lies between two bounds, both included, in ascending order. (Index 0 is by
- * key, for keys that an int64_t can name.) While the cursor is open the session writes nothing, and sets no savepoint; it may
+ * key, for keys that an int64_t can name.) open_keys takes the keys alone of the rows that open_by_key takes: it reads the index, and of a
+ * page that is noted as all-visible nothing. While the cursor is open the session writes nothing, and sets no savepoint; it may
  * read, commit and abort, and the last two close the cursor. */
 uint32_t sandpiper_open_heap(struct sandpiper *table, uint8_t session);
 uint32_t sandpiper_open_by_key(struct sandpiper *table, uint8_t session, uint64_t low, uint64_t high);
 uint32_t sandpiper_open_index(struct sandpiper *table, uint8_t session, uint8_t index, int64_t low, int64_t high);
+uint32_t sandpiper_open_keys(struct sandpiper *table, uint8_t session, uint64_t low, uint64_t high);
 uint32_t sandpiper_close_cursor(struct sandpiper *table, uint8_t session);
 
 /* Writes the cursor's next rows to an array of the caller's, of `capacity` places, and says in *count how many. ROWS: 1 to `capacity`
  * rows are in the first places, and all others are as they were. Of the heap they are of one page, and what that page has left over
  * comes with the next call; of an index they are fewer only where no more are left. END: nothing is left, and *count is 0. After a
- * refusal *count is 0 too; NO_PLACE says that `capacity` is 0. Rows that were handed out are the caller's: no call ends them. */
+ * refusal *count is 0 too; NO_PLACE says that `capacity` is 0. Rows that were handed out are the caller's: no call ends them.
+ * Keys come as rows of an index do: ROWS too, and in each place the key alone is written. */
 uint32_t sandpiper_next(struct sandpiper *table, uint8_t session, struct sandpiper_row *rows, size_t capacity, size_t *count);
+
+/* A page as it was at one moment, with what one session saw of it then. All zeros is a ticket with no page. sandpiper_take_page gives it
+ * one, and sandpiper_close_ticket takes it away, with its memory; in between it may be moved, but neither copied nor changed. */
+struct sandpiper_ticket {
+    void *held;
+    bool is_taken; /* may be read: whether there is a page */
+};
+
+#define SANDPIPER_PAGE_ROWS 291 /* that a page may have */
+
+/* Takes a page, counted from 0, as it is now, with what a statement of the session sees of it: DONE. It reads the table and changes no row
+ * of it, and needs no cursor. A ticket that has a page keeps it (HAS_TICKET). The tickets of all pages, with no other call between, hold
+ * each row that the session reads, once. */
+uint32_t sandpiper_take_page(struct sandpiper *table, uint8_t session, uint32_t page, struct sandpiper_ticket *ticket);
+/* Writes the ticket's rows to the first of `capacity` places, in the order of their slots, and says in *count how many there are. ROWS:
+ * they are all there, one at least, and the other places are as they were. NO_ROW: there is none. NO_PLACE: there are more than
+ * `capacity`, and none is written; for SANDPIPER_PAGE_ROWS there is always room. After another refusal *count is 0. It may be asked at
+ * any time and again, with the same answer, whatever was done to the table, and also when that is closed. */
+uint32_t sandpiper_ticket_rows(struct sandpiper_ticket *ticket, struct sandpiper_row *rows, size_t capacity, size_t *count);
+uint32_t sandpiper_close_ticket(struct sandpiper_ticket *ticket);
 
 /* Makes the index of a column, from 0 to 3, beside the sessions: index column + 1. DONE also where it is there. It is refused while a
  * vacuum runs (VACUUM_RUNNING), and while an open session has written, also where that was rolled back to a savepoint (INDEX_BUSY).
@@ -291,7 +321,7 @@ static inline const char *sandpiper_words(uint32_t status) {
     case SANDPIPER_NO_ROW: return "there is none, and the place is as it was";
     case SANDPIPER_COMMITTED: return "what the session wrote was committed";
     case SANDPIPER_ROLLED_BACK: return "what the session wrote was rolled back";
-    case SANDPIPER_ROWS: return "the cursor has handed out rows: one at least";
+    case SANDPIPER_ROWS: return "there are rows, or keys: one at least";
     case SANDPIPER_END: return "the cursor has handed out all, and stays open";
     case SANDPIPER_WORKED: return "the vacuum did a part of its work, and goes on";
     case SANDPIPER_ENDED: return "the vacuum has ended";
@@ -321,7 +351,9 @@ static inline const char *sandpiper_words(uint32_t status) {
     case SANDPIPER_STALE: return "the plan does not check";
     case SANDPIPER_NO_ENGINE: return "the handle has no table";
     case SANDPIPER_HAS_ENGINE: return "the handle has a table already";
-    case SANDPIPER_NO_PLACE: return "there is no place for a row, or for a page";
+    case SANDPIPER_NO_PLACE: return "there is no place for a row, for a page, or for all rows";
+    case SANDPIPER_NO_TICKET: return "the ticket has no page";
+    case SANDPIPER_HAS_TICKET: return "the ticket has a page already";
     case SANDPIPER_BAD_MAX_PAGES: return "the setting max_pages is out of its range";
     case SANDPIPER_BAD_STOP_AGE: return "the setting stop_age is out of its range";
     case SANDPIPER_BAD_FREEZE_MIN_AGE: return "the setting freeze_min_age is out of its range";

@@ -51,6 +51,16 @@ if ! "$work/threads" 2>"$work/threads.err"; then
     grep -q "unexpected memory mapping" "$work/threads.err" || exit 1
     say "not tried: the thread sanitizer does not take this kernel's addresses"
 fi
+"$compiler" -std=c11 "${flags[@]}" -fsanitize=address,undefined -fno-sanitize-recover=all "$tests/tickets.c" \
+    "$prefix/lib/libsandpipercot.a" -pthread -o "$work/tickets"
+say "tickets.c, with the address sanitizer"
+"$work/tickets"
+if command -v valgrind >/dev/null; then
+    "$compiler" -std=c11 "${flags[@]}" "$tests/tickets.c" "$prefix/lib/libsandpipercot.a" -pthread -o "$work/tickets.plain"
+    say "tickets.c, under valgrind and its helgrind"
+    valgrind -q --leak-check=full --error-exitcode=9 "$work/tickets.plain" >/dev/null
+    valgrind -q --tool=helgrind --error-exitcode=9 "$work/tickets.plain" locked >/dev/null
+fi
 if command -v valgrind >/dev/null; then
     "$compiler" -std=c11 "${flags[@]}" "$tests/threads.c" "$prefix/lib/libsandpipercot.a" -pthread -o "$work/threads.plain"
     say "threads.c, under valgrind's helgrind, with the lock and without"

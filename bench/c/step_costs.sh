@@ -20,13 +20,13 @@ cost() {
     echo "$what: $((whole / count)) instructions, of $most"
     [ $((whole / count)) -lt "$most" ] || status=1
 }
-cost get 850 "a get by key"
+cost get 350 "a get by key"
 cost empty 850 "a begin and a commit with nothing between"
 cost insert 2150 "an insert"
 cost hot 3500 "a HOT update on a page with room, but in a hole alone"
 cost delete 1100 "a delete"
 cost scan 56000 "100 rows of a cursor by key"
-cost full 3000 "an update on a full page from which nothing can go"
+cost full 3100 "an update on a full page from which nothing can go"
 cost prunes 5800 "an update that prunes one dead version first"
 cost prune 300 "a pruning of a page whose one version stays"
 cost pruned 1500 "a pruning of a page whose one version goes"

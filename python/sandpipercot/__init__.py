@@ -13,10 +13,10 @@ sandpipercot.h, which says more of each call.
 """
 from __future__ import annotations
 
-from ._c import BODY, PAGE_BYTES, SAVEPOINTS, SESSIONS, VERSION
+from ._c import BODY, PAGE_BYTES, PAGE_ROWS, SAVEPOINTS, SESSIONS, VERSION
 from .pages import FaultKind, PageFault, check_page
 from .rows import Row
-from .sessions import Cursor, Session
+from .sessions import Cursor, KeyCursor, Session
 from .statuses import (
     AlreadyOpen,
     AlreadyThere,
@@ -32,6 +32,7 @@ from .statuses import (
     Deadlock,
     Failed,
     HasEngine,
+    HasTicket,
     IndexBusy,
     IndexTooNew,
     NeedsFreeze,
@@ -46,6 +47,7 @@ from .statuses import (
     NoSuchSession,
     NotOpen,
     NotThere,
+    NoTicket,
     NoVacuum,
     Refused,
     RolledBack,
@@ -56,12 +58,14 @@ from .statuses import (
     VacuumRunning,
 )
 from .table import Action, ActionKind, Kind, Page, Piece, PieceKind, Slot, State, Table, Vacuum
+from .tickets import Ticket
 
 __version__ = ".".join(map(str, VERSION))
 
 __all__ = [
     "BODY",
     "PAGE_BYTES",
+    "PAGE_ROWS",
     "SAVEPOINTS",
     "SESSIONS",
     "VERSION",
@@ -83,8 +87,10 @@ __all__ = [
     "Failed",
     "FaultKind",
     "HasEngine",
+    "HasTicket",
     "IndexBusy",
     "IndexTooNew",
+    "KeyCursor",
     "Kind",
     "NeedsFreeze",
     "NoCursor",
@@ -96,6 +102,7 @@ __all__ = [
     "NoSuchIndex",
     "NoSuchPage",
     "NoSuchSession",
+    "NoTicket",
     "NoVacuum",
     "NotOpen",
     "NotThere",
@@ -112,6 +119,7 @@ __all__ = [
     "State",
     "Status",
     "Table",
+    "Ticket",
     "TooDeep",
     "TooLarge",
     "Vacuum",

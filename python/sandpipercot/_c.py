@@ -11,12 +11,17 @@ SESSIONS = 64  # sessions are numbered from 0 to 63
 PAGE_BYTES = 8192
 SAVEPOINTS = 32  # that a session may have at a time
 BODY = 1024  # bytes of the longest body
+PAGE_ROWS = 291  # that a page may have
 
 VERSION = (0, 2)  # of this module, and of the library that it takes
 
 
 class Handle(Structure):
     _fields_ = [("held", c_void_p), ("is_open", c_bool)]
+
+
+class Ticket(Structure):
+    _fields_ = [("held", c_void_p), ("is_taken", c_bool)]
 
 
 class Settings(Structure):
@@ -68,6 +73,7 @@ POINTER, SESSION = c_void_p, c_uint8
 ARGUMENTS: Dict[str, List[Any]] = {
     "open": [POINTER, POINTER],
     "close": [POINTER],
+    "keep_places": [POINTER, c_bool],
     "begin": [POINTER, SESSION],
     "begin_read_committed": [POINTER, SESSION],
     "commit": [POINTER, SESSION],
@@ -84,8 +90,12 @@ ARGUMENTS: Dict[str, List[Any]] = {
     "open_heap": [POINTER, SESSION],
     "open_by_key": [POINTER, SESSION, c_uint64, c_uint64],
     "open_index": [POINTER, SESSION, c_uint8, c_int64, c_int64],
+    "open_keys": [POINTER, SESSION, c_uint64, c_uint64],
     "next": [POINTER, SESSION, POINTER, c_size_t, POINTER],
     "close_cursor": [POINTER, SESSION],
+    "take_page": [POINTER, SESSION, c_uint32, POINTER],
+    "ticket_rows": [POINTER, POINTER, c_size_t, POINTER],
+    "close_ticket": [POINTER],
     "create_index": [POINTER, c_uint8],
     "prune": [POINTER, c_uint32],
     "apply_plan": [POINTER, c_uint32, c_uint64, POINTER, c_size_t],

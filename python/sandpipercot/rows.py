@@ -19,10 +19,11 @@ class Row(NamedTuple):
 
 SIZE = ctypes.sizeof(_c.Row)
 BODY_AT = _c.Row.body.offset
-# key, columns, and how many bytes of the body count; and the same with the body, to the end of the place
+# key, columns, and how many bytes of the body count; the same with the body, to the end of the place; and the key alone
 HEAD = struct.Struct("=Q4qH")
 PLACE = struct.Struct(f"=Q4qH{_c.BODY}s{SIZE - BODY_AT - _c.BODY}x")
-assert HEAD.size == BODY_AT and PLACE.size == SIZE
+KEY = struct.Struct(f"=Q{SIZE - 8}x")
+assert HEAD.size == BODY_AT and PLACE.size == KEY.size == SIZE
 
 # the lengths that a body may have
 MOST = range(_c.BODY + 1)
@@ -85,3 +86,7 @@ class Places:
         """The rows in the first places."""
         placed = PLACE.iter_unpack(self._view[: count * SIZE])
         return [_row((key, (a, b, c, d), body[:length])) for key, a, b, c, d, length, body in placed]
+
+    def keys(self, count: int) -> List[int]:
+        """The keys in the first places."""
+        return [key for (key,) in KEY.iter_unpack(self._view[: count * SIZE])]

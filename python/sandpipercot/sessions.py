@@ -7,14 +7,17 @@ import warnings
 import weakref
 from threading import get_ident
 from types import TracebackType
-from typing import TYPE_CHECKING, Any, Iterable, Iterator, List, Optional, Type
+from typing import TYPE_CHECKING, Any, Iterable, Iterator, List, Optional, Type, TypeVar
 
 from . import _c
 from .rows import Places, Row, fits, fits_signed
 from .statuses import NoSuchIndex, NotOpen, RolledBack, Status, refusal
+from .tickets import Ticket
 
 if TYPE_CHECKING:
     from .table import Table
+
+Item = TypeVar("Item")
 
 COLUMNS = 4
 MOST_KEY = (1 << 64) - 1
@@ -35,7 +38,7 @@ class Session:
         self._table, self._number = table, number
         # a cursor was let go and is still to be closed: what the collector runs makes no call of the library
         self._has_lost_cursor = False
-        self._cursor: Optional[weakref.ref[Cursor]] = None
+        self._cursor: Optional[weakref.ref[BaseCursor[Any]]] = None
         self._is_open = True
 
     def _ready(self) -> None:
@@ -169,6 +172,18 @@ class Session:
             raise NoSuchIndex(f"there is no column {column}: they are 0 to {COLUMNS - 1}")
         return Cursor(self, batch, "open_index", column + 1, fits_signed(low), fits_signed(high))
 
+    def keys(self, low: int = 0, high: int = (1 << 64) - 1, batch: int = 64) -> KeyCursor:
+        """A cursor over the keys alone that `by_key` would hand out rows of, in ascending order: no page is read that is noted as
+        all-visible. Refusals: CursorOpen, BadBounds."""
+        return KeyCursor(self, batch, "open_keys", fits(low, 64), fits(high, 64))
+
+    def take_page(self, page: int) -> Ticket:
+        """A page, counted from 0, as it is now, with what the session sees of it now: its rows can be read at any time. Refusals:
+        NoSuchPage, NoMemory."""
+        place = _c.Ticket()
+        self._call("take_page", fits(page, 32), ctypes.addressof(place))
+        return Ticket(place)
+
     def __enter__(self) -> Session:
         return self
 
@@ -189,10 +204,8 @@ class Session:
             warnings.warn(f"session {self._number} was let go while it was open", ResourceWarning, source=self)
 
 
-class Cursor(Iterator[Row]):
-    """An iterator over rows of a session, as they were when it was opened. It is closed at its end, by `close`, at the end of
-    its `with` block, or when it is let go; it ends with its session, as NotOpen. While it is open the session reads, and writes
-    nothing. Rows that it has handed out stay."""
+class BaseCursor(Iterator[Item]):
+    """What cursors over rows and over keys have in common."""
 
     _is_open = False
 
@@ -202,7 +215,7 @@ class Cursor(Iterator[Row]):
         self._session = session
         self._places = session._table._places_for(min(batch, MOST_AT_ONCE))
         self._batch = min(batch, MOST_AT_ONCE)
-        self._fetched: List[Row] = []
+        self._fetched: List[Item] = []
         self._rows = iter(self._fetched)
         session._call(opening, *arguments)
         session._cursor = weakref.ref(self)
@@ -217,22 +230,26 @@ class Cursor(Iterator[Row]):
         if status == Status.END:
             self.close()
             return False
-        self._fetched = self._places.rows(count.value)
+        self._fetched = self._read(count.value)
         self._rows = iter(self._fetched)
         return True
+
+    def _read(self, count: int) -> List[Item]:
+        """What was written to the first places."""
+        raise NotImplementedError
 
     def _drop_rows(self) -> None:
         """Drops the rows that were fetched and not handed out, also those of a loop that goes on."""
         self._fetched.clear()
 
-    def __iter__(self) -> Iterator[Row]:
+    def __iter__(self) -> Iterator[Item]:
         # (a generator hands out a row for a third of what `__next__` takes)
         while True:
             yield from self._rows
             if not self._fetch():
                 return
 
-    def __next__(self) -> Row:
+    def __next__(self) -> Item:
         for row in self._rows:
             return row
         if not self._fetch():
@@ -246,7 +263,7 @@ class Cursor(Iterator[Row]):
         if was_open and self._session.is_open:
             self._session._call("close_cursor")
 
-    def __enter__(self) -> Cursor:
+    def __enter__(self) -> BaseCursor[Item]:
         return self
 
     def __exit__(self, *_: object) -> None:
@@ -255,3 +272,19 @@ class Cursor(Iterator[Row]):
     def __del__(self) -> None:
         if self._is_open:
             self._session._has_lost_cursor = True
+
+
+class Cursor(BaseCursor[Row]):
+    """An iterator over rows of a session, as they were when it was opened. It is closed at its end, by `close`, at the end of
+    its `with` block, or when it is let go; it ends with its session, as NotOpen. While it is open the session reads, and writes
+    nothing. Rows that it has handed out stay."""
+
+    def _read(self, count: int) -> List[Row]:
+        return self._places.rows(count)
+
+
+class KeyCursor(BaseCursor[int]):
+    """The same over keys alone."""
+
+    def _read(self, count: int) -> List[int]:
+        return self._places.keys(count)

@@ -44,6 +44,8 @@ class Status(enum.IntEnum):
     NO_ENGINE = 48
     HAS_ENGINE = 49
     NO_PLACE = 50
+    NO_TICKET = 51
+    HAS_TICKET = 52
     BAD_MAX_PAGES = 64
     BAD_STOP_AGE = 65
     BAD_FREEZE_MIN_AGE = 66
@@ -225,9 +227,21 @@ class HasEngine(Refused):
 
 
 class NoPlace(Refused):
-    """there is no place for a row, or for a page"""
+    """there is no place for a row, for a page, or for all rows"""
 
     status = Status.NO_PLACE
+
+
+class NoTicket(Refused):
+    """the ticket has no page"""
+
+    status = Status.NO_TICKET
+
+
+class HasTicket(Refused):
+    """the ticket has a page already"""
+
+    status = Status.HAS_TICKET
 
 
 class BadMaxPages(Refused):

@@ -168,6 +168,11 @@ class Table:
         self._sessions.add(number)
         return Session(self, number)
 
+    def keep_places(self, wanted: bool) -> None:
+        """Forgets where keys were put, and notes it from now on, or never. A new table notes it. It makes gets faster and takes 8 to
+        16 bytes of memory a row, and no answer changes by it."""
+        self._call("keep_places", bool(wanted))
+
     def create_index(self, column: int) -> None:
         """Makes the index of a column, from 0 to 3, which is index column + 1; nothing is done where it is there. A session that was
         open by snapshot opens no cursor by it. Refusals: NoSuchIndex, VacuumRunning, IndexBusy, NoMemory."""

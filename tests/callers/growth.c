@@ -27,8 +27,10 @@ enum kind {
     OPEN_HEAP,
     OPEN_BY_KEY,
     OPEN_INDEX,
+    OPEN_KEYS,
     NEXT,
     CLOSE_CURSOR,
+    TAKE_PAGE,
     PRUNE,
     APPLY_PLAN,
     VACUUM_BEGIN,
@@ -40,13 +42,13 @@ enum kind {
 
 static const char *const words[KINDS] = {"open",         "begin",         "begin by statement", "get",          "insert",          "update",
                                          "delete",       "savepoint",     "rollback to",        "release",      "commit",          "abort",
-                                         "heap cursor",  "cursor by key", "cursor by index",    "next",         "close cursor",    "prune",
-                                         "plan",         "vacuum",        "vacuum's step",      "vacuum's cancel", "making"};
+                                         "heap cursor",  "cursor by key", "cursor by index",    "cursor over keys", "next",         "close cursor",    "ticket",
+                                         "prune",        "plan",         "vacuum",        "vacuum's step",      "vacuum's cancel", "making"};
 
 /* Those that ask for memory. Each has to be refused here, and no other may ask for any. */
 static const bool asks[KINDS] = {[OPEN] = true,      [BEGIN] = true,     [INSERT] = true,      [UPDATE] = true,     [DELETE] = true,
-                                 [SAVEPOINT] = true, [OPEN_HEAP] = true, [OPEN_BY_KEY] = true, [OPEN_INDEX] = true,
-                                 [APPLY_PLAN] = true, [CREATE_INDEX] = true};
+                                 [SAVEPOINT] = true, [OPEN_HEAP] = true, [OPEN_BY_KEY] = true, [OPEN_INDEX] = true, [OPEN_KEYS] = true,
+                                 [TAKE_PAGE] = true, [APPLY_PLAN] = true, [CREATE_INDEX] = true};
 
 /* The key stands for a page, an index, a column or a mode, where the kind has one of these. */
 struct step {
@@ -60,7 +62,7 @@ struct answer {
     uint32_t status;
     size_t count;
     struct sandpiper_piece piece;
-    struct sandpiper_row rows[ROWS_AT_A_TIME];
+    struct sandpiper_row rows[SANDPIPER_PAGE_ROWS];
 };
 
 static struct sandpiper t, twin;
@@ -84,6 +86,18 @@ static const struct sandpiper_row *row_of(uint64_t key, int64_t value) {
 /* A plan for a page of three versions of one row. */
 static const struct sandpiper_action PLAN[] = {{1, SANDPIPER_LEAD, 3}, {2, SANDPIPER_UNUSE, 0}};
 
+/* Takes a page, reads its rows and closes the ticket. Where either was refused, nothing is left of it. */
+static uint32_t take_page(struct sandpiper *on, struct step step, struct answer *answer) {
+    struct sandpiper_ticket ticket = {0};
+    uint32_t status = sandpiper_take_page(on, step.session, (uint32_t)step.key, &ticket);
+    CHECK(ticket.is_taken == (status == SANDPIPER_DONE));
+    if (status != SANDPIPER_DONE) return status;
+    status = sandpiper_ticket_rows(&ticket, answer->rows, SANDPIPER_PAGE_ROWS, &answer->count);
+    CHECK(status != SANDPIPER_NO_MEMORY || answer->count == 0);
+    CHECK(sandpiper_close_ticket(&ticket) == SANDPIPER_DONE);
+    return status;
+}
+
 static uint32_t take(struct sandpiper *on, struct step step, struct answer *answer) {
     uint8_t s = step.session;
     switch (step.kind) {
@@ -102,8 +116,10 @@ static uint32_t take(struct sandpiper *on, struct step step, struct answer *answ
     case OPEN_HEAP: return sandpiper_open_heap(on, s);
     case OPEN_BY_KEY: return sandpiper_open_by_key(on, s, 0, UINT64_MAX);
     case OPEN_INDEX: return sandpiper_open_index(on, s, (uint8_t)step.key, INT64_MIN, INT64_MAX);
+    case OPEN_KEYS: return sandpiper_open_keys(on, s, 0, UINT64_MAX);
     case NEXT: return sandpiper_next(on, s, answer->rows, ROWS_AT_A_TIME, &answer->count);
     case CLOSE_CURSOR: return sandpiper_close_cursor(on, s);
+    case TAKE_PAGE: return take_page(on, step, answer);
     case PRUNE: return sandpiper_prune(on, (uint32_t)step.key);
     case APPLY_PLAN: return sandpiper_apply_plan(on, (uint32_t)step.key, (uint64_t)step.value, PLAN, sizeof PLAN / sizeof *PLAN);
     case VACUUM_BEGIN: return sandpiper_vacuum_begin(on, step.key);
@@ -269,6 +285,9 @@ static uint32_t ask(struct step step) {
     refused[step.kind] += times;
     CHECK(take(&twin, step, &others) == status);
     CHECK(status != SANDPIPER_FOUND || memcmp(mine.rows[0].cols, others.rows[0].cols, sizeof mine.rows[0].cols) == 0);
+    CHECK(status != SANDPIPER_ROWS || mine.count == others.count);
+    for (size_t i = 0; status == SANDPIPER_ROWS && i < mine.count; i++)
+        CHECK(mine.rows[i].key == others.rows[i].key && memcmp(mine.rows[i].cols, others.rows[i].cols, sizeof mine.rows[i].cols) == 0);
     if (times > 0) check_alike();
     return status;
 }
@@ -335,13 +354,24 @@ static void open_many(uint8_t first, uint8_t end) {
 
 /* Cursors of each kind in a session, to their ends. */
 static void scan_all(uint8_t s) {
-    const struct step opens[] = {{OPEN_HEAP, s, 0, 0}, {OPEN_BY_KEY, s, 0, 0}, {OPEN_INDEX, s, 1, 0}};
+    const struct step opens[] = {{OPEN_HEAP, s, 0, 0}, {OPEN_BY_KEY, s, 0, 0}, {OPEN_INDEX, s, 1, 0}, {OPEN_KEYS, s, 0, 0}};
     for (size_t at = 0; at < sizeof opens / sizeof *opens; at++) {
         CHECK(ask(opens[at]) == SANDPIPER_DONE);
         while (ask((struct step){NEXT, s, 0, 0}) == SANDPIPER_ROWS) continue;
         does(CLOSE_CURSOR, s, 0, 0);
     }
     if (keys > 0) ask((struct step){GET, s, keys / 2, 0});
+}
+
+/* Tickets of some pages, as the session sees them. The rows that a ticket shows are those that a get finds. */
+static void take_pages(uint8_t s) {
+    struct sandpiper_state state;
+    CHECK(sandpiper_state(&t, &state) == SANDPIPER_DONE);
+    for (uint32_t page = 0; page < state.pages; page += 1 + state.pages / 4) {
+        uint32_t status = ask((struct step){TAKE_PAGE, s, page, 0});
+        CHECK(status == SANDPIPER_ROWS || status == SANDPIPER_NO_ROW);
+    }
+    CHECK(ask((struct step){TAKE_PAGE, s, state.pages, 0}) == SANDPIPER_NO_SUCH_PAGE);
 }
 
 /* A vacuum, of which one is broken off before. Rows are inserted beside it. */
@@ -374,7 +404,9 @@ static void all_steps(uint64_t rows, uint64_t at_a_time, uint64_t ids) {
     open_many(10, 50);
     for (uint8_t s = 4; s < 8; s++) does(s % 2 ? BEGIN : BEGIN_BY_STATEMENT, s, 0, 0);
     scan_all(4);
+    take_pages(4);
     scan_all(5);
+    take_pages(5);
     write_in_savepoints(6);
     vacuum(false);
     look();

@@ -100,6 +100,23 @@ static void what_is_behind_stays(void) {
     close_table();
 }
 
+/* Of a place for a key all else stays as it was. They are those of the rows between the bounds, and come in ascending order. */
+static void keys_come_alone(void) {
+    uint64_t next = 5;
+    size_t count;
+    uint32_t status;
+    open_table();
+    CHECK(sandpiper_open_keys(&t, 0, next, 99) == SANDPIPER_DONE);
+    update_it(60), memset(batch, 0xaa, ROWS * sizeof *batch);
+    while ((status = sandpiper_next(&t, 0, batch, BATCH, &count)) == SANDPIPER_ROWS)
+        for (size_t i = 0; i < count; i++, next++) {
+            CHECK(batch[i].key == next && batch[i].length == 0xaaaa && batch[i].body[0] == 0xaa);
+            for (int column = 0; column < 4; column++) CHECK((uint64_t)batch[i].cols[column] == 0xaaaaaaaaaaaaaaaau);
+        }
+    CHECK(status == SANDPIPER_END && count == 0 && next == 100);
+    close_table();
+}
+
 int main(void) {
     row = new_place();
     place = new_place();
@@ -108,6 +125,7 @@ int main(void) {
     no_row_is_lost();
     one_place_is_enough();
     what_is_behind_stays();
+    keys_come_alone();
     free(row);
     free(place);
     free(batch);

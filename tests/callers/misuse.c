@@ -11,6 +11,7 @@ static void check_closed(void) {
     struct sandpiper_slot slot = {.kind = 77};
     uint8_t bytes[1] = {77};
     struct sandpiper_piece piece = {.kind = 77};
+    struct sandpiper_ticket ticket = {0};
     place->key = 77;
     CHECK(sandpiper_begin(&t, 0) == SANDPIPER_NO_ENGINE && sandpiper_commit(&t, 0) == SANDPIPER_NO_ENGINE);
     CHECK(sandpiper_abort(&t, 0) == SANDPIPER_NO_ENGINE && sandpiper_savepoint(&t, 0) == SANDPIPER_NO_ENGINE);
@@ -20,9 +21,11 @@ static void check_closed(void) {
     CHECK(sandpiper_delete(&t, 0, 1) == SANDPIPER_NO_ENGINE && sandpiper_open_heap(&t, 0) == SANDPIPER_NO_ENGINE);
     CHECK(sandpiper_open_by_key(&t, 0, 0, 1) == SANDPIPER_NO_ENGINE && sandpiper_open_index(&t, 0, 0, 0, 1) == SANDPIPER_NO_ENGINE);
     CHECK(sandpiper_next(&t, 0, place, 1, &count) == SANDPIPER_NO_ENGINE && count == 0 && place->key == 77);
-    CHECK(sandpiper_close_cursor(&t, 0) == SANDPIPER_NO_ENGINE);
+    CHECK(sandpiper_open_keys(&t, 0, 0, 1) == SANDPIPER_NO_ENGINE && sandpiper_close_cursor(&t, 0) == SANDPIPER_NO_ENGINE);
+    CHECK(sandpiper_take_page(&t, 0, 0, &ticket) == SANDPIPER_NO_ENGINE && !ticket.is_taken);
     CHECK(sandpiper_prune(&t, 0) == SANDPIPER_NO_ENGINE && sandpiper_create_index(&t, 0) == SANDPIPER_NO_ENGINE);
     CHECK(sandpiper_vacuum_begin(&t, true) == SANDPIPER_NO_ENGINE && sandpiper_vacuum_cancel(&t) == SANDPIPER_NO_ENGINE);
+    CHECK(sandpiper_keep_places(&t, true) == SANDPIPER_NO_ENGINE);
     CHECK(sandpiper_vacuum_step(&t, &piece) == SANDPIPER_NO_ENGINE && piece.kind == 77);
     CHECK(sandpiper_slot_at(&t, 0, 1, &slot) == SANDPIPER_NO_ROW && slot.kind == 77);
     CHECK(sandpiper_page_bytes(&t, 0, bytes, sizeof bytes) == SANDPIPER_NO_ROW && bytes[0] == 77);
@@ -33,6 +36,7 @@ static void check_closed(void) {
 static void check_session(uint8_t session) {
     const uint32_t no_such_session = SANDPIPER_NO_SUCH_SESSION;
     size_t count = 77;
+    struct sandpiper_ticket ticket = {0};
     place->key = 77;
     CHECK(sandpiper_begin(&t, session) == no_such_session && sandpiper_commit(&t, session) == no_such_session);
     CHECK(sandpiper_abort(&t, session) == no_such_session && sandpiper_savepoint(&t, session) == no_such_session);
@@ -40,10 +44,11 @@ static void check_session(uint8_t session) {
     CHECK(sandpiper_get(&t, session, 1, place) == no_such_session && place->key == 77);
     CHECK(sandpiper_insert(&t, session, row) == no_such_session && sandpiper_update(&t, session, row) == no_such_session);
     CHECK(sandpiper_delete(&t, session, 1) == no_such_session && sandpiper_open_heap(&t, session) == no_such_session);
-    CHECK(sandpiper_open_by_key(&t, session, 0, 1) == no_such_session);
+    CHECK(sandpiper_open_by_key(&t, session, 0, 1) == no_such_session && sandpiper_open_keys(&t, session, 0, 1) == no_such_session);
     CHECK(sandpiper_open_index(&t, session, 0, 0, 1) == no_such_session);
     CHECK(sandpiper_next(&t, session, place, 1, &count) == no_such_session && count == 0 && place->key == 77);
     CHECK(sandpiper_close_cursor(&t, session) == no_such_session);
+    CHECK(sandpiper_take_page(&t, session, 0, &ticket) == no_such_session && !ticket.is_taken);
 }
 
 /* Lengths over 1024, of which the body has no such bytes to read. */
@@ -70,6 +75,7 @@ static void check_numbers(void) {
     CHECK(sandpiper_page_bytes(&t, UINT32_MAX, few, sizeof few) == SANDPIPER_NO_ROW && few[0] == 77);
     CHECK(sandpiper_open_index(&t, 0, UINT8_MAX, 0, 1) == SANDPIPER_NO_SUCH_INDEX);
     CHECK(sandpiper_open_by_key(&t, 0, UINT64_MAX, 0) == SANDPIPER_BAD_BOUNDS);
+    CHECK(sandpiper_open_keys(&t, 0, UINT64_MAX, 0) == SANDPIPER_BAD_BOUNDS);
     CHECK(sandpiper_abort(&t, 0) == SANDPIPER_ROLLED_BACK);
 }
 
@@ -95,6 +101,17 @@ static void apply_at_random(uint32_t page) {
     sandpiper_prune(&t, page);
 }
 
+/* Takes a page for one of eight tickets that live on, or reads one, or closes it. */
+static void use_ticket(uint8_t session, uint32_t page, struct sandpiper_row *rows, bool closes_all) {
+    static struct sandpiper_ticket tickets[8];
+    size_t count;
+    struct sandpiper_ticket *ticket = tickets + below(8);
+    sandpiper_take_page(&t, session, page, ticket);
+    sandpiper_ticket_rows(ticket, rows, below(PLACES + 1), &count);
+    if (below(2)) sandpiper_close_ticket(ticket);
+    for (int i = 0; closes_all && i < 8; i++) sandpiper_close_ticket(tickets + i);
+}
+
 /* Calls in no order, on keys below 1000, of which nobody reads what they answer. */
 static void call_at_random(int calls) {
     static struct sandpiper_row rows[PLACES];
@@ -106,7 +123,7 @@ static void call_at_random(int calls) {
         uint64_t key = below(1000);
         set_row(row, key, (int64_t)below(100), "");
         row->length = (uint16_t)below(below(8) ? 200 : 65536);
-        switch (below(20)) {
+        switch (below(21)) {
         case 0: sandpiper_commit(&t, session); break;
         case 1: sandpiper_abort(&t, session); break;
         case 2: sandpiper_savepoint(&t, session); break;
@@ -116,7 +133,7 @@ static void call_at_random(int calls) {
         case 6: sandpiper_insert(&t, session, row); break;
         case 7: sandpiper_update(&t, session, row); break;
         case 8: sandpiper_delete(&t, session, key); break;
-        case 9: sandpiper_open_heap(&t, session); break;
+        case 9: below(2) ? sandpiper_open_heap(&t, session) : sandpiper_open_keys(&t, session, key, key + below(500)); break;
         case 10: sandpiper_open_index(&t, session, (uint8_t)below(256), below(9), below(9)); break;
         case 11: sandpiper_next(&t, session, rows, below(PLACES + 1), &count); break;
         case 12: sandpiper_close_cursor(&t, session); break;
@@ -129,10 +146,12 @@ static void call_at_random(int calls) {
             break;
         case 17:
         case 18: sandpiper_vacuum_step(&t, &piece); break;
+        case 19: use_ticket(session, below(64), rows, false); break;
         default: sandpiper_begin(&t, session);
         }
     }
     for (int session = 0; session < 256; session++) sandpiper_abort(&t, (uint8_t)session);
+    use_ticket(0, 0, rows, true);
 }
 
 /* The keys 1000 to 1999 have the rows that were committed first. */

@@ -55,6 +55,14 @@ static uint32_t worked(void) { return sandpiper_vacuum_begin(&t, false), sandpip
 static uint32_t ended(void) { return worked(), sandpiper_vacuum_step(&t, &piece); }
 static uint32_t no_engine(void) { return sandpiper_close(&t), sandpiper_begin(&t, 0); }
 static uint32_t has_engine(void) { return sandpiper_open(&settings, &t); }
+static uint32_t no_ticket(void) { return sandpiper_ticket_rows(&(struct sandpiper_ticket){0}, &row, 1, &count); }
+static uint32_t has_ticket(void) {
+    struct sandpiper_ticket ticket = {0};
+    CHECK(sandpiper_take_page(&t, 0, 0, &ticket) == SANDPIPER_DONE);
+    uint32_t status = sandpiper_take_page(&t, 0, 0, &ticket);
+    CHECK(sandpiper_close_ticket(&ticket) == SANDPIPER_DONE);
+    return status;
+}
 static uint32_t bad_max_pages(void) { return settings.max_pages = 65537, opened(); }
 static uint32_t bad_stop_age(void) { return settings.stop_age = 2144483649u, opened(); }
 static uint32_t bad_freeze_min_age(void) { return settings.freeze_min_age = 1000000001u, opened(); }
@@ -130,7 +138,8 @@ static const struct {
     CASE(NO_ROOM, no_room), CASE(NEEDS_FREEZE, needs_freeze), CASE(BAD_BOUNDS, bad_bounds), CASE(NO_MEMORY, no_memory),
     CASE(NO_SUCH_PAGE, no_such_page), CASE(NO_SUCH_INDEX, no_such_index), CASE(NO_SUCH_SESSION, no_such_session),
     CASE(VACUUM_RUNNING, vacuum_running), CASE(NO_VACUUM, no_vacuum), CASE(INDEX_TOO_NEW, index_too_new), CASE(INDEX_BUSY, index_busy),
-    CASE(NO_ENGINE, no_engine), CASE(HAS_ENGINE, has_engine), CASE(NO_PLACE, no_place), CASE(BAD_MAX_PAGES, bad_max_pages),
+    CASE(NO_ENGINE, no_engine), CASE(HAS_ENGINE, has_engine), CASE(NO_PLACE, no_place), CASE(NO_TICKET, no_ticket), CASE(HAS_TICKET, has_ticket),
+    CASE(BAD_MAX_PAGES, bad_max_pages),
     CASE(BAD_STOP_AGE, bad_stop_age), CASE(BAD_FREEZE_MIN_AGE, bad_freeze_min_age), CASE(BAD_FIRST_XID, bad_first_xid), CASE(BAD_DEAD_LIMIT, bad_dead_limit),
     CASE(DEADLOCK, deadlock), CASE(STALE, stale), CASE(BUSY, busy),
 };

@@ -174,6 +174,21 @@ static void does(uint32_t kind, uint32_t number) {
     CHECK(piece.kind == kind && piece.number == number && piece.oldest == 0);
 }
 
+/* A session reads the same whether it is noted where keys were put, or not: rows that are there, that went, and that came again. */
+static void places_change_no_answer(void) {
+    open_table();
+    CHECK(sandpiper_begin(&t, 1) == SANDPIPER_DONE && sandpiper_begin(&t, 2) == SANDPIPER_DONE);
+    for (uint64_t key = 4; key < 8; key++) {
+        CHECK(sandpiper_keep_places(&t, key % 2 == 1) == SANDPIPER_DONE);
+        CHECK(sandpiper_get(&t, 1, key, place) == SANDPIPER_FOUND && place->key == key && has_body(place, "first"));
+        CHECK(sandpiper_delete(&t, 1, key) == SANDPIPER_DONE && sandpiper_get(&t, 1, key, place) == SANDPIPER_NO_ROW);
+        CHECK(sandpiper_insert(&t, 1, set_row(row, key, 1, "again")) == SANDPIPER_DONE);
+        CHECK(sandpiper_get(&t, 1, key, place) == SANDPIPER_FOUND && has_body(place, "again"));
+        CHECK(sandpiper_get(&t, 2, key, place) == SANDPIPER_FOUND && has_body(place, "first"));
+    }
+    close_table();
+}
+
 /* A deleted row's slot is freed step by step, and given to the next row. */
 static void a_vacuum_frees_slots(void) {
     struct sandpiper_piece piece = {77, 77, 77};
@@ -226,6 +241,7 @@ int main(void) {
     cursors_hand_out_what_the_session_reads();
     savepoints_take_back();
     pages_can_be_looked_into();
+    places_change_no_answer();
     a_vacuum_frees_slots();
     a_handle_may_move();
     free(row);

@@ -28,6 +28,7 @@ def check_layouts(folder: pathlib.Path) -> None:
     """The size of each struct, and the place and size of each field, are those that a C program prints."""
     structs = {
         "sandpiper": _c.Handle,
+        "sandpiper_ticket": _c.Ticket,
         "sandpiper_settings": _c.Settings,
         "sandpiper_row": _c.Row,
         "sandpiper_slot": _c.Slot,
@@ -67,6 +68,7 @@ def main() -> None:
     defines = dict(re.findall(r"#define SANDPIPER_(\w+) \"?([\d.]+)", header))
     major, minor = map(str, sp.VERSION)
     ours = {"SESSIONS": str(sp.SESSIONS), "SAVEPOINTS": str(sp.SAVEPOINTS), "BODY": str(sp.BODY), "PAGE_BYTES": str(sp.PAGE_BYTES)}
+    ours["PAGE_ROWS"] = str(sp.PAGE_ROWS)
     ours.update(VERSION=sp.__version__, VERSION_MAJOR=major, VERSION_MINOR=minor)
     assert defines == ours, defines
     assert f'version = "{sp.__version__}"' in (ROOT / "python/pyproject.toml").read_text()
@@ -80,7 +82,7 @@ def main() -> None:
     assert set(re.findall(r"^uint32_t sandpiper_(\w+)\(", header, re.M)) == set(_c.ARGUMENTS)
     with tempfile.TemporaryDirectory() as folder:
         check_layouts(pathlib.Path(folder))
-    print(f"{len(statuses)} statuses, each answered by the library; 7 structs, {len(_c.ARGUMENTS)} calls: all as the header has them")
+    print(f"{len(statuses)} statuses, each answered by the library; 9 structs, {len(_c.ARGUMENTS)} calls: all as the header has them")
 
 
 if __name__ == "__main__":

@@ -43,8 +43,8 @@ def write(draw: random.Random, session: Session, rows: Rows) -> None:
 
 
 def read(draw: random.Random, session: Session, rows: Rows) -> None:
-    """One look at a key, at all rows, at a range of keys, or at a range of column 1."""
-    kind, batch = draw.randrange(6), draw.choice((1, 3, 64))
+    """One look at a key, at all rows, at a range of keys, with their rows or without, or at a range of column 1."""
+    kind, batch = draw.randrange(8), draw.choice((1, 3, 64))
     low, high = sorted((draw.randrange(-4, 5), draw.randrange(-4, 5)))
     if kind < 3:
         key = draw.randrange(KEYS)
@@ -54,9 +54,22 @@ def read(draw: random.Random, session: Session, rows: Rows) -> None:
     elif kind == 4:
         first, last = sorted((draw.randrange(KEYS), draw.randrange(KEYS)))
         assert list(session.by_key(first, last, batch)) == [rows[key] for key in sorted(rows) if first <= key <= last]
+    elif kind < 7:
+        first, last = sorted((draw.randrange(KEYS), draw.randrange(KEYS)))
+        assert list(session.keys(first, last, batch)) == [key for key in sorted(rows) if first <= key <= last]
     else:
         found = [it for it in rows.values() if low <= it.cols[1] <= high]
         assert list(session.by_column(1, low, high, batch)) == sorted(found, key=lambda it: (it.cols[1], it.key))
+
+
+def tickets_of(session: Session, pages: int) -> List[sp.Ticket]:
+    """A ticket of each page."""
+    return [session.take_page(page) for page in range(pages)]
+
+
+def check_tickets(tickets: List[sp.Ticket], rows: Rows) -> None:
+    """They hold these rows, each once."""
+    assert sorted(row for ticket in tickets for row in ticket.rows()) == sorted(rows.values())
 
 
 def go_back(draw: random.Random, session: Session, rows: Rows, saved: List[Rows]) -> Rows:
@@ -102,9 +115,15 @@ def main(rounds: int = 2000, seed: Optional[int] = None) -> None:
     with Table(indexed=(False, True, False, False)) as table:
         # a session that began at some time, and what it is to read all along
         reader, view = table.begin(1), dict(committed)
+        tickets: List[sp.Ticket] = []
+        seen: Rows = {}
         for number in range(rounds):
             committed = run_session(draw, table, committed)
             read(draw, reader, view)
+            if draw.randrange(20) == 0:
+                check_tickets(tickets, seen)
+                tickets, seen = tickets_of(reader, table.state().pages), dict(view)
+                check_tickets(tickets, seen)
             if draw.randrange(20) == 0:
                 reader.commit()
                 reader, view = table.begin(1), dict(committed)

@@ -255,6 +255,13 @@ class TableTest(unittest.TestCase):
             self.assertIsNone(session.get(50))
         self.assertEqual(self.table.state().open_sessions, ())
 
+    def test_places_change_no_answer(self) -> None:
+        for wanted in (False, True):
+            self.table.keep_places(wanted)
+            with self.table.begin() as session:
+                session.update(row(3, 31))
+                self.assertEqual((session.get(3), session.get(4)), (row(3, 31), row(4, 40, b"first")))
+
     def test_a_table_tells_its_state(self) -> None:
         state = self.table.state()
         self.assertEqual(state, sp.State(4, 3, state.ids_left, 1, (), (10, 10, None, None, None), sp.Vacuum.NONE))
@@ -307,6 +314,51 @@ class TableTest(unittest.TestCase):
         self.assertEqual(slots[3], sp.Slot(sp.Kind.DEAD, 0, 0, 0, 0))
         self.assertEqual(list(self.table.slots(1)), [])
         self.assertRaises(sp.NoSuchPage, self.table.prune, 1)
+
+    def test_keys_alone(self) -> None:
+        self.table.vacuum()
+        self.assertTrue(self.table.page(0).all_visible)
+        with self.table.begin() as old:
+            self.assertEqual(list(old.keys()), list(range(1, 11)))
+            self.assertEqual(list(old.keys(3, 5, batch=1)), [3, 4, 5])
+            self.assertEqual(list(old.keys(11, 2**64 - 1)), [])
+            self.assertRaises(sp.BadBounds, old.keys, 5, 3)
+            with self.table.begin() as new:
+                new.delete(3)
+                new.insert(row(11))
+                new.update(row(4, 444))
+                self.assertEqual(list(new.keys(2)), [2, *range(4, 12)])
+            with old.keys() as keys:
+                self.assertEqual(next(keys), 1)
+                self.assertRaises(sp.CursorOpen, old.keys)
+            self.assertEqual(list(old.keys()), list(range(1, 11)))
+        with self.table.begin(read_committed=True) as session:
+            self.assertEqual(list(session.keys()), [1, 2, *range(4, 12)])
+
+    def test_a_ticket_is_read_at_any_time(self) -> None:
+        first = [row(key, key * 10, b"first") for key in range(1, 11)]
+        with self.table.begin() as old:
+            ticket = old.take_page(0)
+            self.assertEqual(ticket.rows(), first)
+            self.assertRaises(sp.NoSuchPage, old.take_page, 1)
+            with self.table.begin() as new:
+                new.delete(1)
+                new.update(row(2, 222, b"second"))
+                with new.take_page(0) as inner:
+                    self.assertEqual(sorted(inner.rows()), sorted([row(2, 222, b"second"), *first[2:]]))
+                self.assertRaises(sp.NoTicket, inner.rows)
+            with old.take_page(0) as again:
+                self.assertEqual(again.rows(), first)
+        self.table.vacuum()
+        self.table.close()
+        found: list[list[Row]] = []
+        thread = threading.Thread(target=lambda: found.append(ticket.rows()))
+        thread.start()
+        thread.join()
+        self.assertEqual(found, [first])
+        ticket.close()
+        ticket.close()
+        self.assertFalse(ticket.is_open)
 
     def test_a_plan_is_applied_while_it_checks(self) -> None:
         with self.table.begin() as session:

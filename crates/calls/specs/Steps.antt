@@ -18,6 +18,7 @@ session_of (step.Commit s) = Some s
 session_of (step.Abort s) = Some s
 session_of (step.OpenIndex s index low high) = Some s
 session_of (step.OpenHeap s) = Some s
+session_of (step.OpenKeys s low high) = Some s
 session_of (step.Next s n) = Some s
 session_of (step.Close s) = Some s
 session_of (step.TakePage s p) = Some s

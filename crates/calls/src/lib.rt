@@ -15,6 +15,6 @@ pub use checked::CheckedSettings;
 pub use prune_actions::Action;
 pub use reply::{Refusal, Reply};
 pub use settings::{Settings, SettingsFault};
-pub use step::{MOST_SESSIONS, PlanIn, RowIn, Step};
+pub use step::{MOST_SESSIONS, PlanIn, RowIn, Step, fill_row};
 pub use tuple_header::Row;
 pub use vacuum::{Mode, Piece};

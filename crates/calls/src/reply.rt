@@ -73,7 +73,9 @@ pub enum Reply {
     RolledBack,
     /// The rows that the cursor hands out: one at least.
     Rows(Vec<Row>),
-    /// The cursor has handed out all its rows. It stays open.
+    /// The keys that a cursor over keys alone hands out: one at least.
+    Keys(Vec<u64>),
+    /// The cursor has handed out all its rows, or keys. It stays open.
     End,
     /// The vacuum did this, and goes on.
     Worked(Piece),

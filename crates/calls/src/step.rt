@@ -1,13 +1,16 @@
 //! The steps of sessions, and of those who clean the table.
 
-ghost use Rattle.std.specs.Prelude.{◌≡◌, ◌<◌, length, IfOk, OnErr};
+ghost use Rattle.std.specs.Prelude.{◌≡◌, ◌<◌, length, IfOk, OnOk, OnErr, IfErr};
 ghost use Rattle.calls.specs.Bounds.{HasBounds};
+ghost use Rattle.calls.specs.Words.{FitsRow, row_of};
 ghost use Rattle.calls.specs.Writes.{HasBody};
 
+use crate::reply::Refusal;
 use crate::vacuum::Mode;
 use prune_actions::Action;
 use std::alloc::{AllocError, Global};
 use std::marker::Model;
+use tuple_header::{MOST_BODY, Row};
 
 /// A row to be written, whose body may be of any length.
 #[derive(Debug, Drop)]
@@ -78,7 +81,10 @@ pub enum Step {
     OpenIndex(u8, u8, i128, i128),
     /// Opens a cursor over all rows that the session reads.
     OpenHeap(u8),
-    /// Asks the cursor for rows: in an index for the next so many, where 0 counts as 1, or all that are left; in the heap
+    /// Opens a cursor over the keys of the rows that the session reads which lie within two bounds, both included: the session, the
+    /// lower and the upper bound. It hands out keys alone, by the index by key, and looks at no page that is noted as all-visible.
+    OpenKeys(u8, i128, i128),
+    /// Asks the cursor for rows, or for keys: in an index for the next so many, where 0 counts as 1, or all that are left; in the heap
     /// for those of a page.
     Next(u8, u16),
     /// Closes the cursor.
@@ -100,25 +106,13 @@ pub enum Step {
     CreateIndex(u8),
 }
 
-/// An equal body. An empty one takes no memory.
-fn copy_of(alloc: Global, body: &[u8]) -> Result<Vec<u8>, AllocError>
-    ensures copy { IfOk result (λ copy. copy.items ≡ body.now) }
-    ensures refused { OnErr result (0 < length body.now) }
+/// Equal elements. None take no memory.
+fn copy_of<T: Copy>(alloc: Global, elements: &[T]) -> Result<Vec<T>, AllocError>
+    ensures copy { IfOk result (λ copy. copy.items ≡ elements.now) }
+    ensures refused { OnErr result (0 < length elements.now) }
 {
     let mut copy = Vec::new(alloc);
-    match copy.extend_from_slice(body) {
-        Ok(()) => Ok(copy),
-        Err(fault) => Err(fault),
-    }
-}
-
-/// Equal actions. None take no memory.
-fn actions_of(alloc: Global, actions: &[(u16, Action)]) -> Result<Vec<(u16, Action)>, AllocError>
-    ensures copy { IfOk result (λ copy. copy.items ≡ actions.now) }
-    ensures refused { OnErr result (0 < length actions.now) }
-{
-    let mut copy = Vec::new(alloc);
-    match copy.extend_from_slice(actions) {
+    match copy.extend_from_slice(elements) {
         Ok(()) => Ok(copy),
         Err(fault) => Err(fault),
     }
@@ -132,7 +126,7 @@ impl PlanIn {
     {
         Ok(PlanIn {
             change: self.change,
-            actions: actions_of(alloc, self.actions.as_slice())?,
+            actions: copy_of(alloc, self.actions.as_slice())?,
         })
     }
 }
@@ -151,12 +145,27 @@ impl RowIn {
     }
 }
 
+/// Writes the row of the table in the place of another, unless the body has more than 1024 bytes. Refusals: TooLarge.
+pub fn fill_row(place: &mut Row, row: &RowIn) -> Result<(), Refusal>
+    ensures filled { OnOk result (FitsRow row.now × (place.new ≡ row_of row.now)) }
+    ensures fault { IfErr result
+        (λ refusal. (refusal ≡ Refusal.TooLarge) × (MOST_BODY < length row.now.body)) }
+{
+    place.key = row.key;
+    place.cols = row.cols;
+    place.body.clear();
+    match place.body.try_extend_from_slice(row.body.as_slice()) {
+        Ok(()) => Ok(()),
+        Err(_) => Err(Refusal::TooLarge),
+    }
+}
+
 impl Step {
     /// The bounds of a cursor are numbers of their type. It does nothing: its contract is the law.
     pub fn fact_bounds(&self)
         ensures { HasBounds self.now }
     {
-        if let Step::OpenIndex(_, _, low, high) = self {
+        if let Step::OpenIndex(_, _, low, high) | Step::OpenKeys(_, low, high) = self {
             let _low = *low;
             let _high = *high;
         }
@@ -181,6 +190,7 @@ impl Step {
             Step::Abort(s) => Ok(Step::Abort(*s)),
             Step::OpenIndex(s, index, low, high) => Ok(Step::OpenIndex(*s, *index, *low, *high)),
             Step::OpenHeap(s) => Ok(Step::OpenHeap(*s)),
+            Step::OpenKeys(s, low, high) => Ok(Step::OpenKeys(*s, *low, *high)),
             Step::Next(s, count) => Ok(Step::Next(*s, *count)),
             Step::Close(s) => Ok(Step::Close(*s)),
             Step::TakePage(s, page) => Ok(Step::TakePage(*s, *page)),

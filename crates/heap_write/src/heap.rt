@@ -10,6 +10,7 @@ ghost use Rattle.heap_pages.specs.declared.pages.TheConstants.{MOST_PAGES};
 
 use commit_status::{Status, StatusTable};
 use heap_pages::Pages;
+use key_places::KeyPlaces;
 use page_slots::Page;
 use root_index::RootIndex;
 use space_maps::PruneHints;
@@ -47,6 +48,8 @@ pub struct HeapState {
     // from which turn on a version on a page may be dead, as far as it is known: it changes no answer
     pub(crate) hints: PruneHints,
     pub(crate) indexes: Indexes,
+    // where the newest root of each key was made, as far as it is known: it changes no answer
+    pub(crate) places: KeyPlaces,
     pub(crate) max_pages: u32,
 }
 
@@ -95,6 +98,7 @@ impl HeapState {
             statuses,
             hints: PruneHints::new(alloc),
             indexes: Indexes::new(alloc, indexed),
+            places: KeyPlaces::new(alloc, true),
             max_pages,
         }
     }

@@ -94,6 +94,7 @@ impl HeapState {
         let (key, cols) = (row.key, row.cols);
         let tid = put_version(&mut self.pages, target, updated, x, row);
         self.indexes.enter(key, &cols, tid);
+        self.places.note(key, tid, self.indexes.by_key().len());
         expect_root(&mut self.hints, &self.statuses, tid.page, x);
         self.hints.cover(self.pages.len() as usize);
         tid

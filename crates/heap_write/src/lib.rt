@@ -10,6 +10,9 @@
 //! looks for dead versions only where there may be some. No answer depends on hints, and that they are true is part of the type
 //! (`specs/Hints.antt`).
 //!
+//! Where a root of each key was made last is noted too, as far as there is memory, and a get looks there first. What is noted may be
+//! anything, and no answer depends on it (`src/places.rt`).
+//!
 //! A vacuum prunes, freezes and notes pages, removes entries and makes dead slots unused (`specs/Cleaning.antt`). Whether and when
 //! that is safe is no matter of these calls: `sound_vacuum` says so.
 //!
@@ -28,6 +31,7 @@ mod ids;
 mod insert;
 mod lookup;
 mod making;
+mod places;
 mod pruning;
 mod target;
 mod update;

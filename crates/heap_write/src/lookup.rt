@@ -4,13 +4,14 @@ ghost use Rattle.std.specs.Prelude.{◌≡◌, ◌≤◌, length, pos};
 ghost use Rattle.visibility.specs.Reading.{IsSeenBy, IsOtherWriterFor, IsNewerCommitFor};
 ghost use Rattle.index_lookup.specs.Looking.{FirstFound, FirstPlace, IsIdOf};
 ghost use Rattle.index_lookup.specs.Walking.{NextRow};
+ghost use Rattle.index_lookup.specs.Keys.{NextKey};
 ghost use Rattle.table_indexes.specs.Indexes.{entries_in};
 ghost use Rattle.heap_write.specs.Heap.{slots_of};
 ghost use Rattle.heap_pages.specs.declared.pages.TheConstants.{MOST_PAGES};
 
 use crate::heap::HeapState;
 use index_lookup::{
-    IndexPosition, IndexRange, TableView, WriteCheck, check_write, next_row, row_of,
+    IndexPosition, IndexRange, TableView, WriteCheck, check_write, next_key, next_row, row_of,
 };
 use root_index::PositionHint;
 use tuple_header::RowRef;
@@ -70,6 +71,25 @@ impl HeapState {
     {
         match self.indexes.get(span.index) {
             Some(index) => next_row(
+                &TableView {
+                    pages: &self.pages,
+                    index,
+                },
+                span,
+                reader,
+            ),
+            None => None,
+        }
+    }
+
+    /// The first place of the span, in the order of the index, where a key shows: by a page that is noted as all-visible, which is not
+    /// looked at, or by a row that the reader sees. An index that is not in use has none.
+    pub fn next_key(&self, span: &IndexRange, reader: &Reader<'_>) -> Option<IndexPosition>
+        ensures { NextKey reader.now.statuses.now (IsSeenBy reader.now) self.now.pages
+            (entries_in self.now.indexes span.now.index) span.now result }
+    {
+        match self.indexes.get(span.index) {
+            Some(index) => next_key(
                 &TableView {
                     pages: &self.pages,
                     index,

@@ -7,3 +7,4 @@ pub mod SpanLemmas
 pub mod WalkLemmas
 pub mod SeenLemmas
 pub mod Versions
+pub mod KeyLemmas

@@ -1,5 +1,5 @@
 -- The version in a slot, and whether it is seen.
-use Rattle.std.proofs.Common.{◌≡◌, ℕ, List, Option, Some, None, refl, sym, ap, subst, ◌∙◌}
+use Rattle.std.proofs.Common.{◌≡◌, ℕ, List, map, Option, Some, None, refl, sym, ap, subst, ◌∙◌, slice_get}
 use Rattle.std.specs.Option.{option_map}
 use Rattle.std.proofs.lemmas.Option.{same_Some}
 use Rattle.tuple_header.specs.Version.{Version}
@@ -8,7 +8,10 @@ use Rattle.tuple_header.specs.declared.version.Row.{Row}
 use Rattle.page_slots.specs.declared.slot.Slot.{Slot}
 use Rattle.page_slots.specs.Slots.{version_at, header_at, row_at}
 use Rattle.page_slots.proofs.SlotLemmas.{version-from_header}
-use Rattle.index_lookup.specs.Walking.{NoneSeenFrom, SeenRow}
+use Rattle.page_slots.specs.View.{PageView}
+use Rattle.index_lookup.specs.Walking.{NoneSeenFrom, IsSeenRow, SeenRow}
+use Rattle.index_lookup.specs.ByPlace.{IsSeenRowOf}
+use Rattle.index_lookup.proofs.PageLists.{slots-there}
 
 headless : (o : Option Version) (t : Version) → option_map (λ (t : Version). t.header) o ≡ None → o ≡ Some t → ⊥
 headless None t e is = absurd (cc)
@@ -34,3 +37,15 @@ seen-row seen slots slot r h answer value is has row =
       shown = subst seen t.2 has;
       is_row = refl;
     })
+
+-- what is seen in a slot of a page is seen at that place of the table
+pub seen-of_key : (seen : Header → Type 0) (pages : List PageView) (n slot key : ℕ) (page : PageView) (row : Row) → slice_get pages n ≡ Some page
+    → IsSeenRow seen page.slots slot row → row.key ≡ key → IsSeenRowOf seen (map (λ (p : PageView). p.slots) pages) key row
+seen-of_key seen pages n slot key page row at is of = record {
+  place = record { page = n; slot = slot };
+  version = is.version;
+  there = ap (λ slots. version_at slots slot) (slots-there pages n page at) ∙ is.there;
+  of_key = sym (ap (λ (r : Row). r.key) is.is_row) ∙ of;
+  is_seen = is.shown;
+  is_row = is.is_row;
+}

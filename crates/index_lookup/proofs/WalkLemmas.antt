@@ -77,7 +77,7 @@ walked-end entries HasNone span left turn l all e there lies = ⊎_elim
     (λ has. has)
     (l.rest e there lies)
 
-before-lower : (f e : Entry) (position : IndexPosition) → IsPlaceOf f position → IsBeforePosition e position → IsLower e f
+pub before-lower : (f e : Entry) (position : IndexPosition) → IsPlaceOf f position → IsBeforePosition e position → IsLower e f
 before-lower f e position is (inl lt) = inl (subst (λ v. e.value <ℤ v) is.0 lt)
 before-lower f e position is (inr (same, lt)) = inr (same ∙ is.0, subst (λ k. e.key < k) is.1 lt)
 

@@ -152,7 +152,7 @@ fn entry_from(index: &RootIndex, span: &IndexRange) -> Option<(Entry, PositionHi
 }
 
 /// The first entry of the span, and where it stood.
-fn entry_in(index: &RootIndex, span: &IndexRange) -> Option<(Entry, PositionHint)>
+pub(crate) fn entry_in(index: &RootIndex, span: &IndexRange) -> Option<(Entry, PositionHint)>
     ensures { IsLeast index.now.entries (LiesIn span.now) (option_map (λ found. found.0) result) }
 {
     match entry_from(index, span) {
@@ -162,7 +162,7 @@ fn entry_in(index: &RootIndex, span: &IndexRange) -> Option<(Entry, PositionHint
 }
 
 /// The place of an entry in the order of its index.
-fn position_of(entry: &Entry, near: PositionHint) -> IndexPosition
+pub(crate) fn position_of(entry: &Entry, near: PositionHint) -> IndexPosition
     ensures value { result.value ≡ entry.now.value }
     ensures key { result.key ≡ entry.now.key }
 {

@@ -32,7 +32,7 @@ pub(crate) fn with_hint(look_up: LookUp) -> Option<(Entry, PositionHint)>
 }
 
 /// That the value of an entry is in range. It does nothing; its contract is the fact.
-fn fact_value(entry: &Entry)
+pub(crate) fn fact_value(entry: &Entry)
     ensures { FitsSigned w128 entry.now.value }
 {
     let _value = entry.value;
@@ -65,7 +65,7 @@ fn seen_along(page: &Page, place: Tid, reader: &Reader<'_>) -> Option<Tid>
 }
 
 /// The place of the first version that the reader sees in the chain of a place. A page that is not in use has no chains.
-fn seen_at(pages: &Pages, place: Tid, reader: &Reader<'_>) -> Option<Tid>
+pub(crate) fn seen_at(pages: &Pages, place: Tid, reader: &Reader<'_>) -> Option<Tid>
     ensures { SeenAt reader.now.statuses.now (IsSeenBy reader.now)
         (page_slots_of pages.now) place result }
 {

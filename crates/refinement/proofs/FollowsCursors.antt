@@ -45,7 +45,7 @@ abbrev pub seen_by : Heap → SeenSession → Version → Type 0
 seen_by h e = ReaderSees h.status (CursorSees h e.isolation) e.own
 
 -- the session has not failed
-ready : (h : Heap) (w : World) (s : ℕ) (e : SeenSession) (at : h.session s ≡ Some e) (agrees : HeapAgrees h w) → e.failed ≡ false → IsReady w s (agrees.opened s e at).0
+pub ready : (h : Heap) (w : World) (s : ℕ) (e : SeenSession) (at : h.session s ≡ Some e) (agrees : HeapAgrees h w) → e.failed ≡ false → IsReady w s (agrees.opened s e at).0
 ready h w s e at agrees sound = let open_ = agrees.opened s e at in record { there = open_.1; sound = sym open_.2.same_failed ∙ sound }
 
 -- the cursor alone changes, on both sides, and the snapshot that is kept for it
@@ -73,7 +73,7 @@ SessionAgrees-cursor {status} {store} {history} {sees} {cursor_sees} {cursor_see
 abbrev AgreesAs : Heap → World → SeenSession → OpenSession → Type 0
 AgreesAs h w e m = SessionAgrees h.status h.version w.history (StatementSees h e.isolation) (start_now w.history m) (CursorSees h e.isolation) e m
 
-Agrees-cursor : (h : Heap) (w : World) (s : ℕ) (e : SeenSession) (isolation : SeenIsolation) (position : Option Position) (f : OpenSession → Option Cursor) (session' : ℕ → Option SeenSession)
+pub Agrees-cursor : (h : Heap) (w : World) (s : ℕ) (e : SeenSession) (isolation : SeenIsolation) (position : Option Position) (f : OpenSession → Option Cursor) (session' : ℕ → Option SeenSession)
     → OnlyIs h.session session' s (Some (record e { isolation = isolation; cursor = position })) → h.session s ≡ Some e
     → ((m : OpenSession) → AgreesAs h w e m → AgreesAs h w (record e { isolation = isolation; cursor = position }) (record m { cursor = f m }))
     → HeapAgrees h w → HeapAgrees (record h { session = session' }) (change w s (λ m. record m { cursor = f m }))
@@ -95,7 +95,7 @@ shown {store} {seen} {rows} k row shows is =
 shows_row : {store : Tid → Option Version} {seen : Version → Type 0} {rows : ℕ → Option Row} {position : Position} (row : Row) → Shows store seen rows → Comes store seen position row → rows row.key ≡ Some row
 shows_row {store} {seen} {rows} row shows c = subst (λ (r : Row). rows r.key ≡ Some r) c.same_row (shows.sound c.place c.version c.here c.shown)
 
-remains_index : {store : Tid → Option Version} {seen : Version → Type 0} {rows : ℕ → Option Row} (index : ℕ) (low high : ℤ) → Shows store seen rows
+pub remains_index : {store : Tid → Option Version} {seen : Version → Type 0} {rows : ℕ → Option Row} (index : ℕ) (low high : ℤ) → Shows store seen rows
     → Remains store seen (in_index index low high None) (record { order = by_index index; rest = rows_within index low high rows })
 remains_index {store} {seen} {rows} index low high shows = record {
   order = refl;
@@ -125,7 +125,7 @@ abbrev with_model_cursor : Cursor → OpenSession → OpenSession
 with_model_cursor c m = record m { cursor = Some c }
 
 -- the cursor reads what the session's statement does
-opens : (h : Heap) (w : World) (e : SeenSession) (m : OpenSession) (position : Position) (c : Cursor) (before after : SeenIsolation) (model : Isolation) → OpensBy h before after → IsSameIsolation before model → m.isolation ≡ model
+pub opens : (h : Heap) (w : World) (e : SeenSession) (m : OpenSession) (position : Position) (c : Cursor) (before after : SeenIsolation) (model : Isolation) → OpensBy h before after → IsSameIsolation before model → m.isolation ≡ model
     → ((seen : Version → Type 0) → Shows h.version seen (view w.history m) → Remains h.version seen position c)
     → SessionAgrees h.status h.version w.history (StatementSees h before) (start_now w.history m) (CursorSees h before) e m
     → SessionAgrees h.status h.version w.history (StatementSees h after) (start_now w.history m) (CursorSees h after) (with_cursor after position e) (with_model_cursor c m)
@@ -200,7 +200,7 @@ Follows-barred_open_heap h s r is w agrees =
 -- Next.
 
 -- the model's cursor, of a session whose cursor is at this position
-model_at : (h : Heap) (w : World) (s : ℕ) (e : SeenSession) (position : Position) (at : h.session s ≡ Some e) (agrees : HeapAgrees h w) → e.cursor ≡ Some position
+pub model_at : (h : Heap) (w : World) (s : ℕ) (e : SeenSession) (position : Position) (at : h.session s ≡ Some e) (agrees : HeapAgrees h w) → e.cursor ≡ Some position
     → (c : Cursor) × ((agrees.opened s e at).0.cursor ≡ Some c) × Remains h.version (seen_by h e) position c
 model_at h w s e position at agrees is = (agrees.opened s e at).2.cursor.opened position is
 
@@ -209,7 +209,7 @@ seen_once : (h : Heap) (w : World) (s : ℕ) (e : SeenSession) (position : Posit
 seen_once h w s e position at agrees is = ((agrees.opened s e at).2.cursor_reads (some_of position e.cursor is)).reads.rows.one
 
 -- these rows are handed out, and those that come at the new position are left
-Agrees-taken : (h : Heap) (w : World) (s : ℕ) (e : SeenSession) (position position' : Position) (rows : List Row) (session' : ℕ → Option SeenSession)
+pub Agrees-taken : (h : Heap) (w : World) (s : ℕ) (e : SeenSession) (position position' : Position) (rows : List Row) (session' : ℕ → Option SeenSession)
     → OnlyIs h.session session' s (Some (record e { cursor = Some position' })) → h.session s ≡ Some e → e.cursor ≡ Some position
     → ((c : Cursor) → Remains h.version (seen_by h e) position c → Remains h.version (seen_by h e) position' (past (keys_of rows) c))
     → HeapAgrees h w → HeapAgrees (record h { session = session' }) (change w s (with_taken (keys_of rows)))

@@ -28,6 +28,7 @@ pub mod GivenBelow
 pub mod FollowsWrites
 pub mod FollowsSavepoints
 pub mod FollowsCursors
+pub mod FollowsKeys
 pub mod FollowsIndexes
 pub mod SettlingLemmas
 pub mod ForgettingLemmas

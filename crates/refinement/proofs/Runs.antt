@@ -3,7 +3,7 @@ use Rattle.std.proofs.Common.{◌≡◌, ℕ, ◌<◌, ◌≤◌, length, arith,
 use Rattle.std.proofs.lemmas.Option.{none-some, same_Some}
 use Rattle.history.specs.World.{World, OpenSession, beginning, MayIndex, IsBlocked, ClosesRing}
 use Rattle.history.specs.Moves.{free_to_scan, with_index_on}
-use Rattle.history.specs.Events.{Happens, passes, begins, begins_by_statement, conflicts, waits, deadlocks, saves, rolls_back_to, releases, commits, aborts, opens_index, opens_heap, takes, closes, StepsReach, stays, goes_on}
+use Rattle.history.specs.Events.{Happens, passes, begins, begins_by_statement, conflicts, waits, deadlocks, saves, rolls_back_to, releases, commits, aborts, opens_index, opens_heap, opens_keys, takes, takes_keys, closes, StepsReach, stays, goes_on}
 use Rattle.history.specs.Events as events
 use Rattle.history.proofs.HistoryLemmas.{at_other}
 use Rattle.history.proofs.RunLemmas.{Lawful-beginning, Lawful-run, indexes-step, makes_on}
@@ -58,7 +58,9 @@ leads_on w (step.Commit s) reply.RolledBack allows = by_session s (aborts allows
 leads_on w (step.Abort s) reply.RolledBack allows = by_session s (aborts allows.0 allows.1)
 leads_on w (step.OpenIndex s index low high) reply.Done allows = by_session s (opens_index index low high allows.0 allows.1 allows.2 allows.3)
 leads_on w (step.OpenHeap s) reply.Done allows = by_session s (opens_heap allows.0 allows.1)
+leads_on w (step.OpenKeys s low high) reply.Done allows = by_session s (opens_keys low high allows.0 allows.1 allows.2)
 leads_on w (step.Next s n) (reply.Rows rows) allows = by_session s (takes n rows.items allows.0 allows.1 allows.2 allows.3 allows.4)
+leads_on w (step.Next s n) (reply.Keys keys) allows = by_session s (takes_keys n keys.items allows.0 allows.1 allows.2 allows.3 allows.4)
 leads_on w (step.Close s) reply.Done allows = by_session s (closes allows.0 allows.1 allows.2)
 leads_on w (step.CreateIndex c) reply.Done allows = by_making c refl allows
 leads_on w step reply allows = passes_on w step (session_of step)

@@ -2,8 +2,8 @@
 use Rattle.std.specs.Prelude.{◌≡◌, ℕ, ◌-◌, ◌<◌, ◌≤◌, List, [], ◌∷◌, length, Option, Some, None, Bool, true, false, IsSome, ◌<ℤ◌, ◌≤ℤ◌}
 use Rattle.history.specs.History.{IsLate}
 use Rattle.history.specs.World.{World, OpenSession, Cursor, beginning, start_now, view, LacksIndex, MayIndex, MayScan, ClosesRing, IsReady, IsWriter, MayWrite, IsBlocked, world_sessions}
-use Rattle.history.specs.Cursors.{AreOf, keys_of, IsOver, HandsOutPart}
-use Rattle.history.specs.Moves.{stepped, begun, begun_by_statement, blocked_by, change, with_row, without_row, as_failed, with_savepoint, rolled_back_to, without_savepoint, aborted, committed_by, with_index_cursor, with_heap_cursor, with_taken, without_cursor, with_index_on}
+use Rattle.history.specs.Cursors.{AreOf, keys_of, IsOver, HandsOutPart, HandsOutKeys}
+use Rattle.history.specs.Moves.{stepped, begun, begun_by_statement, blocked_by, change, with_row, without_row, as_failed, with_savepoint, rolled_back_to, without_savepoint, aborted, committed_by, with_index_cursor, with_heap_cursor, with_keys_cursor, with_taken, without_cursor, with_index_on}
 use Rattle.history.specs.Laws.{FirstCommitterWins, HeldInTime, HeldOnce}
 use Rattle.calls.specs.declared.step.Step.{Step}
 use Rattle.calls.specs.declared.step.Step.TheVariants as step
@@ -96,7 +96,12 @@ Allows w (step.OpenIndex s index low high) (reply.Refused refusal) = BarsFree (w
 Allows w (step.OpenHeap s) reply.Done = (m : OpenSession) × IsWriter w s m
 Allows w (step.OpenHeap s) (reply.Refused refusal.NoMemory) = (m : OpenSession) × IsWriter w s m
 Allows w (step.OpenHeap s) (reply.Refused refusal) = BarsFree (world_sessions w) s refusal
+Allows w (step.OpenKeys s low high) reply.Done = (m : OpenSession) × IsWriter w s m × (low ≤ℤ high)
+Allows w (step.OpenKeys s low high) (reply.Refused refusal.BadBounds) = (m : OpenSession) × IsWriter w s m × (high <ℤ low)
+Allows w (step.OpenKeys s low high) (reply.Refused refusal.NoMemory) = (m : OpenSession) × IsWriter w s m × (low ≤ℤ high)
+Allows w (step.OpenKeys s low high) (reply.Refused refusal) = BarsFree (world_sessions w) s refusal
 Allows w (step.Next s n) (reply.Rows rows) = (m : OpenSession) × (c : Cursor) × IsReady w s m × (m.cursor ≡ Some c) × HandsOutPart c.order n c.rest rows.items
+Allows w (step.Next s n) (reply.Keys keys) = (m : OpenSession) × (c : Cursor) × IsReady w s m × (m.cursor ≡ Some c) × HandsOutKeys c.order n c.rest keys.items
 Allows w (step.Next s n) reply.End = (m : OpenSession) × (c : Cursor) × IsReady w s m × (m.cursor ≡ Some c) × IsOver c.rest
 Allows w (step.Next s n) (reply.Refused refusal.NoMemory) = (m : OpenSession) × (c : Cursor) × IsReady w s m × (m.cursor ≡ Some c) × (¬ IsOver c.rest)
 Allows w (step.Next s n) (reply.Refused refusal) = BarsWithCursor (world_sessions w) s refusal
@@ -156,7 +161,9 @@ next w (step.Commit s) reply.RolledBack = aborted w s
 next w (step.Abort s) reply.RolledBack = aborted w s
 next w (step.OpenIndex s index low high) reply.Done = change w s (with_index_cursor w.history index low high)
 next w (step.OpenHeap s) reply.Done = change w s (with_heap_cursor w.history)
+next w (step.OpenKeys s low high) reply.Done = change w s (with_keys_cursor w.history low high)
 next w (step.Next s n) (reply.Rows rows) = change w s (with_taken (keys_of rows.items))
+next w (step.Next s n) (reply.Keys keys) = change w s (with_taken keys.items)
 next w (step.Close s) reply.Done = change w s without_cursor
 next w (step.CreateIndex c) reply.Done = with_index_on w c
 next w step reply = passed w (session_of step)

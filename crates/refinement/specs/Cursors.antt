@@ -4,10 +4,10 @@ use Rattle.std.specs.Prelude.{◌≡◌, ℕ, ◌<◌, ◌≤◌, ℤ, ◌<ℤ�
 use Rattle.xid_circle.specs.declared.Tid.{Tid}
 use Rattle.tuple_header.specs.declared.version.Row.{Row}
 use Rattle.tuple_header.specs.Version.{Version}
-use Rattle.history.specs.World.{Cursor, Order, by_index, by_heap}
+use Rattle.history.specs.World.{Cursor, Order, by_index, by_heap, by_keys}
 use Rattle.tuple_header.specs.IndexValue.{value_in}
 use Rattle.history.specs.Cursors.{ComesBefore}
-use Rattle.refinement.specs.Heap.{RowPosition, Position, in_index, in_heap}
+use Rattle.refinement.specs.Heap.{RowPosition, Position, in_index, in_heap, in_keys}
 use Rattle.refinement.specs.Visible.{At}
 
 -- where the row stands in the order of the index
@@ -33,14 +33,16 @@ IsFrom from p = (from.page < p.page) ⊎ (from.page ≡ p.page) × (from.slot �
 abbrev pub heap_start : Tid
 heap_start = record { page = 0; slot = 0 }
 
--- still to come at the position: in an index by the row, in the heap by the place
+-- still to come at the position: in an index, and over keys, by the row, in the heap by the place
 abbrev pub IsToCome : Position → Tid → Row → Type 0
 IsToCome (in_index index low high last) p row = IsAhead index low high last row
 IsToCome (in_heap from) p row = IsFrom from p
+IsToCome (in_keys low high last) p row = IsAhead 0 low high last row
 
 abbrev pub order_of : Position → Order
 order_of (in_index index low high last) = by_index index
 order_of (in_heap page) = by_heap
+order_of (in_keys low high last) = by_keys
 
 -- a version that is seen and still to come has this row
 pub record Comes (store : Tid → Option Version) (seen : Version → Type 0) (position : Position) (row : Row) : Type 0 where

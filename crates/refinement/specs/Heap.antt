@@ -18,6 +18,8 @@ pub data Position : Type 0 where
   in_index : (index : ℕ) (low high : ℤ) (last : Option RowPosition) → Position
   -- in the heap, from this place on
   in_heap : (from : Tid) → Position
+  -- over keys alone, between the bounds, after this place of the order of the index by key, or at the beginning
+  in_keys : (low high : ℤ) (last : Option RowPosition) → Position
 
 -- By which snapshot a session reads: by that of its beginning; or each of its statements by one of its own, which lists nobody and
 -- is not kept. Then it keeps that by which its cursor was opened, until this is closed

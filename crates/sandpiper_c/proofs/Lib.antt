@@ -5,3 +5,4 @@ pub mod NextLemmas
 pub mod Finding
 mod ManyLemmas
 mod BytesLemmas
+mod PlacesLemmas

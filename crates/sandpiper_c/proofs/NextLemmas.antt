@@ -1,5 +1,5 @@
 -- The next rows, as C has them.
-use Rattle.std.proofs.Common.{◌≡◌, ℕ, zero, suc, ◌<◌, List, [], ◌∷◌, length, Ok, Err, refl, sym, ap, ◌∙◌, arith}
+use Rattle.std.proofs.Common.{◌≡◌, ℕ, zero, suc, ◌<◌, List, [], ◌∷◌, length, Ok, refl, ap, ◌∙◌, arith}
 use Rattle.std.specs.Prelude.{Result}
 use Rattle.tuple_header.specs.declared.row_place.RowPlace.{RowPlace}
 use Rattle.calls.specs.declared.reply.Reply.{Reply}
@@ -7,7 +7,7 @@ use Rattle.calls.specs.declared.reply.Reply.TheVariants as reply
 use Rattle.calls.specs.declared.reply.Refusal.{Refusal}
 use Rattle.calls.specs.declared.reply.Refusal.TheVariants as refusal
 use Rattle.session_steps.specs.State.{State}
-use Rattle.session_steps.specs.NextRows.{rows_in, count_in, ExactNextRows}
+use Rattle.session_steps.specs.NextRows.{count_in, ExactNextRows}
 use Rattle.session_core.specs.NextRows.{EngineNextRows}
 use Rattle.sandpiper_c.specs.declared.held.Held.{Held}
 use Rattle.sandpiper_c.specs.declared.status.CallStatus.TheVariants as status
@@ -21,18 +21,11 @@ some-rows (suc n) some = refl
 -- the status of the answer is that of the reply
 status-same : (old new : State) (s most : ℕ) (answer : Result ℕ Refusal) (reply : Reply) → ExactNextRows old s most reply new → answer ≡ count_in reply → status_of_answer answer ≡ status_of_reply reply
 status-same old new s most answer (reply.Rows rows) exact is = ap status_of_answer is ∙ some-rows (length rows.items) exact.0
+status-same old new s most answer (reply.Keys keys) exact is = ap status_of_answer is ∙ some-rows (length keys.items) exact.0
 status-same old new s most answer reply.End exact is = ap status_of_answer is
 status-same old new s most answer (reply.Refused refusal.NoMemory) exact is = absurd exact
 status-same old new s most answer (reply.Refused r) exact is = ap status_of_answer is
 status-same old new s most answer reply exact is = absurd exact
-
--- and so is how many rows there are
-count-same : (old new : State) (s most : ℕ) (answer : Result ℕ Refusal) (reply : Reply) → ExactNextRows old s most reply new → answer ≡ count_in reply → count_of answer ≡ length (rows_in reply)
-count-same old new s most answer (reply.Rows rows) exact is = ap count_of is
-count-same old new s most answer reply.End exact is = ap count_of is
-count-same old new s most answer (reply.Refused refusal.NoMemory) exact is = absurd exact
-count-same old new s most answer (reply.Refused r) exact is = ap count_of is
-count-same old new s most answer reply exact is = absurd exact
 
 hands-rows : (old new : Held) (s : ℕ) (places after : List RowPlace) (answer : Result ℕ Refusal) → EngineNextRows old.engine s places answer after new.engine → new.reply ≡ old.reply
     → HandsRows old s places (number_of_status (status_of_answer answer)) after (count_of answer) new
@@ -44,8 +37,8 @@ hands-rows old new s places after answer next same = record {
   waits = next.waits;
   same_reply = same;
   status = ap number_of_status (status-same old.engine.engine.core new.engine.engine.core s (length places) answer next.reply next.exact next.written.answers);
-  rows = next.written.rows;
-  number = count-same old.engine.engine.core new.engine.engine.core s (length places) answer next.reply next.exact next.written.answers;
+  written = next.written.written;
+  number = ap count_of next.written.answers;
 }
 
 -- where there is a place

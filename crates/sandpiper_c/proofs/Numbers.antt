@@ -19,7 +19,7 @@ listed = status.Done ∷ status.Found ∷ status.NoRow ∷ status.Committed ∷ 
     ∷ status.Refused refusal.NoSuchPage ∷ status.Refused refusal.NoSuchIndex ∷ status.Refused refusal.NoSuchSession
     ∷ status.Refused refusal.VacuumRunning ∷ status.Refused refusal.NoVacuum ∷ status.Refused refusal.IndexTooNew
     ∷ status.Refused refusal.IndexBusy ∷ status.Refused refusal.Deadlock ∷ status.Refused refusal.Stale
-    ∷ status.NoEngine ∷ status.HasEngine ∷ status.NoPlace ∷ status.BadMaxPages ∷ status.BadStopAge ∷ status.BadFreezeMinAge
+    ∷ status.NoEngine ∷ status.HasEngine ∷ status.NoPlace ∷ status.NoTicket ∷ status.HasTicket ∷ status.BadMaxPages ∷ status.BadStopAge ∷ status.BadFreezeMinAge
     ∷ status.BadFirstXid ∷ status.BadDeadLimit ∷ []
 
 -- the status that has the number

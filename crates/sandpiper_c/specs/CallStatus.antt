@@ -9,7 +9,7 @@ use Rattle.calls.specs.declared.settings.SettingsFault.TheVariants as fault
 use Rattle.sandpiper_c.specs.declared.status.CallStatus.{CallStatus}
 use Rattle.sandpiper_c.specs.declared.status.CallStatus.TheVariants as status
 
--- the status of a reply: all that it says but its rows, and what a vacuum did
+-- the status of a reply: all that it says but its rows or keys, and what a vacuum did; keys have the status of rows, since one call hands out both
 abbrev pub status_of_reply : Reply → CallStatus
 status_of_reply reply.Done = status.Done
 status_of_reply (reply.Found (Some row)) = status.Found
@@ -17,6 +17,7 @@ status_of_reply (reply.Found None) = status.NoRow
 status_of_reply reply.Committed = status.Committed
 status_of_reply reply.RolledBack = status.RolledBack
 status_of_reply (reply.Rows rows) = status.Rows
+status_of_reply (reply.Keys keys) = status.Rows
 status_of_reply reply.End = status.End
 status_of_reply (reply.Worked piece) = status.Worked
 status_of_reply (reply.Ended oldest) = status.Ended
@@ -79,6 +80,8 @@ number_of_status (status.Refused r) = number_of_refusal r
 number_of_status status.NoEngine = 48
 number_of_status status.HasEngine = 49
 number_of_status status.NoPlace = 50
+number_of_status status.NoTicket = 51
+number_of_status status.HasTicket = 52
 number_of_status status.BadMaxPages = 64
 number_of_status status.BadStopAge = 65
 number_of_status status.BadFreezeMinAge = 66

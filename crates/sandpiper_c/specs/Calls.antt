@@ -78,6 +78,14 @@ Writes old step row code new = ((text : RowToWrite) × IsText row text × Does o
 abbrev pub StaysAsIs : Sandpiper → Sandpiper → Type 0
 StaysAsIs old new = held_by new ≡ held_by old
 
+-- the status says whether it has an engine
+abbrev pub TellsWhetherHeld : Option Held → ℕ → Type 0
+TellsWhetherHeld None code = code ≡ number_of_status status.NoEngine
+TellsWhetherHeld (Some held) code = code ≡ number_of_status status.Done
+
+abbrev pub TellsWhetherOpen : Sandpiper → ℕ → Type 0
+TellsWhetherOpen table code = TellsWhetherHeld (held_by table) code
+
 -- the row of a reply, if there is one and it has one
 abbrev pub row_found_in : Option Reply → Option Row
 row_found_in (Some (reply.Found row)) = row

@@ -9,4 +9,5 @@ pub mod Bytes
 pub mod Pieces
 pub mod Plans
 pub mod State
+pub mod Tickets
 pub mod Many

@@ -1,12 +1,11 @@
--- What a call does that hands out the next rows of a cursor.
+-- What a call does that hands out the next rows or keys of a cursor.
 use Rattle.std.specs.Prelude.{◌≡◌, ℕ, zero, suc, true, List, [], ◌∷◌, length, slice_set, Option, Some, None, Result, Ok, Err}
 use Rattle.xid_circle.specs.Numbers.{SessionNo, Count}
 use Rattle.tuple_header.specs.declared.row_place.RowPlace.{RowPlace}
-use Rattle.tuple_header.specs.Places.{places_with}
 use Rattle.calls.specs.declared.step.Step.TheVariants as step
 use Rattle.calls.specs.declared.reply.Reply.{Reply}
 use Rattle.calls.specs.declared.reply.Refusal.{Refusal}
-use Rattle.session_steps.specs.NextRows.{rows_in, ExactNextRows}
+use Rattle.session_steps.specs.NextRows.{places_after, count_in, ExactNextRows}
 use Rattle.vacuum_engine.specs.State.{noted}
 use Rattle.waiting_engine.specs.Clauses.{WaitingFollows}
 use Rattle.sandpiper_c.specs.declared.database.Sandpiper.{Sandpiper}
@@ -22,13 +21,13 @@ status_of_answer (Ok zero) = status.End
 status_of_answer (Ok (suc n)) = status.Rows
 status_of_answer (Err r) = status.Refused r
 
--- how many rows an answer has
+-- how many rows or keys an answer has
 abbrev pub count_of : Result ℕ Refusal → ℕ
 count_of (Ok n) = n
 count_of (Err r) = 0
 
 -- The engine gave a reply that the history allows to a step that asks for as many rows as C has places, as its own contract says. Its
--- rows are in the first places, all others and the bytes behind each body are as they were, and the status is the reply's number.
+-- rows or keys are in the first places, all else in the places is as it was, and the status is the reply's number.
 -- By it the session's own wait ends.
 pub record HandsRows (old : Held) (s : SessionNo) (places : List RowPlace) (code : ℕ) (after : List RowPlace) (count : Count) (new : Held) : Type 0 where
   pub reply : Reply
@@ -38,8 +37,8 @@ pub record HandsRows (old : Held) (s : SessionNo) (places : List RowPlace) (code
   pub waits : new.engine.waits ≡ slice_set old.engine.waits s None
   pub same_reply : new.reply ≡ old.reply
   pub status : code ≡ number_of_status (status_of_reply reply)
-  pub rows : after ≡ places_with (rows_in reply) places
-  pub number : count ≡ length (rows_in reply)
+  pub written : after ≡ places_after reply places
+  pub number : count ≡ count_of (count_in reply)
 
 -- nothing is done, and no row is written
 pub record HandsNothing (old : Option Held) (places after : List RowPlace) (count : ℕ) (new : Option Held) : Type 0 where

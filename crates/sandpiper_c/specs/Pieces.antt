@@ -8,7 +8,6 @@ use Rattle.calls.specs.declared.step.Step.TheVariants as step
 use Rattle.calls.specs.declared.reply.Reply.{Reply}
 use Rattle.calls.specs.declared.reply.Reply.TheVariants as reply
 use Rattle.sandpiper_c.specs.declared.database.Sandpiper.{Sandpiper}
-use Rattle.sandpiper_c.specs.declared.held.Held.{Held}
 use Rattle.sandpiper_c.specs.declared.vacuum.SandpiperPiece.{SandpiperPiece}
 use Rattle.sandpiper_c.specs.Calls.{held_by, ShowsHeld}
 

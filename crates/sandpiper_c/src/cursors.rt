@@ -1,4 +1,4 @@
-//! Cursors, and the rows that they hand out.
+//! Cursors, and the rows or keys that they hand out.
 
 ghost use Rattle.std.specs.Prelude.{◌≡◌, pos};
 ghost use Rattle.calls.specs.declared.step.Step.TheVariants as step;
@@ -52,6 +52,21 @@ pub extern "C" fn sandpiper_open_index(
     do_step(alloc, table, step)
 }
 
+/// Opens a cursor over the keys alone, from one to another, both included, of the rows that the session reads.
+#[unsafe(no_mangle)]
+pub extern "C" fn sandpiper_open_keys(
+    alloc: Global,
+    table: &mut Sandpiper,
+    session: u8,
+    low: u64,
+    high: u64,
+) -> u32
+    ensures { Does table.old (step.OpenKeys session (pos low) (pos high)) result table.new }
+{
+    let step = Step::OpenKeys(session, low as i128, high as i128);
+    do_step(alloc, table, step)
+}
+
 /// What an answer is called.
 fn status_of_answer(answer: Result<usize, Refusal>) -> CallStatus
     ensures { result ≡ status_of_answer answer }
@@ -63,7 +78,7 @@ fn status_of_answer(answer: Result<usize, Refusal>) -> CallStatus
     }
 }
 
-/// How many rows an answer has.
+/// How many rows or keys an answer has.
 fn count_of(answer: Result<usize, Refusal>) -> usize
     ensures { result ≡ count_of answer }
 {
@@ -88,7 +103,7 @@ fn held_next(held: &mut Held, session: u8, rows: &mut [RowPlace], count: &mut us
 
 /// Writes the next rows of the session's cursor to the first places of C's own, and their number to `count`. A cursor by an index
 /// hands out as many as there are places, or all that are left; one over the heap those of the next page that has any, from where
-/// it is, up to so many.
+/// it is, up to so many. Of a cursor over keys the key of each place alone is written.
 #[unsafe(no_mangle)]
 pub extern "C" fn sandpiper_next(
     alloc: Global,

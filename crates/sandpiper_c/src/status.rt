@@ -21,7 +21,7 @@ pub enum CallStatus {
     Committed,
     /// The transaction was rolled back.
     RolledBack,
-    /// The cursor hands out rows.
+    /// The cursor hands out rows or keys, or the ticket has rows.
     Rows,
     /// The cursor has handed out all its rows.
     End,
@@ -35,8 +35,12 @@ pub enum CallStatus {
     NoEngine,
     /// The handle has an engine already.
     HasEngine,
-    /// There is no place for a row, or for a page.
+    /// There is no place for a row, for a page, or for all rows.
     NoPlace,
+    /// The ticket has no page.
+    NoTicket,
+    /// The ticket has a page already.
+    HasTicket,
     /// The setting `max_pages` is out of its range.
     BadMaxPages,
     /// The setting `stop_age` is.
@@ -93,7 +97,7 @@ impl CallStatus {
             Reply::Found(None) => CallStatus::NoRow,
             Reply::Committed => CallStatus::Committed,
             Reply::RolledBack => CallStatus::RolledBack,
-            Reply::Rows(_) => CallStatus::Rows,
+            Reply::Rows(_) | Reply::Keys(_) => CallStatus::Rows,
             Reply::End => CallStatus::End,
             Reply::Worked(_) => CallStatus::Worked,
             Reply::Ended(_) => CallStatus::Ended,
@@ -156,6 +160,8 @@ impl CallStatus {
             CallStatus::NoEngine => 48,
             CallStatus::HasEngine => 49,
             CallStatus::NoPlace => 50,
+            CallStatus::NoTicket => 51,
+            CallStatus::HasTicket => 52,
             CallStatus::BadMaxPages => 64,
             CallStatus::BadStopAge => 65,
             CallStatus::BadFreezeMinAge => 66,

@@ -16,8 +16,8 @@ use Rattle.calls.specs.declared.step.Step.TheVariants as step
 use Rattle.calls.specs.declared.vacuum.Mode.TheVariants as mode
 use Rattle.script_text.specs.declared.line.Line.{Line}
 use Rattle.script_text.specs.declared.line.Line.TheVariants.{Do, VacuumFinish, Ids, Page, Entries}
-use Rattle.script_text.specs.Grammar.{LineFits, Spells, KeyFits, RowFits, RangeFits, spelling, spaced, hex_text, body_text, row_text, key_words, row_words, range_words, plan_words}
-use Rattle.script_text.specs.Reading.{Verbs, usual_verbs, other_verbs, vacuum_line_of, line_in, line_at, cut, number_of, number_then, column_then, bound_of, bound_then, nibble_of, pair_and, pairs_of, body_of, row_words_of, key_words_of, count_words_of, page_words_of, range_words_of, plan_words_of}
+use Rattle.script_text.specs.Grammar.{LineFits, Spells, KeyFits, RowFits, RangeFits, BoundsFit, spelling, spaced, hex_text, body_text, row_text, key_words, row_words, range_words, bounds_words, plan_words}
+use Rattle.script_text.specs.Reading.{Verbs, usual_verbs, other_verbs, vacuum_line_of, line_in, line_at, cut, number_of, number_then, column_then, bound_of, bound_then, nibble_of, pair_and, pairs_of, body_of, row_words_of, key_words_of, count_words_of, page_words_of, range_words_of, bounds_words_of, plan_words_of}
 use Rattle.script_text.proofs.ByteLemmas.{Free, Free-append, free_text}
 use Rattle.script_text.proofs.NumberLaws.{guarded, bound, mapped, both_true, cut_says, cut-free, number_of_says, number_of-decimal, number_then_says, number_then-decimal, decimal_free}
 use Rattle.script_text.proofs.PlanLaws.{plan_words_of_says, plan_words_of-words, plan_words_free}
@@ -172,6 +172,21 @@ range_words_of_says xs p h =
       range_chain xs s.0.1 i.0.1 low.0.1 (decimal s.0.0) (decimal i.0.0) (signed_decimal low.0.0) (signed_decimal high.0) s_is.0 i_is.0 low_is.0 high_is.0,
     )
 
+bounds_chain : (xs r0 r1 ds sl sh : List ℕ) → xs ≡ ds ++ 32 ∷ r0 → r0 ≡ sl ++ 32 ∷ r1 → r1 ≡ sh → xs ≡ ds ++ 32 ∷ (sl ++ 32 ∷ sh)
+bounds_chain xs r0 r1 ds sl sh a b c = cc
+
+bounds_words_of_says : (xs : List ℕ) (p : ℕ × ℤ × ℤ) → bounds_words_of xs ≡ Some p → BoundsFit p.0 p.1 p.2 × (xs ≡ bounds_words p.0 p.1 p.2)
+unfolding bounds_words_of
+bounds_words_of_says xs p h =
+    let s = bound (number_then 255 xs) _ p h in
+    let low = bound (bound_then s.0.1) _ p s.2 in
+    let high = bound (bound_of low.0.1) _ p low.2 in
+    let s_is = number_then_says 255 xs s.0.0 s.0.1 (omega arith) s.1 in
+    let low_is = bound_then_says s.0.1 low.0.0 low.0.1 low.1 in
+    let high_is = bound_of_says low.0.1 high.0 high.1 in
+    rw (← same_Some _ p high.2)
+    ((omega (arith, s_is.1), low_is.1, high_is.1), bounds_chain xs s.0.1 low.0.1 (decimal s.0.0) (signed_decimal low.0.0) (signed_decimal high.0) s_is.0 low_is.0 high_is.0)
+
 pub row_chain : (xs r0 r1 r2 r3 r4 r5 ds dk s0 s1 s2 s3 sb : List ℕ) → xs ≡ ds ++ 32 ∷ r0 → r0 ≡ dk ++ 32 ∷ r1 → r1 ≡ s0 ++ 32 ∷ r2 → r2 ≡ s1 ++ 32 ∷ r3 → r3 ≡ s2 ++ 32 ∷ r4 → r4 ≡ s3 ++ 32 ∷ r5 → r5 ≡ sb
     → xs ≡ ds ++ 32 ∷ (dk ++ 32 ∷ (s0 ++ 32 ∷ (s1 ++ 32 ∷ (s2 ++ 32 ∷ (s3 ++ 32 ∷ sb)))))
 row_chain xs r0 r1 r2 r3 r4 r5 ds dk s0 s1 s2 s3 sb a b c d e f g = cc
@@ -248,6 +263,9 @@ next_spelled = words_verb (codes "next") count_words_of (λ p. Do (step.Next p.0
 openindex_spelled : IsSpelled (codes "openindex", λ rest. option_map (λ p. Do (step.OpenIndex p.0 p.1 p.2 p.3)) (range_words_of rest))
 openindex_spelled = words_verb (codes "openindex") range_words_of (λ p. Do (step.OpenIndex p.0 p.1 p.2 p.3)) (λ p. range_words p.0 p.1 p.2 p.3) range_words_of_says (λ p. refl)
 
+openkeys_spelled : IsSpelled (codes "openkeys", λ rest. option_map (λ p. Do (step.OpenKeys p.0 p.1 p.2)) (bounds_words_of rest))
+openkeys_spelled = words_verb (codes "openkeys") bounds_words_of (λ p. Do (step.OpenKeys p.0 p.1 p.2)) (λ p. bounds_words p.0 p.1 p.2) bounds_words_of_says (λ p. refl)
+
 takepage_spelled : IsSpelled (codes "takepage", λ rest. option_map (λ p. Do (step.TakePage p.0 p.1)) (page_words_of rest))
 takepage_spelled = words_verb (codes "takepage") page_words_of (λ p. Do (step.TakePage p.0 p.1)) (λ p. key_words p.0 p.1) page_words_of_says (λ p. refl)
 
@@ -292,7 +310,7 @@ usual_spelled : AllByRecursion IsSpelled usual_verbs
 usual_spelled = (get_spelled, (session_verb (codes "begin") (λ s. Do (step.Begin s)) (λ s h. h) (λ s. refl), (session_verb (codes "beginrc") (λ s. Do (step.BeginReadCommitted s)) (λ s h. h) (λ s. refl), (session_verb (codes "commit") (λ s. Do (step.Commit s)) (λ s h. h) (λ s. refl), (insert_spelled, (update_spelled, (delete_spelled, (next_spelled, (session_verb (codes "abort") (λ s. Do (step.Abort s)) (λ s h. h) (λ s. refl), tt)))))))))
 
 other_spelled : AllByRecursion IsSpelled other_verbs
-other_spelled = (session_verb (codes "savepoint") (λ s. Do (step.Savepoint s)) (λ s h. h) (λ s. refl), (session_verb (codes "rollbackto") (λ s. Do (step.RollbackTo s)) (λ s h. h) (λ s. refl), (session_verb (codes "release") (λ s. Do (step.Release s)) (λ s h. h) (λ s. refl), (openindex_spelled, (session_verb (codes "openheap") (λ s. Do (step.OpenHeap s)) (λ s h. h) (λ s. refl), (session_verb (codes "close") (λ s. Do (step.Close s)) (λ s h. h) (λ s. refl), (takepage_spelled, (prune_spelled, (apply_spelled, (vacuum_spelled, (createindex_spelled, (page_spelled, (entries_spelled, tt)))))))))))))
+other_spelled = (session_verb (codes "savepoint") (λ s. Do (step.Savepoint s)) (λ s h. h) (λ s. refl), (session_verb (codes "rollbackto") (λ s. Do (step.RollbackTo s)) (λ s h. h) (λ s. refl), (session_verb (codes "release") (λ s. Do (step.Release s)) (λ s h. h) (λ s. refl), (openindex_spelled, (session_verb (codes "openheap") (λ s. Do (step.OpenHeap s)) (λ s h. h) (λ s. refl), (openkeys_spelled, (session_verb (codes "close") (λ s. Do (step.Close s)) (λ s h. h) (λ s. refl), (takepage_spelled, (prune_spelled, (apply_spelled, (vacuum_spelled, (createindex_spelled, (page_spelled, (entries_spelled, tt))))))))))))))
 
 All-append : (xs ys : Verbs) → AllByRecursion IsSpelled xs → AllByRecursion IsSpelled ys → AllByRecursion IsSpelled (xs ++ ys)
 All-append [] ys h k = k
@@ -380,6 +398,14 @@ range_words_of-words s index low high h =
       bound_of-signed high h.3,
     ) refl
 
+bounds_words_of-words : (s : ℕ) (low high : ℤ) → BoundsFit s low high → bounds_words_of (bounds_words s low high) ≡ Some (s, low, high)
+unfolding bounds_words_of
+bounds_words_of-words s low high h = rw (
+  number_then-decimal 255 s (signed_decimal low ++ 32 ∷ signed_decimal high) (omega (arith, h.0)) (omega arith),
+  bound_then-signed low (signed_decimal high) h.1,
+  bound_of-signed high h.2,
+) refl
+
 ids_line : line_at (codes "ids") ≡ Some Ids
 unfolding line_at
 ids_line = refl
@@ -411,6 +437,8 @@ line_at-spelling (Do (step.OpenIndex s index low high)) h =
     with_verb (codes "openindex") (range_words s index low high) _ (free_text 32 (codes "openindex") refl) refl (ap (λ (o : Option (ℕ × ℕ × ℤ × ℤ)). option_map (λ p. Do (step.OpenIndex p.0 p.1 p.2 p.3)) o) (range_words_of-words s index low high h))
 line_at-spelling (Do (step.OpenHeap s)) h =
     with_verb (codes "openheap") (decimal s) _ (free_text 32 (codes "openheap") refl) refl (ap (λ (o : Option ℕ). option_map (λ s. Do (step.OpenHeap s)) o) (number_of-decimal 255 s (omega arith) (omega arith)))
+line_at-spelling (Do (step.OpenKeys s low high)) h =
+    with_verb (codes "openkeys") (bounds_words s low high) _ (free_text 32 (codes "openkeys") refl) refl (ap (λ (o : Option (ℕ × ℤ × ℤ)). option_map (λ p. Do (step.OpenKeys p.0 p.1 p.2)) o) (bounds_words_of-words s low high h))
 line_at-spelling (Do (step.Next s n)) h =
     with_verb (codes "next") (key_words s n) _ (free_text 32 (codes "next") refl) refl (ap (λ (o : Option (ℕ × ℕ)). option_map (λ p. Do (step.Next p.0 p.1)) o) (count_words_of-words s n h.0 h.1))
 line_at-spelling (Do (step.Close s)) h =
@@ -483,6 +511,13 @@ range_words_free s index low high h = (
   ),
 )
 
+bounds_words_free : (s : ℕ) (low high : ℤ) → BoundsFit s low high → Free 10 (spaced (bounds_words s low high))
+bounds_words_free s low high h = (
+  refl,
+  Free-append 10 (decimal s) (spaced (signed_decimal low ++ spaced (signed_decimal high))) (decimal_free 10 s (omega arith) (omega (arith, h.0)))
+      (refl, Free-append 10 (signed_decimal low) (spaced (signed_decimal high)) (bound_free 10 low (omega arith) h.1) (refl, bound_free 10 high (omega arith) h.2)),
+)
+
 row_words_free : (s : ℕ) (row : RowToWrite) → RowFits s row → Free 10 (spaced (row_words s row))
 row_words_free s row h =
     (refl, Free-append 10 (decimal s) (spaced (row_text row.key row.cols row.body)) (decimal_free 10 s (omega arith) (omega (arith, h.0))) (refl, row_free row h.1 h.3 h.4))
@@ -502,6 +537,7 @@ Free-spelling (Do (step.Commit s)) h = Free-append 10 (codes "commit") (spaced (
 Free-spelling (Do (step.Abort s)) h = Free-append 10 (codes "abort") (spaced (decimal s)) (free_text 10 (codes "abort") refl) (one_free s (omega arith))
 Free-spelling (Do (step.OpenIndex s index low high)) h = Free-append 10 (codes "openindex") (spaced (range_words s index low high)) (free_text 10 (codes "openindex") refl) (range_words_free s index low high h)
 Free-spelling (Do (step.OpenHeap s)) h = Free-append 10 (codes "openheap") (spaced (decimal s)) (free_text 10 (codes "openheap") refl) (one_free s (omega arith))
+Free-spelling (Do (step.OpenKeys s low high)) h = Free-append 10 (codes "openkeys") (spaced (bounds_words s low high)) (free_text 10 (codes "openkeys") refl) (bounds_words_free s low high h)
 Free-spelling (Do (step.Next s n)) h = Free-append 10 (codes "next") (spaced (key_words s n)) (free_text 10 (codes "next") refl) (key_words_free s n (h.0, omega (arith, h.1)))
 Free-spelling (Do (step.Close s)) h = Free-append 10 (codes "close") (spaced (decimal s)) (free_text 10 (codes "close") refl) (one_free s (omega arith))
 Free-spelling (Do (step.TakePage s p)) h = Free-append 10 (codes "takepage") (spaced (key_words s p)) (free_text 10 (codes "takepage") refl) (key_words_free s p (h.0, omega (arith, h.1)))

@@ -1,5 +1,5 @@
 -- A line of a script for threads is read just where it is spelled so.
-use Rattle.std.proofs.Common.{◌≡◌, ℕ, ◌+◌, ◌^◌, ◌<◌, ◌≤◌, List, [], ◌∷◌, ◌++◌, length, drop, get_or, refl, ap, append_assoc, ◌∙◌, sym, subst, arith, Option, None, Some, Bool, true, false, cond, eqb, codes, Result, Ok, Err, IfOk}
+use Rattle.std.proofs.Common.{◌≡◌, ℕ, ◌+◌, List, [], ◌∷◌, ◌++◌, drop, get_or, refl, ap, ◌∙◌, sym, arith, Option, None, Some, Bool, true, false, cond, eqb, codes, Result, Ok, Err, IfOk}
 use Rattle.std.specs.Str.{bytes_eq}
 use Rattle.std.specs.Fmt.{decimal}
 use Rattle.std.proofs.lemmas.Option.{none-some, same_Some}
@@ -8,7 +8,7 @@ use Rattle.calls.specs.declared.step.Step.{Step}
 use Rattle.script_text.specs.declared.line.Line.{Line}
 use Rattle.script_text.specs.declared.line.Line.TheVariants.{Do, VacuumFinish, Ids, Page, Entries}
 use Rattle.script_text.specs.declared.worker_step.WorkerStep.{WorkerStep}
-use Rattle.script_text.specs.Grammar.{LineFits, StepFits, step_text, spelling, spaced}
+use Rattle.script_text.specs.Grammar.{StepFits, step_text, spaced}
 use Rattle.script_text.specs.Reading.{cut, number_then, line_at}
 use Rattle.script_text.specs.Workers.{wait_text, worker_text, WorkerFits, SpellsWorker, waits_in, step_in, words_at, worker_at}
 use Rattle.script_text.proofs.ByteLemmas.{Free, Free-append, free_text}

@@ -56,6 +56,14 @@ found_text row = codes "row" ++ spaced (row_text row.key row.cols row.body.items
 abbrev pub row_lines : List Row → List ℕ
 row_lines rows = flat_map (λ row. 10 ∷ found_text row) rows
 
+-- a key's line
+abbrev pub key_text : ℕ → List ℕ
+key_text key = labelled (codes "key") key
+
+-- the lines of keys, in their order, each behind a line feed
+abbrev pub key_lines : List ℕ → List ℕ
+key_lines keys = flat_map (λ key. 10 ∷ key_text key) keys
+
 -- what a step of a vacuum did: the page that it visited, the index that it went through a piece of,
 -- or the page whose collected slots it freed
 abbrev pub piece_text : Piece → List ℕ
@@ -71,6 +79,7 @@ reply_text (reply.Found (Some row)) = found_text row
 reply_text reply.Committed = codes "committed"
 reply_text reply.RolledBack = codes "rolled back"
 reply_text (reply.Rows rows) = labelled (codes "rows") (length rows.items) ++ row_lines rows.items
+reply_text (reply.Keys keys) = labelled (codes "keys") (length keys.items) ++ key_lines keys.items
 reply_text reply.End = codes "end"
 reply_text (reply.Worked piece) = piece_text piece
 reply_text (reply.Ended first) = labelled (codes "ended") first

@@ -44,6 +44,10 @@ key_words s k = decimal s ++ spaced (decimal k)
 abbrev pub range_words : ℕ → ℕ → ℤ → ℤ → List ℕ
 range_words s index low high = decimal s ++ spaced (decimal index ++ spaced (signed_decimal low ++ spaced (signed_decimal high)))
 
+-- a session and two bounds
+abbrev pub bounds_words : ℕ → ℤ → ℤ → List ℕ
+bounds_words s low high = decimal s ++ spaced (signed_decimal low ++ spaced (signed_decimal high))
+
 -- a session and a row
 abbrev pub row_words : ℕ → RowToWrite → List ℕ
 row_words s row = decimal s ++ spaced (row_text row.key row.cols row.body)
@@ -105,6 +109,7 @@ step_text (step.Commit s) = codes "commit" ++ spaced (decimal s)
 step_text (step.Abort s) = codes "abort" ++ spaced (decimal s)
 step_text (step.OpenIndex s index low high) = codes "openindex" ++ spaced (range_words s index low high)
 step_text (step.OpenHeap s) = codes "openheap" ++ spaced (decimal s)
+step_text (step.OpenKeys s low high) = codes "openkeys" ++ spaced (bounds_words s low high)
 step_text (step.Next s n) = codes "next" ++ spaced (key_words s n)
 step_text (step.Close s) = codes "close" ++ spaced (decimal s)
 step_text (step.TakePage s p) = codes "takepage" ++ spaced (key_words s p)
@@ -136,6 +141,10 @@ RowFits s row = (s < 2 ^ 8) × (row.key < 2 ^ 64) × (length row.cols ≡ 4) × 
 abbrev pub RangeFits : ℕ → ℕ → ℤ → ℤ → Type 0
 RangeFits s index low high = (s < 2 ^ 8) × (index < 2 ^ 8) × FitsSigned w128 low × FitsSigned w128 high
 
+-- a session's number has 8 bits, and bounds have 128 with their signs
+abbrev pub BoundsFit : ℕ → ℤ → ℤ → Type 0
+BoundsFit s low high = (s < 2 ^ 8) × FitsSigned w128 low × FitsSigned w128 high
+
 -- a slot's number has 16 bits
 abbrev pub ActionFits : ℕ × Action → Type 0
 ActionFits (n, Redirect k) = (n < 2 ^ 16) × (k < 2 ^ 16)
@@ -160,6 +169,7 @@ StepFits (step.Commit s) = s < 2 ^ 8
 StepFits (step.Abort s) = s < 2 ^ 8
 StepFits (step.OpenIndex s index low high) = RangeFits s index low high
 StepFits (step.OpenHeap s) = s < 2 ^ 8
+StepFits (step.OpenKeys s low high) = BoundsFit s low high
 StepFits (step.Next s n) = (s < 2 ^ 8) × (n < 2 ^ 16)
 StepFits (step.Close s) = s < 2 ^ 8
 StepFits (step.TakePage s p) = (s < 2 ^ 8) × (p < 2 ^ 32)

@@ -132,6 +132,14 @@ range_words_of xs = do
   high ← bound_of low.1
   Some (s.0, index.0, low.0, high)
 
+-- a session and two bounds
+unfoldable pub bounds_words_of : List ℕ → Option (ℕ × ℤ × ℤ)
+bounds_words_of xs = do
+  s ← number_then 255 xs
+  low ← bound_then s.1
+  high ← bound_of low.1
+  Some (s.0, low.0, high)
+
 -- a slot, and that to which it is to lead
 unfoldable pub redirect_of : List ℕ → Option (ℕ × Action)
 redirect_of w = do
@@ -228,6 +236,7 @@ other_verbs =
     ∷ (codes "release", λ rest. option_map (λ s. Do (step.Release s)) (number_of 255 rest))
     ∷ (codes "openindex", λ rest. option_map (λ p. Do (step.OpenIndex p.0 p.1 p.2 p.3)) (range_words_of rest))
     ∷ (codes "openheap", λ rest. option_map (λ s. Do (step.OpenHeap s)) (number_of 255 rest))
+    ∷ (codes "openkeys", λ rest. option_map (λ p. Do (step.OpenKeys p.0 p.1 p.2)) (bounds_words_of rest))
     ∷ (codes "close", λ rest. option_map (λ s. Do (step.Close s)) (number_of 255 rest))
     ∷ (codes "takepage", λ rest. option_map (λ p. Do (step.TakePage p.0 p.1)) (page_words_of rest))
     ∷ (codes "prune", λ rest. option_map (λ p. Do (step.Prune p)) (number_of 4294967295 rest))

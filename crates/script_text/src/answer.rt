@@ -4,7 +4,7 @@ ghost use Rattle.std.specs.Prelude.{◌≡◌, ◌+◌, ◌<◌, ◌/◌, ◌%�
 ghost use Rattle.std.specs.List.{flat_map};
 ghost use Rattle.std.specs.Fmt.{decimal, signed_decimal, digit_glyph};
 ghost use Rattle.script_text.specs.Grammar.{spaced, hex_text, body_text, row_text, with_feed};
-ghost use Rattle.script_text.specs.Answers.{refusal_text, found_text, row_lines, piece_text, reply_text};
+ghost use Rattle.script_text.specs.Answers.{refusal_text, found_text, row_lines, key_text, key_lines, piece_text, reply_text};
 
 use crate::growth::{RefusedGrowth, extend, push};
 use crate::page::label;
@@ -102,6 +102,23 @@ fn rows(out: &mut Vec<u8>, rows: &[Row]) -> Result<(), RefusedGrowth>
     Ok(())
 }
 
+// A line feed, and then the line of a key.
+fn key_line(out: &mut Vec<u8>, key: u64) -> Result<(), RefusedGrowth>
+    ensures { OnOk result (out.new.items ≡ out.old.items ++ 10 ∷ key_text key) }
+{
+    push(out, b'\n')?;
+    label(out, b"key", key)
+}
+
+fn keys(out: &mut Vec<u8>, keys: &[u64]) -> Result<(), RefusedGrowth>
+    ensures { OnOk result (out.new.items ≡ out.old.items ++ key_lines keys.now) }
+{
+    for key in keys {
+        key_line(out, *key)?;
+    }
+    Ok(())
+}
+
 fn refusal(out: &mut Vec<u8>, refusal: Refusal) -> Result<(), RefusedGrowth>
     ensures { OnOk result (out.new.items ≡ out.old.items ++ refusal_text refusal) }
 {
@@ -160,6 +177,10 @@ fn text(out: &mut Vec<u8>, reply: &Reply) -> Result<(), RefusedGrowth>
         Reply::Rows(found) => {
             label(out, b"rows", found.len() as u64)?;
             rows(out, found.as_slice())
+        }
+        Reply::Keys(found) => {
+            label(out, b"keys", found.len() as u64)?;
+            keys(out, found.as_slice())
         }
         Reply::End => extend(out, b"end"),
         Reply::Worked(done) => piece(out, *done),

@@ -3,7 +3,7 @@
 ghost use Rattle.std.specs.Prelude.{◌≡◌, ◌++◌, IfOk};
 ghost use Rattle.std.specs.Option.{option_map};
 ghost use Rattle.script_text.specs.Grammar.{Spells};
-ghost use Rattle.script_text.specs.Reading.{number_of, row_words_of, key_words_of, count_words_of, page_words_of, range_words_of, plan_words_of, vacuum_line_of, line_in, usual_verbs, other_verbs, line_at as line_at_of};
+ghost use Rattle.script_text.specs.Reading.{number_of, row_words_of, key_words_of, count_words_of, page_words_of, range_words_of, bounds_words_of, plan_words_of, vacuum_line_of, line_in, usual_verbs, other_verbs, line_at as line_at_of};
 
 use crate::growth::RefusedGrowth;
 use crate::plan::plan;
@@ -105,6 +105,17 @@ fn range(text: &[u8]) -> Option<(u8, u8, i128, i128)>
     Some((s as u8, index as u8, low, high))
 }
 
+// A session and two bounds.
+#[tactic(auto, unfolding(crate::specs::Reading::bounds_words_of))]
+fn bounds(text: &[u8]) -> Option<(u8, i128, i128)>
+    ensures { option_map (λ p. (p.0, p.1, p.2)) result ≡ bounds_words_of text.now }
+{
+    let (s, rest) = number_then(text, 255)?;
+    let (low, rest) = bound_then(rest)?;
+    let high = bound(rest)?;
+    Some((s as u8, low, high))
+}
+
 // A page and a plan.
 #[tactic(auto, unfolding(crate::specs::Reading::plan_words_of))]
 fn page_and_plan(alloc: Global, text: &[u8]) -> Result<Option<(u32, PlanIn)>, RefusedGrowth>
@@ -167,6 +178,8 @@ fn other_line(alloc: Global, word: &[u8], rest: &[u8]) -> Result<Option<Line>, R
         Ok(range(rest).map(|(s, index, low, high)| Line::Do(Step::OpenIndex(s, index, low, high))))
     } else if word == b"openheap".as_slice() {
         Ok(number8(rest).map(|s| Line::Do(Step::OpenHeap(s))))
+    } else if word == b"openkeys".as_slice() {
+        Ok(bounds(rest).map(|(s, low, high)| Line::Do(Step::OpenKeys(s, low, high))))
     } else if word == b"close".as_slice() {
         Ok(number8(rest).map(|s| Line::Do(Step::Close(s))))
     } else if word == b"takepage".as_slice() {

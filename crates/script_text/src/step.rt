@@ -1,7 +1,7 @@
 //! The text of a step.
 
 ghost use Rattle.std.specs.Prelude.{◌≡◌, ◌++◌, codes, OnOk};
-ghost use Rattle.script_text.specs.Grammar.{spaced, step_text, key_words, plan_words, range_words, row_words, with_feed};
+ghost use Rattle.script_text.specs.Grammar.{spaced, step_text, key_words, plan_words, range_words, bounds_words, row_words, with_feed};
 ghost use Rattle.script_text.specs.Workers.{noted_text};
 
 use crate::answer::{body, columns};
@@ -46,6 +46,18 @@ fn range(out: &mut Vec<u8>, s: u8, index: u8, low: i128, high: i128) -> Result<(
     spaced_value(out, high)
 }
 
+// A session and two bounds of keys.
+#[tactic(auto, unfolding(crate::specs::Answers::labelled))]
+fn bounds(out: &mut Vec<u8>, s: u8, low: i128, high: i128) -> Result<(), RefusedGrowth>
+    ensures { OnOk result
+        (out.new.items
+        ≡ out.old.items ++ (codes "openkeys" ++ spaced (bounds_words s low high))) }
+{
+    label(out, b"openkeys", u64::from(s))?;
+    spaced_value(out, low)?;
+    spaced_value(out, high)
+}
+
 // A page and a plan.
 #[tactic(auto, unfolding(crate::specs::Answers::labelled))]
 fn plan(out: &mut Vec<u8>, page: u32, plan: &PlanIn) -> Result<(), RefusedGrowth>
@@ -75,6 +87,7 @@ fn text(out: &mut Vec<u8>, step: &Step) -> Result<(), RefusedGrowth>
         Step::Abort(s) => label(out, b"abort", u64::from(*s)),
         Step::OpenIndex(s, index, low, high) => range(out, *s, *index, *low, *high),
         Step::OpenHeap(s) => label(out, b"openheap", u64::from(*s)),
+        Step::OpenKeys(s, low, high) => bounds(out, *s, *low, *high),
         Step::Next(s, count) => key(out, b"next", *s, u64::from(*count)),
         Step::Close(s) => label(out, b"close", u64::from(*s)),
         Step::TakePage(s, page) => key(out, b"takepage", *s, u64::from(*page)),

@@ -1,5 +1,5 @@
 -- The next rows of a cursor, beside a vacuum that may be running.
-use Rattle.std.proofs.Common.{◌≡◌, ◌∙◌, ℕ, true, false, List, length, Option, Some, None, set, refl, sym, subst}
+use Rattle.std.proofs.Common.{◌≡◌, ◌∙◌, ℕ, true, List, length, Option, Some, None, set, refl, sym, subst}
 use Rattle.std.specs.Prelude.{Result}
 use Rattle.std.specs.Option.{option_map}
 use Rattle.tuple_header.specs.declared.row_place.RowPlace.{RowPlace}
@@ -8,6 +8,7 @@ use Rattle.calls.specs.declared.reply.Reply.{Reply}
 use Rattle.calls.specs.declared.reply.Reply.TheVariants as reply
 use Rattle.calls.specs.declared.reply.Refusal.{Refusal}
 use Rattle.calls.specs.declared.reply.Refusal.TheVariants as refusal
+use Rattle.table_scans.specs.declared.progress.CursorScan.TheVariants.{Rows, Keys}
 use Rattle.session_steps.specs.State as core
 use Rattle.session_steps.specs.State.{with_cursor}
 use Rattle.session_steps.specs.NextRows.{ExactNextRows, AnswersNextRows}
@@ -23,7 +24,8 @@ use Rattle.session_core.specs.NextRows.{EngineNextRows}
 
 -- the cursor of one session alone moves, or nothing changes
 next-change : (old new : core.State) (s n : ℕ) (reply : Reply) → ExactNextRows old s n reply new → Changes old new
-next-change old new s n (reply.Rows rows) e = Changes.becomes s e.1.session (with_cursor (Some e.1.after) e.1.session) e.1.there (KeepsOrTakes.keeps refl) e.1.is
+next-change old new s n (reply.Rows rows) e = Changes.becomes s e.1.session (with_cursor (Some (Rows e.1.after)) e.1.session) e.1.there (KeepsOrTakes.keeps refl) e.1.is
+next-change old new s n (reply.Keys keys) e = Changes.becomes s e.1.session (with_cursor (Some (Keys e.1.after)) e.1.session) e.1.there (KeepsOrTakes.keeps refl) e.1.is
 next-change old new s n reply.End e = Changes.nothing e
 next-change old new s n (reply.Refused refusal.NoMemory) e = absurd e
 next-change old new s n (reply.Refused refusal) e = Changes.nothing e

@@ -81,6 +81,7 @@ fn session_of(step: &Step) -> Option<u8>
         | Step::Abort(s)
         | Step::OpenIndex(s, _, _, _)
         | Step::OpenHeap(s)
+        | Step::OpenKeys(s, _, _)
         | Step::Next(s, _)
         | Step::Close(s)
         | Step::TakePage(s, _) => Some(*s),
@@ -186,7 +187,8 @@ impl Engine {
     /// Writes the next rows of the session's cursor to the first places, and answers how many there are: none exactly where nothing
     /// is left. It is answered as `Step::Next` of as many rows as there are places. But of the heap it hands out up to so many rows of
     /// the next page, and what that page has left over is handed out by the next call; and it takes no memory. Places behind the
-    /// rows, and the bytes behind each body, stay as they were. Refusals in order: NoSuchSession, NotOpen, Failed, NoCursor.
+    /// rows, and the bytes behind each body, stay as they were. Of a cursor over keys the key alone is written, and all else in its
+    /// place stays. Refusals in order: NoSuchSession, NotOpen, Failed, NoCursor.
     pub fn next_rows(&mut self, s: u8, places: &mut [RowPlace]) -> Result<usize, Refusal>
         requires { 0 < length places.old }
         ensures { EngineNextRows self.old s places.old result places.new self.new }
@@ -204,6 +206,14 @@ impl Engine {
             (λ refusal. BarsOpen (world_sessions w) s refusal) }
     {
         self.core.read(s, key)
+    }
+
+    /// Forgets where keys were put, and notes it from now on, or never. A new engine notes it, so that a get need not search the index;
+    /// it takes some 8 to 16 bytes of memory a row. No answer changes, and this is no step. It takes no memory.
+    pub fn keep_places(&mut self, are_wanted: bool)
+        ensures { self.new ≡ self.old }
+    {
+        self.core.keep_places(are_wanted)
     }
 
     /// The next id to be given, and the oldest that is remembered.

@@ -7,7 +7,8 @@ use Rattle.history.specs.World.{World}
 use Rattle.refinement.specs.Heap as relation
 use Rattle.refinement.specs.Visible.{ReaderSees}
 use Rattle.refinement.specs.Cursors.{Comes}
-use Rattle.table_scans.specs.declared.progress.Scan.{Scan}
+use Rattle.table_scans.specs.declared.progress.CursorScan.{CursorScan}
+use Rattle.table_scans.specs.declared.progress.CursorScan.TheVariants.{Rows, Keys}
 use Rattle.table_scans.specs.declared.progress.Scan.TheVariants.{Index, Heap}
 use Rattle.session_steps.specs.declared.session.Session.{Session}
 use Rattle.session_steps.specs.State.{State, session_at, seen, seen_position}
@@ -19,7 +20,7 @@ abbrev pub seen_by : State → Session → Version → Type 0
 seen_by st e = ReaderSees (state_of st.heap.statuses) (cursor_sight st e.isolation) e.own.ids
 
 -- the session is open in an engine that agrees with a world, and its cursor is here
-pub record IsAtCursor (st : State) (e : Session) (cursor : Scan) : Type 0 where
+pub record IsAtCursor (st : State) (e : Session) (cursor : CursorScan) : Type 0 where
   pub world : World
   pub agrees : Agrees st world
   pub number : ℕ
@@ -27,16 +28,17 @@ pub record IsAtCursor (st : State) (e : Session) (cursor : Scan) : Type 0 where
   pub opened : e.cursor ≡ Some cursor
 
 -- the row is seen, and still to come for a cursor that is here
-abbrev pub IsSeenToCome : State → Session → Scan → Row → Type 0
-IsSeenToCome st e (Index span) row = Comes (seen st).version (seen_by st e) (relation.in_index span.index span.low span.high (seen_position span.last)) row
-IsSeenToCome st e (Heap from) row = Comes (seen st).version (seen_by st e) (relation.in_heap from) row
+abbrev pub IsSeenToCome : State → Session → CursorScan → Row → Type 0
+IsSeenToCome st e (Rows (Index span)) row = Comes (seen st).version (seen_by st e) (relation.in_index span.index span.low span.high (seen_position span.last)) row
+IsSeenToCome st e (Rows (Heap from)) row = Comes (seen st).version (seen_by st e) (relation.in_heap from) row
+IsSeenToCome st e (Keys range) row = Comes (seen st).version (seen_by st e) (relation.in_keys range.low range.high (seen_position range.last)) row
 
 -- no row is
-abbrev pub NoneToCome : State → Session → Scan → Type 0
+abbrev pub NoneToCome : State → Session → CursorScan → Type 0
 NoneToCome st e cursor = (row : Row) → ¬ IsSeenToCome st e cursor row
 
 -- some row is
-abbrev pub SomeToCome : State → Session → Scan → Type 0
+abbrev pub SomeToCome : State → Session → CursorScan → Type 0
 SomeToCome st e cursor = (row : Row) × IsSeenToCome st e cursor row
 
 -- the first of some rows

@@ -29,7 +29,8 @@ use Rattle.session_steps.specs.declared.session.Session.{Session}
 use Rattle.session_steps.specs.declared.session.SessionIsolation.{SessionIsolation}
 use Rattle.session_steps.specs.declared.session.SessionIsolation.TheVariants.{BySnapshot, ByStatement}
 use Rattle.session_steps.specs.Exact.{HasCursor, OpensCursor}
-use Rattle.table_scans.specs.declared.progress.Scan.{Scan}
+use Rattle.table_scans.specs.declared.progress.CursorScan.{CursorScan}
+use Rattle.table_scans.specs.declared.progress.CursorScan.TheVariants.{Rows}
 use Rattle.table_scans.specs.declared.progress.Scan.TheVariants.{Index, Heap}
 use Rattle.index_lookup.specs.declared.index_scan.IndexRange.{IndexRange}
 use Rattle.session_steps.specs.State.{State, session_at, put_session, map_session, with_cursor, with_kept, keeping, kept_by, kept_xmin, holds_back, horizon_of, IsByStatement, is_too_new, isolation_seen, seen, position_of, reader_of, engine_sessions}
@@ -103,10 +104,10 @@ Follows-open_heap_no_memory st s e at sound bare =
 
 -- A session's cursor moves, and nothing else changes.
 
-keeps-cursor : (st : State) (e : Session) (cursor : Scan) → SessionKeeps st.heap.statuses e → SessionKeeps st.heap.statuses (with_cursor (Some cursor) e)
+keeps-cursor : (st : State) (e : Session) (cursor : CursorScan) → SessionKeeps st.heap.statuses e → SessionKeeps st.heap.statuses (with_cursor (Some cursor) e)
 keeps-cursor st e cursor h = record { snapshot = h.snapshot; for_cursor = λ by kept. refl; topmost = h.topmost; prefixes = h.prefixes; distinct = h.distinct }
 
-module _ (st st' : State) (s : ℕ) (e : Session) (cursor : Scan) (at : session_at st s ≡ Some e) (is : st' ≡ put_session st s (map_session (with_cursor (Some cursor)) (session_at st s))) where
+module _ (st st' : State) (s : ℕ) (e : Session) (cursor : CursorScan) (at : session_at st s ≡ Some e) (is : st' ≡ put_session st s (map_session (with_cursor (Some cursor)) (session_at st s))) where
   pub moved : st' ≡ put_session st s (Some (with_cursor (Some cursor) e))
   moved = is ∙ ap (λ o. put_session st s (map_session (with_cursor (Some cursor)) o)) at
 
@@ -119,11 +120,11 @@ module _ (st st' : State) (s : ℕ) (e : Session) (cursor : Scan) (at : session_
 
 -- A cursor is opened or closed: by statement the session keeps a snapshot for it, or none any more.
 
-abbrev pub with_both : Option Scan → Option Snap → Session → Session
+abbrev pub with_both : Option CursorScan → Option Snap → Session → Session
 with_both cursor kept e = with_kept kept (with_cursor cursor e)
 
 -- by statement it keeps one only where it has a cursor
-for-both : (i : SessionIsolation) (cursor : Option Scan) (kept : Option Snap) → (IsSome kept → IsSome cursor) → IsByStatement (keeping kept i) → IsSome (kept_by (keeping kept i)) → IsSome cursor
+for-both : (i : SessionIsolation) (cursor : Option CursorScan) (kept : Option Snap) → (IsSome kept → IsSome cursor) → IsByStatement (keeping kept i) → IsSome (kept_by (keeping kept i)) → IsSome cursor
 for-both (BySnapshot snap) cursor kept some by keeps = absurd by
 for-both (ByStatement old) cursor kept some by keeps = some keeps
 
@@ -132,7 +133,7 @@ still-by_snapshot : (i : SessionIsolation) (kept : Option Snap) (snap : Snap) �
 still-by_snapshot (BySnapshot own) kept snap is = is
 still-by_snapshot (ByStatement old) kept snap is = absurd (cc)
 
-module _ (st : State) (w : World) (s : ℕ) (e : Session) (cursor : Option Scan) (kept : Option Snap) (at : session_at st s ≡ Some e) (agrees : Agrees st w) (fresh : (snap : Snap) → kept ≡ Some snap → snap ≡ now_taken st) where
+module _ (st : State) (w : World) (s : ℕ) (e : Session) (cursor : Option CursorScan) (kept : Option Snap) (at : session_at st s ≡ Some e) (agrees : Agrees st w) (fresh : (snap : Snap) → kept ≡ Some snap → snap ≡ now_taken st) where
   keeps-both : (IsSome kept → IsSome cursor) → SessionKeeps st.heap.statuses (with_both cursor kept e)
   keeps-both some = let h = agrees.sound.sessions s e at in
       record {
@@ -180,14 +181,14 @@ module _ (st : State) (w : World) (s : ℕ) (e : Session) (cursor : Option Scan)
 
 -- what readers see of it
 
-put-both : (st st' : State) (s : ℕ) (e : Session) (cursor : Option Scan) (kept : Option Snap) → session_at st s ≡ Some e → HasCursor st st' s cursor kept → st' ≡ put_session st s (Some (with_both cursor kept e))
+pub put-both : (st st' : State) (s : ℕ) (e : Session) (cursor : Option CursorScan) (kept : Option Snap) → session_at st s ≡ Some e → HasCursor st st' s cursor kept → st' ≡ put_session st s (Some (with_both cursor kept e))
 put-both st st' s e cursor kept at is = is ∙ ap (λ o. put_session st s (map_session (with_both cursor kept) o)) at
 
-only-both : (st : State) (s : ℕ) (e : Session) (cursor : Option Scan) (kept : Option Snap) → session_at st s ≡ Some e
+pub only-both : (st : State) (s : ℕ) (e : Session) (cursor : Option CursorScan) (kept : Option Snap) → session_at st s ≡ Some e
     → OnlyIs (seen st).session (seen (put_session st s (Some (with_both cursor kept e)))).session s (Some (record (reader_of e) { isolation = isolation_seen (keeping kept e.isolation); cursor = position_of cursor }))
 only-both st s e cursor kept at = let only = only-set st s (Some (with_both cursor kept e)) (open-within st.sessions s e at) in record { others = only.others; itself = only.itself }
 
-opens-by : (st : State) (w : World) (i : SessionIsolation) → Agrees st w → cursors.OpensBy (seen st) (isolation_seen i) (isolation_seen (keeping (Some (now_taken st)) i))
+pub opens-by : (st : State) (w : World) (i : SessionIsolation) → Agrees st w → cursors.OpensBy (seen st) (isolation_seen i) (isolation_seen (keeping (Some (now_taken st)) i))
 opens-by st w (BySnapshot snap) agrees = refl
 opens-by st w (ByStatement old) agrees = (now_taken st, refl, taken-fresh st w agrees)
 
@@ -197,49 +198,49 @@ without-kept (ByStatement old) = refl
 
 -- the cursor that is opened goes along an index that the session may scan
 along-span : (st : State) (w : World) (s : ℕ) (e : Session) (span : IndexRange) → Agrees st w → session_at st s ≡ Some e → IsInUse st.heap.indexes span.index → is_too_new e span.index ≡ false
-    → GoesAlong st.heap.statuses st.heap.indexes (keeping (Some (now_taken st)) e.isolation) (Some (Index span))
+    → GoesAlong st.heap.statuses st.heap.indexes (keeping (Some (now_taken st)) e.isolation) (Some (Rows (Index span)))
 along-span st w s e span agrees at used may other is =
     let same : span ≡ other = cc in
     subst (λ (span : IndexRange). IsInUse st.heap.indexes span.index × ((snap : Snap) → kept_by (keeping (Some (now_taken st)) e.isolation) ≡ Some snap → MayScanSince st.heap.statuses (since_at st.heap.indexes span.index) snap)) same
     (used, opened-scans st w agrees span.index s e at may)
 
 -- what is taken now is kept
-taken-alone : (st : State) (snap : Snap) → Some (now_taken st) ≡ Some snap → snap ≡ now_taken st
+pub taken-alone : (st : State) (snap : Snap) → Some (now_taken st) ≡ Some snap → snap ≡ now_taken st
 taken-alone st snap is = sym (same_Some (now_taken st) snap is)
 
 -- what is kept is what the session keeps of the snapshot that is taken now
-pub opens-as : (st st' : State) (s : ℕ) (e : Session) (cursor : Scan) (kept : Option Snap) → session_at st s ≡ Some e → keeping kept e.isolation ≡ keeping (Some (now_taken st)) e.isolation
+pub opens-as : (st st' : State) (s : ℕ) (e : Session) (cursor : CursorScan) (kept : Option Snap) → session_at st s ≡ Some e → keeping kept e.isolation ≡ keeping (Some (now_taken st)) e.isolation
     → HasCursor st st' s (Some cursor) kept → OpensCursor st st' s cursor
 opens-as st st' s e cursor kept at same is =
     put-both st st' s e (Some cursor) kept at is ∙ ap (λ (i : SessionIsolation). put_session st s (Some (record e { isolation = i; cursor = Some cursor }))) same
     ∙ sym (ap (λ o. put_session st s (map_session (with_both (Some cursor) (Some (now_taken st))) o)) at)
 
 pub Follows-opened_index : (st st' : State) (s : ℕ) (e : Session) (span : IndexRange) → session_at st s ≡ Some e → e.failed ≡ false → e.cursor ≡ None → span.low ≤ℤ span.high → span.last ≡ None → IsInUse st.heap.indexes span.index → is_too_new e span.index ≡ false
-    → OpensCursor st st' s (Index span) → Follows st (step.OpenIndex s span.index span.low span.high) reply.Done st'
+    → OpensCursor st st' s (Rows (Index span)) → Follows st (step.OpenIndex s span.index span.low span.high) reply.Done st'
 Follows-opened_index st st' s e span at sound bare order none used may is w agrees =
-    let now = put_session st s (Some (with_both (Some (Index span)) (Some (now_taken st)) e)) in
-    let position : position_of (Some (Index span)) ≡ Some (relation.in_index span.index span.low span.high None) = rw none refl in
+    let now = put_session st s (Some (with_both (Some (Rows (Index span))) (Some (now_taken st)) e)) in
+    let position : position_of (Some (Rows (Index span))) ≡ Some (relation.in_index span.index span.low span.high None) = rw none refl in
     let isolation = isolation_seen (keeping (Some (now_taken st)) e.isolation) in
-    let only = subst (λ p. OnlyIs (seen st).session (seen now).session s (Some (record (reader_of e) { isolation = isolation; cursor = p }))) position (only-both st s e (Some (Index span)) (Some (now_taken st)) at) in
+    let only = subst (λ p. OnlyIs (seen st).session (seen now).session s (Some (record (reader_of e) { isolation = isolation; cursor = p }))) position (only-both st s e (Some (Rows (Index span))) (Some (now_taken st)) at) in
     let f = cursors.Follows-open_index (seen st) s (reader_of e) span.index span.low span.high isolation (seen now).session only (λ w' found. opens-by st w e.isolation agrees)
     (reader-is st s e at) sound (ap position_of bare) order w (may-scan st w s e span.index at agrees used may) agrees.found in
     subst (λ st'. Allows w (step.OpenIndex s span.index span.low span.high) reply.Done × Agrees st' (next w (step.OpenIndex s span.index span.low span.high) reply.Done) × KeepsAllTargets st st')
-    (sym (put-both st st' s e (Some (Index span)) (Some (now_taken st)) at is)) (
+    (sym (put-both st st' s e (Some (Rows (Index span))) (Some (now_taken st)) at is)) (
       f.0,
-      agree agrees (used-still st.heap.indexes) (marks-put st.sessions s e (with_both (Some (Index span)) (Some (now_taken st)) e) at refl) (unmade refl refl) f.1
-          (sound-both st w s e (Some (Index span)) (Some (now_taken st)) at agrees (taken-alone st) (λ some. refl) (along-span st w s e span agrees at used may)),
+      agree agrees (used-still st.heap.indexes) (marks-put st.sessions s e (with_both (Some (Rows (Index span))) (Some (now_taken st)) e) at refl) (unmade refl refl) f.1
+          (sound-both st w s e (Some (Rows (Index span))) (Some (now_taken st)) at agrees (taken-alone st) (λ some. refl) (along-span st w s e span agrees at used may)),
       led-same st w agrees,
     )
 
-pub Follows-opened_heap : (st st' : State) (s : ℕ) (e : Session) → session_at st s ≡ Some e → e.failed ≡ false → e.cursor ≡ None → OpensCursor st st' s (Heap heap_start) → Follows st (step.OpenHeap s) reply.Done st'
+pub Follows-opened_heap : (st st' : State) (s : ℕ) (e : Session) → session_at st s ≡ Some e → e.failed ≡ false → e.cursor ≡ None → OpensCursor st st' s (Rows (Heap heap_start)) → Follows st (step.OpenHeap s) reply.Done st'
 Follows-opened_heap st st' s e at sound bare is w agrees =
-    let now = put_session st s (Some (with_both (Some (Heap heap_start)) (Some (now_taken st)) e)) in
-    let f = cursors.Follows-open_heap (seen st) s (reader_of e) (isolation_seen (keeping (Some (now_taken st)) e.isolation)) (seen now).session (only-both st s e (Some (Heap heap_start)) (Some (now_taken st)) at)
+    let now = put_session st s (Some (with_both (Some (Rows (Heap heap_start))) (Some (now_taken st)) e)) in
+    let f = cursors.Follows-open_heap (seen st) s (reader_of e) (isolation_seen (keeping (Some (now_taken st)) e.isolation)) (seen now).session (only-both st s e (Some (Rows (Heap heap_start))) (Some (now_taken st)) at)
     (λ w' found. opens-by st w e.isolation agrees) (reader-is st s e at) sound (ap position_of bare) w agrees.found in
-    subst (λ st'. Allows w (step.OpenHeap s) reply.Done × Agrees st' (next w (step.OpenHeap s) reply.Done) × KeepsAllTargets st st') (sym (put-both st st' s e (Some (Heap heap_start)) (Some (now_taken st)) at is)) (
+    subst (λ st'. Allows w (step.OpenHeap s) reply.Done × Agrees st' (next w (step.OpenHeap s) reply.Done) × KeepsAllTargets st st') (sym (put-both st st' s e (Some (Rows (Heap heap_start))) (Some (now_taken st)) at is)) (
       f.0,
-      agree agrees (used-still st.heap.indexes) (marks-put st.sessions s e (with_both (Some (Heap heap_start)) (Some (now_taken st)) e) at refl) (unmade refl refl) f.1
-          (sound-both st w s e (Some (Heap heap_start)) (Some (now_taken st)) at agrees (taken-alone st) (λ some. refl) (λ span here. absurd (cc))),
+      agree agrees (used-still st.heap.indexes) (marks-put st.sessions s e (with_both (Some (Rows (Heap heap_start))) (Some (now_taken st)) e) at refl) (unmade refl refl) f.1
+          (sound-both st w s e (Some (Rows (Heap heap_start))) (Some (now_taken st)) at agrees (taken-alone st) (λ some. refl) (λ span here. absurd (cc))),
       led-same st w agrees,
     )
 

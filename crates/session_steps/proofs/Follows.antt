@@ -50,8 +50,9 @@ use Rattle.visibility.specs.Visible.{state_of}
 use Rattle.session_steps.specs.State.{State, session_at, put_session, seen, position_of, reader_of, isolation_seen, kept_by, IsByStatement, is_too_new, failed_session, holds_back, held_back, horizon_of, engine_sessions}
 use Rattle.session_steps.specs.Keeps.{open_at}
 use Rattle.sound_entries.specs.Since.{MayScanSince}
-use Rattle.session_steps.specs.Agrees.{Agrees, Sound, Follows, SessionKeeps, SessionScans, KeepsAllTargets}
-use Rattle.table_scans.specs.declared.progress.Scan.{Scan}
+use Rattle.session_steps.specs.Agrees.{Agrees, Sound, Follows, SessionKeeps, SessionScans, KeepsAllTargets, NotesHold, FollowsByNotes}
+use Rattle.table_scans.specs.declared.progress.CursorScan.{CursorScan}
+use Rattle.table_scans.specs.declared.progress.CursorScan.TheVariants.{Rows, Keys}
 use Rattle.table_scans.specs.declared.progress.Scan.TheVariants.{Index, Heap}
 use Rattle.session_steps.specs.Changes.{Opens, Closes}
 use Rattle.session_steps.specs.Tests.{BarsBegin}
@@ -96,10 +97,11 @@ no_making s (deletes k) = tt
 
 -- a cursor as readers see it
 
-pub some-position : (o : Option Scan) → IsSome o → IsSome (position_of o)
-some-position None some = absurd (let e : IsSome {T = Scan} None = some in cc)
-some-position (Some (Index span)) some = refl
-some-position (Some (Heap from)) some = refl
+pub some-position : (o : Option CursorScan) → IsSome o → IsSome (position_of o)
+some-position None some = absurd (let e : IsSome {T = CursorScan} None = some in cc)
+some-position (Some (Rows (Index span))) some = refl
+some-position (Some (Rows (Heap from))) some = refl
+some-position (Some (Keys range)) some = refl
 
 -- what bars a session bars it as readers see it
 alike : (st : State) (s : ℕ) → AreAlike (engine_sessions st) (seen_sessions (seen st)) s
@@ -348,3 +350,8 @@ Sound-fails st s e at sound =
     let h = sound.sessions s e at in
     subst (λ o. Sound (put_session st s (option_map failed_session o))) (sym at)
     (Sound-put st s e (failed_session e) at refl (record { snapshot = h.snapshot; for_cursor = h.for_cursor; topmost = h.topmost; prefixes = h.prefixes; distinct = h.distinct }) (scans-as st.heap.statuses st.heap.indexes e (failed_session e) refl refl refl (sound.scans s e at)) sound)
+
+-- where what is noted of the pages holds, a cursor too follows the history
+pub by-notes : (old : State) (step : Step) (r : Reply) (new : State) → FollowsByNotes old step r new → NotesHold old → Follows old step r new
+by-notes old (step.Next s n) r new follows hold = follows hold
+by-notes old _ r new follows hold = follows

@@ -15,6 +15,7 @@ use Rattle.index_lookup.specs.Pages.{slots_on}
 use Rattle.heap_write.specs.Heap.{slots_of}
 use Rattle.refinement.specs.Cursors.{IsFrom, Stands, Gathers}
 use Rattle.refinement.proofs.CursorWalks.{Gathers-none, Gathers-pass, Gathers-pass_slot, Gathers-one, Gathers-after}
+use Rattle.table_scans.specs.declared.progress.CursorScan.TheVariants.{Rows}
 use Rattle.table_scans.specs.declared.progress.Scan.TheVariants.{Heap}
 use Rattle.table_scans.specs.Scans.{Sight, SeesRow, SeesNone, start_of, NoneToPageEnd, ScansHeap, heap_begins, heap_passes, heap_finds, heap_turns}
 use Rattle.table_scans.specs.Takes.{IsAtEnd, TakesPage, TakesPart}
@@ -89,7 +90,7 @@ module _ (st : State) (e : Session) (window : IsWindow st.heap.statuses) (from :
   part-walk most rows to takes = Gathers-after (scans-gather st e window takes.comes.scans) (scans-gather st e window takes.scans)
 
   -- no page in use is left
-  pub none-on : IsAtEnd (session_sight st e) (Heap from) → NoneToCome st e (Heap from)
+  pub none-on : IsAtEnd (session_sight st e) (Heap from) → NoneToCome st e (Rows (Heap from))
   none-on (to, scans, all) row comes =
       let within = page-within st.heap.pages.pages comes.place.page comes.place.slot comes.version comes.here in
       elim ((scans-gather st e window scans).met comes.place row comes.to_come (record { version = comes.version; here = comes.here; shown = comes.shown; same_row = comes.same_row })) [
@@ -98,7 +99,7 @@ module _ (st : State) (e : Session) (window : IsWindow st.heap.statuses) (from :
       ]
 
   -- some row comes
-  pub some-on : (to : Tid) (rows : List Row) → ScansHeap (session_sight st e) from to rows → 0 < length rows → SomeToCome st e (Heap from)
+  pub some-on : (to : Tid) (rows : List Row) → ScansHeap (session_sight st e) from to rows → 0 < length rows → SomeToCome st e (Rows (Heap from))
   some-on to rows scans some =
       let first = first-row rows some in
       let met = (scans-gather st e window scans).theirs 0 first.0 first.1 in

@@ -19,7 +19,8 @@ use Rattle.refinement.specs.Agrees as relation
 use Rattle.refinement.proofs.Runs.{KeepsScans}
 use Rattle.session_steps.specs.declared.session.Session.{Session}
 use Rattle.session_steps.specs.declared.session.SessionIsolation.{SessionIsolation}
-use Rattle.table_scans.specs.declared.progress.Scan.{Scan}
+use Rattle.table_scans.specs.declared.progress.CursorScan.{CursorScan}
+use Rattle.table_scans.specs.declared.progress.CursorScan.TheVariants.{Rows}
 use Rattle.table_scans.specs.declared.progress.Scan.TheVariants.{Index}
 use Rattle.session_steps.specs.Keeps.{open_at}
 use Rattle.session_steps.specs.State.{State, horizon_of, seen, reader_of, kept_by, is_too_new}
@@ -106,16 +107,16 @@ there-used before st n index is at = subst (λ (st : State). IsInUse st.heap.ind
 -- What an open session may scan.
 
 -- a cursor of a session that reads so goes along an index in use, which it may scan by the snapshot that is kept
-abbrev pub GoesAlong : Window → IndexesView → SessionIsolation → Option Scan → Type 0
-GoesAlong w indexes isolation cursor = (span : IndexRange) → cursor ≡ Some (Index span)
+abbrev pub GoesAlong : Window → IndexesView → SessionIsolation → Option CursorScan → Type 0
+GoesAlong w indexes isolation cursor = (span : IndexRange) → cursor ≡ Some (Rows (Index span))
     → IsInUse indexes span.index × ((snap : Snap) → kept_by isolation ≡ Some snap → MayScanSince w (since_at indexes span.index) snap)
 
 -- so it is of each open session
 abbrev pub AllScan : Window → IndexesView → List (Option Session) → Type 0
 AllScan w indexes sessions = (s : ℕ) (e : Session) → open_at sessions s ≡ Some e → SessionScans w indexes e
 
-pub no-cursor : (w : Window) (indexes : IndexesView) (isolation : SessionIsolation) (cursor : Option Scan) → cursor ≡ None → GoesAlong w indexes isolation cursor
-no-cursor w indexes isolation cursor none span is = absurd (none-some (Index span) (sym none ∙ is))
+pub no-cursor : (w : Window) (indexes : IndexesView) (isolation : SessionIsolation) (cursor : Option CursorScan) → cursor ≡ None → GoesAlong w indexes isolation cursor
+no-cursor w indexes isolation cursor none span is = absurd (none-some (Rows (Index span)) (sym none ∙ is))
 
 -- where the oldest id stays, and the same indexes are in use, exact from the same ids on
 pub scans-still : (w v : Window) (xs ys : IndexesView) → v.first ≡ w.first → ((n : ℕ) → IsInUse xs n ↔ IsInUse ys n) → ((n : ℕ) → since_at ys n ≡ since_at xs n) → (e : Session) → SessionScans w xs e → SessionScans v ys e

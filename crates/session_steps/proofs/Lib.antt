@@ -19,12 +19,15 @@ pub mod Follows
 pub mod Savepoints
 pub mod Counting
 pub mod CursorSteps
+pub mod KeySteps
+pub mod KeyWalks
 pub mod Outcomes
 pub mod AtCursor
 pub mod Walks
 pub mod WalkSteps
 pub mod SessionReader
 pub mod HeapWalks
+pub mod KeyNext
 pub mod NextSteps
 pub mod NextRowsSteps
 pub mod Reading

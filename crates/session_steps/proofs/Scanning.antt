@@ -11,6 +11,7 @@ use Rattle.sound_entries.specs.Leading.{SeesNoExcused}
 use Rattle.table_indexes.specs.Indexes.{IsInUse, since_at}
 use Rattle.index_lookup.specs.declared.index_scan.IndexRange.{IndexRange}
 use Rattle.history.specs.World.{World}
+use Rattle.table_scans.specs.declared.progress.CursorScan.TheVariants.{Rows}
 use Rattle.table_scans.specs.declared.progress.Scan.TheVariants.{Index}
 use Rattle.session_steps.specs.declared.session.Session.{Session}
 use Rattle.session_steps.specs.declared.session.SessionIsolation.{SessionIsolation}
@@ -72,7 +73,7 @@ module _ (st : State) (w : World) (agrees : Agrees st w) (n : ℕ) where
         by (ByStatement old) is kept = subst (MayScanSince st.heap.statuses (since_at st.heap.indexes n)) (same_Some (now_taken st) snap kept) now-scans.may
 
 -- the cursor of an open session
-pub cursor-scans : (st : State) (w : World) (s : ℕ) (e : Session) (span : IndexRange) → Agrees st w → session_at st s ≡ Some e → e.cursor ≡ Some (Index span)
+pub cursor-scans : (st : State) (w : World) (s : ℕ) (e : Session) (span : IndexRange) → Agrees st w → session_at st s ≡ Some e → e.cursor ≡ Some (Rows (Index span))
     → ScansBy st.heap.statuses (since_at st.heap.indexes span.index) (cursor_snapshot st.heap.statuses e.isolation)
 cursor-scans st w s e span agrees at opened = by e.isolation refl
   where

@@ -2,7 +2,7 @@
 use Rattle.visibility.proofs.Makers.{active-to}
 use Rattle.session_steps.proofs.InUse.{by-key}
 use Rattle.table_indexes.specs.Indexes.{entries_in}
-use Rattle.std.proofs.Common.{◌≡◌, ℕ, Option, Some, None, refl, ap}
+use Rattle.std.proofs.Common.{◌≡◌, ℕ, Option, Some, None, refl, ap, inl, inr}
 use Rattle.std.specs.Prelude.{pos, Contains, Result, Ok, Err, MatchOption, MatchResult}
 use Rattle.tuple_header.specs.declared.version.Row.{Row}
 use Rattle.tuple_header.specs.Version.{Version}
@@ -12,7 +12,7 @@ use Rattle.commit_status.specs.Window.{Window, place, status_of}
 use Rattle.commit_status.specs.Window as window
 use Rattle.visibility.specs.Visible as visibility
 use Rattle.index_lookup.specs.Pages.{version_in}
-use Rattle.index_lookup.specs.Looking.{FirstFound}
+use Rattle.index_lookup.specs.ByPlace.{FoundOrSeen}
 use Rattle.sound_entries.proofs.OnHeap.{found-on_heap, place-on_heap, newer_commit-on_heap, other_writer-on_heap}
 use Rattle.heap_write.specs.Heap.{HeapView, slots_of, key_value}
 use Rattle.history.specs.World.{World}
@@ -64,9 +64,9 @@ place-to st w s e key (Some p) agrees at finds =
     let h = place-on_heap key_value None st.heap.statuses (horizon_of st) (slots_of st.heap) (entries_in st.heap.indexes 0) (statement_snapshot st.heap.statuses e.isolation) e.own.ids (by-key st agrees.sound) (own-active st w s e agrees at) (λ t none. absurd none) (pos key) key (Some p) finds in
     (h.0, record { there = h.1.there; of_key = h.1.of_key; seen = (statement-sees st agrees.sound.window e.isolation e.own.ids h.0).0 h.1.has })
 
--- the row of the key that the index leads the session to
+-- the row of a version of the key that the session sees, or what the index leads it to
 abbrev pub RowOf : State → Session → ℕ → Option Row → Type 0
-RowOf st e k found = FirstFound st.heap.statuses (visibility.IsVisible st.heap.statuses (statement_snapshot st.heap.statuses e.isolation) e.own.ids) (slots_of st.heap) (entries_in st.heap.indexes 0) (pos k) k found
+RowOf st e k found = FoundOrSeen st.heap.statuses (visibility.IsVisible st.heap.statuses (statement_snapshot st.heap.statuses e.isolation) e.own.ids) (slots_of st.heap) (entries_in st.heap.indexes 0) (pos k) k found
 
 pub row-to : (st : State) (w : World) (s : ℕ) (e : Session) (key : ℕ) (found : Option Row) → Agrees st w → session_at st s ≡ Some e
     → RowOf st e key found
@@ -74,9 +74,12 @@ pub row-to : (st : State) (w : World) (s : ℕ) (e : Session) (key : ℕ) (found
 row-to st w s e key None agrees at finds = λ p v there seen is.
     found-on_heap key_value None st.heap.statuses (horizon_of st) (slots_of st.heap) (entries_in st.heap.indexes 0) (statement_snapshot st.heap.statuses e.isolation) e.own.ids (by-key st agrees.sound) (own-active st w s e agrees at) (λ t none. absurd none) (pos key) key None finds p v
     (record { there = there; of_value = ap (λ n. pos n) is; of_key = is; has = (statement-sees st agrees.sound.window e.isolation e.own.ids v).1 seen })
-row-to st w s e key (Some row) agrees at finds =
-    let h = found-on_heap key_value None st.heap.statuses (horizon_of st) (slots_of st.heap) (entries_in st.heap.indexes 0) (statement_snapshot st.heap.statuses e.isolation) e.own.ids (by-key st agrees.sound) (own-active st w s e agrees at) (λ t none. absurd none) (pos key) key (Some row) finds in
-    (h.0, h.1, h.2.there, h.2.of_key, ((statement-sees st agrees.sound.window e.isolation e.own.ids h.1).0 h.2.has, h.3))
+row-to st w s e key (Some row) agrees at finds = elim finds [
+  | inl by_place ↦ (by_place.place, by_place.version, by_place.there, by_place.of_key, ((statement-sees st agrees.sound.window e.isolation e.own.ids by_place.version).0 by_place.is_seen, by_place.is_row))
+  | inr first ↦ (
+      let h = found-on_heap key_value None st.heap.statuses (horizon_of st) (slots_of st.heap) (entries_in st.heap.indexes 0) (statement_snapshot st.heap.statuses e.isolation) e.own.ids (by-key st agrees.sound) (own-active st w s e agrees at) (λ t none. absurd none) (pos key) key (Some row) first in
+      (h.0, h.1, h.2.there, h.2.of_key, ((statement-sees st agrees.sound.window e.isolation e.own.ids h.1).0 h.2.has, h.3)))
+]
 
 pub late-to : (st : State) (w : World) (e : Session) (key x : ℕ) → Agrees st w → IsLateBy st.heap e key x → IsLateFor (seen st) (reader_of e) key
 late-to st w e key x agrees late =

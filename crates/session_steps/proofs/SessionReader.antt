@@ -9,7 +9,8 @@ use Rattle.snapshot.specs.Own.{Own}
 use Rattle.visibility.specs.declared.reader.Reader.{Reader}
 use Rattle.visibility.specs.Reading.{IsSeenBy, IsNewerCommitFor, IsOtherWriterFor}
 use Rattle.visibility.specs.Visible.{IsVisible, IsNewerCommitIn, IsOtherWriterIn}
-use Rattle.index_lookup.specs.Looking.{FirstFound, FirstPlace, IsIdOf}
+use Rattle.index_lookup.specs.ByPlace.{FoundOrSeen}
+use Rattle.index_lookup.specs.Looking.{FirstPlace, IsIdOf}
 use Rattle.table_indexes.specs.Indexes.{entries_in}
 use Rattle.heap_write.specs.Heap.{HeapView, slots_of}
 use Rattle.table_scans.specs.Scans.{Sight, sight_of}
@@ -37,8 +38,8 @@ by_cursor st e = cursor_snapshot st.heap.statuses e.isolation
 
 -- a statement's reader
 module _ (parts st : State) (e : Session) (r : Reader) (same : parts ≡ st) (reads : ReadsBy st e (by_statement st e) r) where
-  pub row-read : (key : ℕ) (row : Option Row) → FirstFound r.statuses.now (IsSeenBy r) (slots_of parts.heap) (entries_in parts.heap.indexes 0) (pos key) key row → RowOf st e key row
-  row-read key row = read-as parts st e (by_statement st e) r same reads (λ h w s own. FirstFound w (IsVisible w s own.ids) (slots_of h) (entries_in h.indexes 0) (pos key) key row)
+  pub row-read : (key : ℕ) (row : Option Row) → FoundOrSeen r.statuses.now (IsSeenBy r) (slots_of parts.heap) (entries_in parts.heap.indexes 0) (pos key) key row → RowOf st e key row
+  row-read key row = read-as parts st e (by_statement st e) r same reads (λ h w s own. FoundOrSeen w (IsVisible w s own.ids) (slots_of h) (entries_in h.indexes 0) (pos key) key row)
 
   pub place-read : (key : ℕ) (place : Option Tid) → FirstPlace r.statuses.now (IsSeenBy r) (slots_of parts.heap) (entries_in parts.heap.indexes 0) (pos key) key place → FindsPlace st.heap e key place
   place-read key place = read-as parts st e (by_statement st e) r same reads (λ h w s own. FirstPlace w (IsVisible w s own.ids) (slots_of h) (entries_in h.indexes 0) (pos key) key place)

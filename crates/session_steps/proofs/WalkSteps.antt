@@ -10,6 +10,7 @@ use Rattle.refinement.specs.Heap.{in_index}
 use Rattle.refinement.specs.Cursors.{Comes, WalksOver}
 use Rattle.refinement.specs.Cursors as cursors
 use Rattle.refinement.proofs.CursorWalks.{Meets-one}
+use Rattle.table_scans.specs.declared.progress.CursorScan.TheVariants.{Rows}
 use Rattle.table_scans.specs.declared.progress.Scan.TheVariants.{Index}
 use Rattle.table_scans.specs.Scans.{NoneIsIn, range_after, ScansIndex, index_begins, index_goes_on}
 use Rattle.session_steps.specs.declared.session.Session.{Session}
@@ -23,10 +24,10 @@ use Rattle.session_steps.proofs.Walks.{IsNextFor, next-comes, next-position, nex
 -- the first rows of a span that the session sees there, and what is left of the span behind them
 pub record Walks (st : State) (e : Session) (span left : IndexRange) (rows : List Row) : Type 0 where
   pub same : left ≡ record span { last = left.last }
-  pub meets : IsAtCursor st e (Index span) → WalksOver (seen st).version (seen_by st e) span.index span.low span.high (seen_position span.last) (seen_position left.last) rows
+  pub meets : IsAtCursor st e (Rows (Index span)) → WalksOver (seen st).version (seen_by st e) span.index span.low span.high (seen_position span.last) (seen_position left.last) rows
 
 -- the cursor goes along an index in use, and sees nothing that this leaves out
-scanned-at : (st : State) (e : Session) (span : IndexRange) → IsAtCursor st e (Index span) → IsScanned st e span.index
+scanned-at : (st : State) (e : Session) (span : IndexRange) → IsAtCursor st e (Rows (Index span)) → IsScanned st e span.index
 scanned-at st e span at = record {
   used = ((at.agrees.sound.scans at.number e at.there).cursor span at.opened).0;
   unexcused = scans-unexcused st at.world at.agrees span.index (cursor_snapshot st.heap.statuses e.isolation) e.own.ids (cursor-scans st at.world at.number e span at.agrees at.there at.opened)
@@ -34,7 +35,7 @@ scanned-at st e span at = record {
 }
 
 -- so does what is left of its span
-scanned-left : (st : State) (e : Session) (span left : IndexRange) (rows : List Row) → Walks st e span left rows → IsAtCursor st e (Index span) → IsScanned st e left.index
+scanned-left : (st : State) (e : Session) (span left : IndexRange) (rows : List Row) → Walks st e span left rows → IsAtCursor st e (Rows (Index span)) → IsScanned st e left.index
 scanned-left st e span left rows h at = subst (IsScanned st e) (sym (ap (λ (sp : IndexRange). sp.index) h.same)) (scanned-at st e span at)
 
 -- what comes in what is left
@@ -53,7 +54,7 @@ left-in st e span left row same comes =
 
 module _ (st : State) (e : Session) (span left : IndexRange) (rows : List Row) (h : Walks st e span left rows) where
   -- the next row comes, and none comes before it
-  comes-next : (position : IndexPosition) (row : Row) → IsNextFor st e left position row → IsAtCursor st e (Index span)
+  comes-next : (position : IndexPosition) (row : Row) → IsNextFor st e left position row → IsAtCursor st e (Rows (Index span))
       → Comes (seen st).version (seen_by st e) (in_index span.index span.low span.high (seen_position left.last)) row
   comes-next position row next at =
       in-left st e span left row h.same (next-comes st at.world at.number e at.agrees at.there left (scanned-left st e span left rows h at) position row next)
@@ -73,7 +74,7 @@ module _ (st : State) (e : Session) (span left : IndexRange) (rows : List Row) (
   }
 
   -- nothing comes in what is left, where none is seen in it
-  pub none-left : NoneIsIn (session_sight st e) left → IsAtCursor st e (Index span) → (row : Row) → ¬ ComesIn st e left row
+  pub none-left : NoneIsIn (session_sight st e) left → IsAtCursor st e (Rows (Index span)) → (row : Row) → ¬ ComesIn st e left row
   none-left none at row comes = none-comes st at.world at.number e at.agrees at.there left (scanned-left st e span left rows h at) none row comes
 
 pub none-walks : (st : State) (e : Session) (span : IndexRange) → Walks st e span span []
@@ -92,9 +93,9 @@ scans-walk {st} {e} {span} index_begins = none-walks st e span
 scans-walk {st} {e} {span} (index_goes_on before rows position row scans next) = one-walks st e span before rows (scans-walk scans) position row next
 
 -- none comes in the whole span
-pub none-in : (st : State) (e : Session) (span : IndexRange) → NoneIsIn (session_sight st e) span → IsAtCursor st e (Index span) → NoneToCome st e (Index span)
+pub none-in : (st : State) (e : Session) (span : IndexRange) → NoneIsIn (session_sight st e) span → IsAtCursor st e (Rows (Index span)) → NoneToCome st e (Rows (Index span))
 none-in st e span none at row comes = none-left st e span span [] (none-walks st e span) none at row comes
 
 -- some row comes
-pub some-in : (st : State) (e : Session) (span left : IndexRange) (rows : List Row) → ScansIndex (session_sight st e) span left rows → 0 < length rows → IsAtCursor st e (Index span) → SomeToCome st e (Index span)
+pub some-in : (st : State) (e : Session) (span left : IndexRange) (rows : List Row) → ScansIndex (session_sight st e) span left rows → 0 < length rows → IsAtCursor st e (Rows (Index span)) → SomeToCome st e (Rows (Index span))
 some-in st e span left rows scans some at = let first = first-row rows some in (first.0, (((scans-walk scans).meets at).theirs 0 first.0 first.1).0)

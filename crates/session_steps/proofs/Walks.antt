@@ -52,14 +52,14 @@ entry-after index row e (Some m) value key after = elim after [
   | inr level ↦ inr (level.0 ∙ value, subst (λ k. m.key < k) key level.1)
 ]
 
-ahead-entry : (span : IndexRange) (row : Row) (e : Entry) → value_in span.index row ≡ e.value → row.key ≡ e.key → LiesIn span e → IsAhead span.index span.low span.high (seen_position span.last) row
+pub ahead-entry : (span : IndexRange) (row : Row) (e : Entry) → value_in span.index row ≡ e.value → row.key ≡ e.key → LiesIn span e → IsAhead span.index span.low span.high (seen_position span.last) row
 ahead-entry span row e value key lies = record {
   from = subst (λ v. span.low ≤ℤ v) (sym value) lies.from;
   to = subst (λ v. v ≤ℤ span.high) (sym value) lies.to;
   after = after-entry span.index row e span.last value key lies.after;
 }
 
-entry-ahead : (span : IndexRange) (row : Row) (e : Entry) → value_in span.index row ≡ e.value → row.key ≡ e.key → IsAhead span.index span.low span.high (seen_position span.last) row → LiesIn span e
+pub entry-ahead : (span : IndexRange) (row : Row) (e : Entry) → value_in span.index row ≡ e.value → row.key ≡ e.key → IsAhead span.index span.low span.high (seen_position span.last) row → LiesIn span e
 entry-ahead span row e value key ahead = record {
   from = subst (λ v. span.low ≤ℤ v) value ahead.from;
   to = subst (λ v. v ≤ℤ span.high) value ahead.to;
@@ -84,7 +84,7 @@ same-value : (x y : ℤ) → x ≤ℤ y → y ≤ℤ x → x ≡ y
 same-value x y a b = grind (arith, ints)
 
 -- a row whose entry does not come before the position, and that has another key than the row there, comes after that row
-comes-after : (index : ℕ) (row other : Row) (e : Entry) (m : IndexPosition) → value_in index row ≡ m.value → row.key ≡ m.key → value_in index other ≡ e.value → other.key ≡ e.key
+pub comes-after : (index : ℕ) (row other : Row) (e : Entry) (m : IndexPosition) → value_in index row ≡ m.value → row.key ≡ m.key → value_in index other ≡ e.value → other.key ≡ e.key
     → other.key ≢ row.key → ¬ walking.IsBeforePosition e m → ComesBefore index row other
 comes-after index row other e m value key value' key' ne isnt = by_lt_z m.value e.value
     (λ above. inl (subst (λ v. value_in index row <ℤ v) (sym value') (subst (λ v. v <ℤ e.value) (sym value) above)))
@@ -108,7 +108,7 @@ abbrev pub NoneIsLeft : State → Session → IndexRange → Type 0
 NoneIsLeft st e span = NoneLeft st.heap.statuses (visibility.IsVisible st.heap.statuses (cursor_snapshot st.heap.statuses e.isolation) e.own.ids) (slots_of st.heap) (entries_in st.heap.indexes span.index) span
 
 -- a version of the row is seen, and it has this value and key
-record SeesRow (st : State) (e : Session) (index : ℕ) (value : ℤ) (key : ℕ) (row : Row) : Type 0 where
+pub record SeesRow (st : State) (e : Session) (index : ℕ) (value : ℤ) (key : ℕ) (row : Row) : Type 0 where
   pub place : Tid
   pub version : Version
   pub here : At (seen st).version place version
@@ -118,7 +118,7 @@ record SeesRow (st : State) (e : Session) (index : ℕ) (value : ℤ) (key : ℕ
   pub of_key : row.key ≡ key
 
 -- an entry leads to the version
-record HasEntry (st : State) (index : ℕ) (row : Row) : Type 0 where
+pub record HasEntry (st : State) (index : ℕ) (row : Row) : Type 0 where
   pub entry : Entry
   pub there : Contains (entries_in st.heap.indexes index) entry
   pub value : value_in index row ≡ entry.value
@@ -151,7 +151,7 @@ module _ (st : State) (w : World) (s : ℕ) (e : Session) (agrees : Agrees st w)
         has = (cursor-sees st agrees.sound.window e.isolation e.own.ids shows.version).1 shows.shown;
       })
 
-  has-entry : (p : Tid) (v : Version) → At (seen st).version p v → seen_by st e v → HasEntry st index v.row
+  pub has-entry : (p : Tid) (v : Version) → At (seen st).version p v → seen_by st e v → HasEntry st index v.row
   has-entry p v here shown =
       let i = (visible-found (value_in index) (since_at st.heap.indexes index) st.heap.statuses (horizon_of st) (slots_of st.heap) (entries_in st.heap.indexes index) sound-in (cursor_snapshot st.heap.statuses e.isolation) e.own.ids (own-active st w s e agrees at) scans.unexcused (value_in index v.row) v.row.key p v).0
       (record { there = here; of_value = refl; of_key = refl; has = (cursor-sees st agrees.sound.window e.isolation e.own.ids v).1 shown }) in

@@ -7,6 +7,7 @@ use Rattle.snapshot.specs.Own.{ArePrefixes, AreDistinct}
 use Rattle.commit_status.specs.Window.{Window, IsWindow, IsCommitted, top_of}
 use Rattle.forgetting.specs.Truncating.{IsWellTopped}
 use Rattle.calls.specs.declared.step.Step.{Step}
+use Rattle.calls.specs.declared.step.Step.TheVariants as step
 use Rattle.calls.specs.declared.reply.Reply.{Reply}
 use Rattle.refinement.specs.Allowed.{Allows, next}
 use Rattle.refinement.specs.Agrees as relation
@@ -19,6 +20,10 @@ use Rattle.table_integrity.specs.Table.{SoundTable}
 use Rattle.session_steps.specs.declared.session.Session.{Session}
 use Rattle.session_steps.specs.declared.session.SessionIsolation.TheVariants.{BySnapshot}
 use Rattle.table_scans.specs.declared.progress.Scan.TheVariants.{Index}
+use Rattle.table_scans.specs.declared.progress.CursorScan.TheVariants.{Rows}
+use Rattle.page_slots.specs.View.{PageView}
+use Rattle.index_lookup.specs.Keys.{IsNotedVisible}
+use Rattle.freeze.specs.AllVisible.{IsAllVisible}
 use Rattle.session_steps.specs.State.{State, session_at, seen, IsByStatement, kept_by, is_too_new, horizon_of}
 use Rattle.calls.specs.declared.step.TheConstants.{MOST_SESSIONS}
 
@@ -39,7 +44,7 @@ pub record SessionScans (w : Window) (indexes : IndexesView) (e : Session) : Typ
   -- by the snapshot of its beginning it may scan each that is not too new for it
   pub by_snapshot : (n : ℕ) (snap : Snap) → e.isolation ≡ BySnapshot snap → is_too_new e n ≡ false → MayScanSince w (since_at indexes n) snap
   -- its cursor goes along one in use, which it may scan by the snapshot that it keeps
-  pub cursor : (span : IndexRange) → e.cursor ≡ Some (Index span) → IsInUse indexes span.index
+  pub cursor : (span : IndexRange) → e.cursor ≡ Some (Rows (Index span)) → IsInUse indexes span.index
       × ((snap : Snap) → kept_by e.isolation ≡ Some snap → MayScanSince w (since_at indexes span.index) snap)
 
 -- what the ids and the pages of an engine keep
@@ -78,3 +83,13 @@ KeepsAllTargets old new = (n : ℕ) → KeepsTargets (slots_of old.heap) (slots_
 -- entry leads to a slot that was given to another row
 abbrev pub Follows : State → Step → Reply → State → Type 0
 Follows old step reply new = (w : World) → Agrees old w → Allows w step reply × Agrees new (next w step reply) × KeepsAllTargets old new
+
+-- each page that is noted as all-visible is so
+abbrev pub NotesHold : State → Type 0
+NotesHold st = (n : ℕ) (page : PageView) → slice_get st.heap.pages.pages n ≡ Some page → IsNotedVisible st.heap.pages.marks n
+    → IsAllVisible st.heap.statuses (horizon_of st) page.slots
+
+-- So it is, for a cursor that may hand out keys alone, where what is noted of the pages holds; for every other step, whatever is noted.
+abbrev pub FollowsByNotes : State → Step → Reply → State → Type 0
+FollowsByNotes old (step.Next s n) reply new = NotesHold old → Follows old (step.Next s n) reply new
+FollowsByNotes old step reply new = Follows old step reply new

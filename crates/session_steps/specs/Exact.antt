@@ -23,12 +23,13 @@ use Rattle.calls.specs.Words.{PlanToApply, row_of}
 use Rattle.refinement.specs.Cursors.{heap_start}
 use Rattle.session_steps.specs.declared.session.Session.{Session}
 use Rattle.session_steps.specs.declared.session.SessionIsolation.TheVariants.{BySnapshot, ByStatement}
-use Rattle.table_scans.specs.declared.progress.Scan.{Scan}
+use Rattle.table_scans.specs.declared.progress.CursorScan.{CursorScan}
+use Rattle.table_scans.specs.declared.progress.CursorScan.TheVariants.{Rows, Keys}
 use Rattle.table_scans.specs.declared.progress.Scan.TheVariants.{Index, Heap}
 use Rattle.session_steps.specs.State.{State, session_at, engine_index, put_session, map_session, with_cursor, with_kept, IsByStatement, is_too_new, failed_session, owns_of, horizon_of}
-use Rattle.session_steps.specs.Agrees.{Follows}
+use Rattle.session_steps.specs.Agrees.{FollowsByNotes}
 use Rattle.session_steps.specs.Changes.{Opens, Closes, SetsSavepoint, Releases, SessionBecomes, RollsBack}
-use Rattle.session_steps.specs.Takes.{HandsOut}
+use Rattle.session_steps.specs.Takes.{HandsOut, HandsOutByKeys}
 use Rattle.session_steps.specs.Tests.{MayWriteKey}
 use Rattle.session_steps.specs.Tickets.{AreTicketRows, RefusesTicket}
 use Rattle.session_steps.specs.Writes.{TriesInsert, TriesUpdate, TriesDelete}
@@ -117,15 +118,15 @@ abbrev pub HasScanMark : State → (s number : ℕ) → Bool → Type 0
 HasScanMark st s number mark = (e : Session) × (session_at st s ≡ Some e) × (is_too_new e number ≡ mark)
 
 -- the session has this cursor now, or none, and nothing else changes
-abbrev pub MovesCursor : State → State → ℕ → Option Scan → Type 0
+abbrev pub MovesCursor : State → State → ℕ → Option CursorScan → Type 0
 MovesCursor old new s cursor = new ≡ put_session old s (map_session (with_cursor cursor) (session_at old s))
 
 -- it has this cursor now, or none, and by statement it keeps this snapshot, or none; nothing else changes
-abbrev pub HasCursor : State → State → ℕ → Option Scan → Option Snap → Type 0
+abbrev pub HasCursor : State → State → ℕ → Option CursorScan → Option Snap → Type 0
 HasCursor old new s cursor kept = new ≡ put_session old s (map_session (λ e. with_kept kept (with_cursor cursor e)) (session_at old s))
 
 -- a cursor is opened: by statement the session keeps the snapshot that is taken now
-abbrev pub OpensCursor : State → State → ℕ → Scan → Type 0
+abbrev pub OpensCursor : State → State → ℕ → CursorScan → Type 0
 OpensCursor old new s cursor = HasCursor old new s (Some cursor) (Some (snapshot_of old))
 
 -- Beside what the history says of a reply: a read and a refusal leave all as it was, but for a page that an update has pruned;
@@ -147,14 +148,17 @@ Exact old (step.Savepoint s) reply.Done new = SessionBecomes old new s SetsSavep
 Exact old (step.Savepoint s) (reply.Refused refusal.NoMemory) new = MustNote old s × (new ≡ old)
 Exact old (step.RollbackTo s) reply.Done new = RollsBack old new s
 Exact old (step.Release s) reply.Done new = SessionBecomes old new s Releases
-Exact old (step.OpenIndex s index low high) reply.Done new = OpensCursor old new s (Index (record { index = index; low = low; high = high; last = None }))
+Exact old (step.OpenIndex s index low high) reply.Done new = OpensCursor old new s (Rows (Index (record { index = index; low = low; high = high; last = None })))
 Exact old (step.OpenIndex s index low high) (reply.Refused refusal.NoSuchIndex) new = (engine_index old index ≡ None) × (new ≡ old)
 Exact old (step.OpenIndex s index low high) (reply.Refused refusal.IndexTooNew) new = IsSome (engine_index old index) × HasScanMark old s index true × (new ≡ old)
 Exact old (step.OpenIndex s index low high) (reply.Refused refusal.BadBounds) new = IsSome (engine_index old index) × HasScanMark old s index false × (new ≡ old)
 Exact old (step.OpenIndex s index low high) (reply.Refused refusal.NoMemory) new = MustKeep old s × (new ≡ old)
-Exact old (step.OpenHeap s) reply.Done new = OpensCursor old new s (Heap heap_start)
+Exact old (step.OpenHeap s) reply.Done new = OpensCursor old new s (Rows (Heap heap_start))
 Exact old (step.OpenHeap s) (reply.Refused refusal.NoMemory) new = MustKeep old s × (new ≡ old)
+Exact old (step.OpenKeys s low high) reply.Done new = OpensCursor old new s (Keys (record { low = low; high = high; last = None }))
+Exact old (step.OpenKeys s low high) (reply.Refused refusal.NoMemory) new = MustKeep old s × (new ≡ old)
 Exact old (step.Next s n) (reply.Rows rows) new = HandsOut old new s n rows.items
+Exact old (step.Next s n) (reply.Keys keys) new = HandsOutByKeys old new s n keys.items
 Exact old (step.Next s n) reply.End new = new ≡ old
 Exact old (step.Close s) reply.Done new = HasCursor old new s None None
 Exact old (step.TakePage s p) (reply.Rows rows) new = AreTicketRows old s p rows.items × (new ≡ old)
@@ -173,7 +177,8 @@ Exact old (step.ApplyPlan p plan) (reply.Refused refusal.NoMemory) new = ⊥
 Exact old step (reply.Refused refusal) new = new ≡ old
 Exact old step reply new = ⊥
 
--- The step is answered: whatever world the engine agreed with, the history allows the reply, and the rest is as above.
+-- The step is answered: whatever world the engine agreed with, the history allows the reply (of a cursor, where what is noted of the
+-- pages holds), and the rest is as above.
 pub record AnswersStep (old : State) (step : Step) (reply : Reply) (new : State) : Type 0 where
-  pub follows : Follows old step reply new
+  pub follows : FollowsByNotes old step reply new
   pub exact : Exact old step reply new

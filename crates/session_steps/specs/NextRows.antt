@@ -3,43 +3,48 @@ use Rattle.std.specs.Prelude.{◌≡◌, ℕ, ◌<◌, List, [], length, Result,
 use Rattle.tuple_header.specs.declared.row_place.RowPlace.{RowPlace}
 use Rattle.tuple_header.specs.declared.version.Row.{Row}
 use Rattle.tuple_header.specs.Places.{places_with}
+use Rattle.table_scans.specs.Keys.{places_with_keys}
 use Rattle.calls.specs.declared.step.Step.TheVariants as step
 use Rattle.calls.specs.declared.reply.Reply.{Reply}
 use Rattle.calls.specs.declared.reply.Reply.TheVariants as reply
 use Rattle.calls.specs.declared.reply.Refusal.{Refusal}
 use Rattle.calls.specs.declared.reply.Refusal.TheVariants as refusal
 use Rattle.session_steps.specs.State.{State}
-use Rattle.session_steps.specs.Agrees.{Follows}
-use Rattle.session_steps.specs.Takes.{HandsOutUpTo}
+use Rattle.session_steps.specs.Agrees.{FollowsByNotes}
+use Rattle.session_steps.specs.Takes.{HandsOutUpTo, HandsOutByKeys}
 
--- the rows of a reply
-abbrev pub rows_in : Reply → List Row
-rows_in (reply.Rows rows) = rows.items
-rows_in reply = []
+-- the places once the rows of a reply, or its keys, are written to the first of them
+abbrev pub places_after : Reply → List RowPlace → List RowPlace
+places_after (reply.Rows rows) places = places_with rows.items places
+places_after (reply.Keys keys) places = places_with_keys keys.items places
+places_after reply places = places
 
--- how many rows it has, none where nothing is left, or the refusal
+-- how many rows or keys it has, none where nothing is left, or the refusal
 abbrev pub count_in : Reply → Result ℕ Refusal
 count_in (reply.Rows rows) = Ok (length rows.items)
+count_in (reply.Keys keys) = Ok (length keys.items)
 count_in (reply.Refused refusal) = Err refusal
 count_in reply = Ok 0
 
--- the answer is that of the reply, and its rows are in the first places: all others are as they were
+-- the answer is that of the reply, and its rows or keys are in the first places: all others are as they were
 pub record WritesReply (reply : Reply) (places : List RowPlace) (answer : Result ℕ Refusal) (after : List RowPlace) : Type 0 where
   pub answers : answer ≡ count_in reply
-  pub rows : after ≡ places_with (rows_in reply) places
+  pub written : after ≡ places_after reply places
 
--- Beside what the history says of the reply: some rows are handed out, up to so many, and a cursor at its end and a refusal leave all as it
+-- Beside what the history says of the reply: some rows or keys are handed out, up to so many, and a cursor at its end and a refusal leave all as it
 -- was. No memory is asked for.
 abbrev pub ExactNextRows : State → ℕ → ℕ → Reply → State → Type 0
 ExactNextRows old s most (reply.Rows rows) new = (0 < length rows.items) × HandsOutUpTo old new s most rows.items
+ExactNextRows old s most (reply.Keys keys) new = (0 < length keys.items) × HandsOutByKeys old new s most keys.items
 ExactNextRows old s most reply.End new = new ≡ old
 ExactNextRows old s most (reply.Refused refusal.NoMemory) new = ⊥
 ExactNextRows old s most (reply.Refused refusal) new = new ≡ old
 ExactNextRows old s most reply new = ⊥
 
--- It is answered as a step that asks for as many rows as there are places, by a reply that the history allows.
+-- It is answered as a step that asks for as many rows as there are places, by a reply that the history allows where what is noted of the
+-- pages holds.
 pub record AnswersNextRows (old : State) (s : ℕ) (places : List RowPlace) (answer : Result ℕ Refusal) (after : List RowPlace) (new : State) : Type 0 where
   pub reply : Reply
   pub written : WritesReply reply places answer after
-  pub follows : Follows old (step.Next s (length places)) reply new
+  pub follows : FollowsByNotes old (step.Next s (length places)) reply new
   pub exact : ExactNextRows old s (length places) reply new

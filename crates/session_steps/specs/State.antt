@@ -23,7 +23,8 @@ use Rattle.session_steps.specs.declared.session.Session.{Session}
 use Rattle.session_steps.specs.declared.session.SessionIsolation.{SessionIsolation}
 use Rattle.session_steps.specs.declared.session.SessionIsolation.TheVariants.{BySnapshot, ByStatement}
 use Rattle.index_lookup.specs.declared.index_scan.IndexPosition.{IndexPosition}
-use Rattle.table_scans.specs.declared.progress.Scan.{Scan}
+use Rattle.table_scans.specs.declared.progress.CursorScan.{CursorScan}
+use Rattle.table_scans.specs.declared.progress.CursorScan.TheVariants.{Rows, Keys}
 use Rattle.table_scans.specs.declared.progress.Scan.TheVariants.{Index, Heap}
 
 pub record State : Type 0 where
@@ -35,7 +36,7 @@ abbrev pub session_at : State → ℕ → Option Session
 session_at st s = option_flatten (slice_get st.sessions s)
 
 -- the sessions, as far as what bars one from a step looks at them
-abbrev pub engine_sessions : State → SessionLooks Session Scan
+abbrev pub engine_sessions : State → SessionLooks Session CursorScan
 engine_sessions st = record { session = session_at st; failed = λ e. e.failed; cursor = λ e. e.cursor }
 
 -- the index of this number, if there is one
@@ -95,10 +96,11 @@ abbrev pub seen_position : Option IndexPosition → Option relation.RowPosition
 seen_position None = None
 seen_position (Some m) = Some (record { value = m.value; key = m.key })
 
-abbrev pub position_of : Option Scan → Option relation.Position
+abbrev pub position_of : Option CursorScan → Option relation.Position
 position_of None = None
-position_of (Some (Index span)) = Some (relation.in_index span.index span.low span.high (seen_position span.last))
-position_of (Some (Heap from)) = Some (relation.in_heap from)
+position_of (Some (Rows (Index span))) = Some (relation.in_index span.index span.low span.high (seen_position span.last))
+position_of (Some (Rows (Heap from))) = Some (relation.in_heap from)
+position_of (Some (Keys range)) = Some (relation.in_keys range.low range.high (seen_position range.last))
 
 abbrev pub reader_of : Session → relation.SeenSession
 reader_of e = record { isolation = isolation_seen e.isolation; own = e.own.ids; saved = e.own.saved; failed = e.failed; cursor = position_of e.cursor }
@@ -154,7 +156,7 @@ put_session st s e = record st { sessions = slice_set st.sessions s e }
 abbrev pub map_session : (Session → Session) → Option Session → Option Session
 map_session f o = option_map f o
 
-abbrev pub with_cursor : Option Scan → Session → Session
+abbrev pub with_cursor : Option CursorScan → Session → Session
 with_cursor cursor e = record e { cursor = cursor }
 
 abbrev pub with_kept : Option Snap → Session → Session

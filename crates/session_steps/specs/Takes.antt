@@ -1,13 +1,16 @@
--- What a session's cursor hands out.
-use Rattle.std.specs.Prelude.{◌≡◌, List, Some}
+-- What a session's cursor hands out: rows, or keys.
+use Rattle.std.specs.Prelude.{◌≡◌, ℕ, max, List, Some}
 use Rattle.xid_circle.specs.Numbers.{SessionNo, Count}
 use Rattle.tuple_header.specs.declared.version.Row.{Row}
 use Rattle.snapshot.specs.Snap.{Snap}
 use Rattle.visibility.specs.Visible.{IsVisible}
 use Rattle.visibility.specs.declared.reader.Reader.{Reader}
 use Rattle.table_scans.specs.declared.progress.Scan.{Scan}
+use Rattle.table_scans.specs.declared.progress.KeyRange.{KeyRange}
+use Rattle.table_scans.specs.declared.progress.CursorScan.TheVariants.{Rows, Keys}
 use Rattle.table_scans.specs.Scans.{Sight}
 use Rattle.table_scans.specs.Takes as scans
+use Rattle.table_scans.specs.Keys.{TakesKeys}
 use Rattle.session_steps.specs.declared.session.Session.{Session}
 use Rattle.session_steps.specs.State.{State, session_at, cursor_snapshot, put_session, with_cursor}
 
@@ -26,10 +29,10 @@ pub record HandsOutBy (by : Sight → Scan → Count → List Row → Scan → T
   pub session : Session
   pub there : session_at old s ≡ Some session
   pub before : Scan
-  pub at : session.cursor ≡ Some before
+  pub at : session.cursor ≡ Some (Rows before)
   pub after : Scan
   pub takes : by (session_sight old session) before n rows after
-  pub is : new ≡ put_session old s (Some (with_cursor (Some after) session))
+  pub is : new ≡ put_session old s (Some (with_cursor (Some (Rows after)) session))
 
 -- n rows were asked for
 abbrev pub HandsOut : State → State → SessionNo → Count → List Row → Type 0
@@ -38,3 +41,13 @@ HandsOut old new s n rows = HandsOutBy scans.Takes old new s n rows
 -- there was place for so many
 abbrev pub HandsOutUpTo : State → State → SessionNo → Count → List Row → Type 0
 HandsOutUpTo old new s most rows = HandsOutBy scans.TakesUpTo old new s most rows
+
+-- the session has handed out these keys, of n that were asked for: its cursor over keys alone moves, behind them
+pub record HandsOutByKeys (old new : State) (s : SessionNo) (n : Count) (keys : List ℕ) : Type 0 where
+  pub session : Session
+  pub there : session_at old s ≡ Some session
+  pub before : KeyRange
+  pub at : session.cursor ≡ Some (Keys before)
+  pub after : KeyRange
+  pub takes : TakesKeys (session_sight old session) before after (max 1 n) keys
+  pub is : new ≡ put_session old s (Some (with_cursor (Some (Keys after)) session))

@@ -1,35 +1,17 @@
 //! What every write of a session asks first, and what it answers.
 
-ghost use Rattle.std.specs.Prelude.{◌≡◌, ◌≢◌, ◌<◌, ◌≤◌, ℕ, length, MatchOption, MatchResult, OnOk, IfErr, Some, None, Contains, Err};
-ghost use Rattle.calls.specs.Words.{FitsRow, row_of};
+ghost use Rattle.std.specs.Prelude.{◌≡◌, ◌≢◌, ◌≤◌, ℕ, length, MatchOption, MatchResult, Some, None, Contains, Err};
 ghost use Rattle.session_steps.specs.Keeps.{open_at};
-ghost use Rattle.session_steps.specs.Tests.{MayAct};
 ghost use Rattle.session_steps.specs.State.{refused_state, with_failed};
-ghost use Rattle.session_steps.specs.Tests.{FindsPlace, IsUncontested, ConflictsWrite, MayWriteKey, RefusesInsertOfKey, RefusesChangeOfKey};
+ghost use Rattle.session_steps.specs.Tests.{MayAct, FindsPlace, IsUncontested, ConflictsWrite, MayWriteKey, RefusesInsertOfKey, RefusesChangeOfKey};
 ghost use Rattle.calls.specs.declared.step.TheConstants.{MOST_SESSIONS};
 
 use crate::engine::SessionEngine;
 use crate::outcome::Ack;
 use crate::session::Session;
-use calls::{Refusal, Row, RowIn};
+use calls::Refusal;
 use root_index::PositionHint;
-use tuple_header::MOST_BODY;
 use xid_circle::{Tid, Xid};
-
-/// Writes the row of the table in the place of another, unless the body has more than 1024 bytes. Refusals: TooLarge.
-pub(crate) fn fill_row(place: &mut Row, row: &RowIn) -> Result<(), Refusal>
-    ensures filled { OnOk result (FitsRow row.now × (place.new ≡ row_of row.now)) }
-    ensures fault { IfErr result
-        (λ refusal. (refusal ≡ Refusal.TooLarge) × (MOST_BODY < length row.now.body)) }
-{
-    place.key = row.key;
-    place.cols = row.cols;
-    place.body.clear();
-    match place.body.try_extend_from_slice(row.body.as_slice()) {
-        Ok(()) => Ok(()),
-        Err(_) => Err(Refusal::TooLarge),
-    }
-}
 
 /// The session that has the id.
 fn owner(sessions: &[Option<Session>], x: Xid) -> Option<u8>

@@ -12,11 +12,11 @@ use crate::session::{Session, SessionIsolation};
 use calls::Refusal;
 use heap_write::IndexRange;
 use snapshot::Snapshot;
-use table_scans::{Scan, start_of};
+use table_scans::{CursorScan, KeyRange, Scan, start_of};
 
 impl SessionEngine {
     /// Puts another cursor, or none, in the place of that of an open session, which goes on to keep what it keeps.
-    pub(crate) fn move_cursor(&mut self, s: u8, cursor: Option<Scan>)
+    pub(crate) fn move_cursor(&mut self, s: u8, cursor: Option<CursorScan>)
         requires { session_at self.old s ≢ None }
         ensures { MovesCursor self.old self.new s cursor }
     {
@@ -24,7 +24,7 @@ impl SessionEngine {
     }
 
     /// Gives an open session this cursor, or none. By statement it keeps this snapshot from now on, or none.
-    fn put_cursor(&mut self, s: u8, cursor: Option<Scan>, kept: Option<Snapshot>)
+    fn put_cursor(&mut self, s: u8, cursor: Option<CursorScan>, kept: Option<Snapshot>)
         requires { session_at self.old s ≢ None }
         ensures { HasCursor self.old self.new s cursor kept }
     {
@@ -81,7 +81,7 @@ impl SessionEngine {
             high,
             last: None,
         };
-        self.put_cursor(s, Some(Scan::Index(span)), kept);
+        self.put_cursor(s, Some(CursorScan::Rows(Scan::Index(span))), kept);
         Ok(Ack::Done)
     }
 
@@ -92,7 +92,22 @@ impl SessionEngine {
     {
         let session = self.free(s)?;
         let kept = self.snapshot_to_keep(session)?;
-        self.put_cursor(s, Some(Scan::Heap(start_of(0))), kept);
+        self.put_cursor(s, Some(CursorScan::Rows(Scan::Heap(start_of(0)))), kept);
+        Ok(Ack::Done)
+    }
+
+    /// Opens a cursor over the keys, from one to another, of the rows that the session reads. Refusals in order: NoSuchSession, NotOpen,
+    /// Failed, CursorOpen, BadBounds; and NoMemory, which comes only by statement, where the snapshot that is kept lists more than 8 ids.
+    pub(crate) fn open_keys(&mut self, s: u8, low: i128, high: i128) -> Result<Ack, Refusal>
+        ensures { AnswersStep self.old (Step.OpenKeys s low high) (reply_to result) self.new }
+    {
+        let session = self.free(s)?;
+        if low > high {
+            return Err(Refusal::BadBounds);
+        }
+        let kept = self.snapshot_to_keep(session)?;
+        let range = KeyRange::new(low, high);
+        self.put_cursor(s, Some(CursorScan::Keys(range)), kept);
         Ok(Ack::Done)
     }
 

@@ -1,12 +1,12 @@
 //! The engine and its sessions.
 
-ghost use Rattle.std.specs.Prelude.{◌≡◌, ◌≢◌, ◌<◌, slice_get, option_copied, IfOk, IfErr, OnOk, MatchResult, Some, None, false};
+ghost use Rattle.std.specs.Prelude.{◌≡◌, ◌≢◌, ◌<◌, length, slice_get, option_copied, IfOk, IfErr, OnOk, MatchResult, Some, None, false};
 ghost use Rattle.std.specs.Option.{option_map};
 ghost use Rattle.calls.specs.Words.{AreSettings, FirstFault};
 ghost use Rattle.calls.specs.Bars.{BarsOpen, BarsReady, BarsFree, BarsWithCursor};
 ghost use Rattle.commit_status.specs.Window.{next_id};
 ghost use Rattle.space_maps.specs.View.{mark_on};
-ghost use Rattle.session_steps.specs.State.{session_at, engine_index, bits_of, engine_sessions};
+ghost use Rattle.session_steps.specs.State.{session_at, engine_index, bits_of, open_bits, engine_sessions};
 ghost use Rattle.session_steps.specs.Changes.{Opens, Closes};
 ghost use Rattle.session_steps.specs.Tests.{MayAct};
 ghost use Rattle.session_steps.specs.New.{IsNew};
@@ -23,7 +23,7 @@ use snapshot::OwnIds;
 use space_maps::Mark;
 use std::alloc::Global;
 use std::marker::Model;
-use table_scans::Scan;
+use table_scans::CursorScan;
 use xid_circle::Xid;
 
 /// A table with its sessions, of which there may be 64 open at a time.
@@ -164,7 +164,7 @@ impl SessionEngine {
     }
 
     /// The session and its cursor, if it is open, has not failed and has one.
-    pub(crate) fn with_cursor(&self, s: u8) -> Result<(&Session, Scan), Refusal>
+    pub(crate) fn with_cursor(&self, s: u8) -> Result<(&Session, CursorScan), Refusal>
         ensures { MatchResult result
             (λ found. (s < MOST_SESSIONS) × (session_at self.now s ≡ Some found.0.now)
             × (found.0.now.failed ≡ false) × (found.0.now.cursor ≡ Some found.1))
@@ -202,5 +202,26 @@ impl SessionEngine {
         if let Some(session) = &session {
             self.heap.finish(session.own.as_slice(), status);
         }
+    }
+
+    /// How many pages are in use.
+    pub fn pages(&self) -> u32
+        ensures { result ≡ length self.now.heap.pages.pages }
+    {
+        self.heap.page_count()
+    }
+
+    /// Which sessions are open: a bit for each, the lowest for session 0.
+    pub fn open_sessions(&self) -> u64
+        ensures { result ≡ open_bits self.now.sessions }
+    {
+        let mut bits = 0u64;
+        for passed in 0..64u8 {
+            bits = match self.sessions.place(63 - passed) {
+                Some(_) => 2 * bits + 1,
+                None => 2 * bits,
+            };
+        }
+        bits
     }
 }

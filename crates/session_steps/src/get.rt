@@ -27,7 +27,7 @@ impl SessionEngine {
         match self.ready(s) {
             Ok(session) => {
                 let mut place = None;
-                Ok(self.heap.row(key, &self.reader(session, &mut place)))
+                Ok(self.heap.find_row(key, &self.reader(session, &mut place)))
             }
             Err(refusal) => Err(refusal),
         }
@@ -42,6 +42,13 @@ impl SessionEngine {
             Ok(found) => put_found(found, reply),
             Err(refusal) => *reply = Reply::Refused(refusal),
         }
+    }
+
+    /// Forgets where keys were put, and notes it from now on, or never, as [`heap_write::HeapState::keep_places`] does.
+    pub fn keep_places(&mut self, are_wanted: bool)
+        ensures { self.new ≡ self.old }
+    {
+        self.heap.keep_places(are_wanted)
     }
 
     /// All rows of the page that the session reads, in the order of their slots. Refusals in order: NoSuchSession, NotOpen, Failed,

@@ -13,7 +13,6 @@
 mod begin;
 mod checks;
 mod commit;
-mod counts;
 mod cursors;
 mod delete;
 mod engine;

@@ -1,9 +1,10 @@
-//! A session asks its cursor for rows, in a list or in places of the caller's.
+//! A session asks its cursor for rows, or for keys, in a list or in places of the caller's.
 
 ghost use Rattle.std.specs.Prelude.{◌<◌, ◌^◌, length, IfOk, OnErr};
 ghost use Rattle.calls.specs.declared.step.Step.{Step};
 ghost use Rattle.table_scans.specs.Takes.{MeetsSome, TakesNext};
-ghost use Rattle.table_scans.specs.Puts.{PutsNext};
+ghost use Rattle.table_scans.specs.Puts.{PutsOfCursor};
+ghost use Rattle.table_scans.specs.Keys.{MeetsSomeKey, TakesNextKeys};
 ghost use Rattle.session_steps.specs.Exact.{AnswersStep};
 ghost use Rattle.session_steps.specs.NextRows.{AnswersNextRows};
 ghost use Rattle.session_steps.specs.Takes.{session_sight};
@@ -12,7 +13,7 @@ use crate::engine::SessionEngine;
 use crate::session::Session;
 use calls::{Refusal, Reply, Row};
 use std::alloc::AllocError;
-use table_scans::{Scan, put_next, take_next};
+use table_scans::{CursorScan, KeyRange, Scan, put_next, take_keys, take_next};
 use tuple_header::RowPlace;
 
 /// That there are no more places than rows fit into a list. It does nothing; its contract is the fact.
@@ -24,9 +25,10 @@ fn fact_few(places: &[RowPlace])
 
 impl SessionEngine {
     /// Hands out rows of the session's cursor: of an index the next `n` in its order, where 0 counts as 1, or all that are
-    /// left; of the heap all of the next page on which the session sees any, from where the cursor is, by their slots. The
-    /// answer is End exactly where none is left, and leaves the cursor open. Refusals in order: NoSuchSession, NotOpen,
-    /// Failed, NoCursor, and NoMemory, which comes only where there is a row to hand out, and leaves the cursor where it was.
+    /// left; of the heap all of the next page on which the session sees any, from where the cursor is, by their slots. A cursor over
+    /// keys hands out keys, as one of the index by key hands out rows. The answer is End exactly where none is left, and leaves the
+    /// cursor open. Refusals in order: NoSuchSession, NotOpen, Failed, NoCursor, and NoMemory, which comes only where there is a row or a
+    /// key to hand out, and leaves the cursor where it was.
     pub(crate) fn next(&mut self, s: u8, n: u16) -> Reply
         ensures { AnswersStep self.old (Step.Next s n) result self.new }
     {
@@ -34,13 +36,23 @@ impl SessionEngine {
             Ok(found) => found,
             Err(refusal) => return Reply::Refused(refusal),
         };
-        match self.take(session, cursor, n) {
-            Ok(Some((rows, after))) => {
-                self.move_cursor(s, Some(after));
-                Reply::Rows(rows)
-            }
-            Ok(None) => Reply::End,
-            Err(_) => Reply::Refused(Refusal::NoMemory),
+        match cursor {
+            CursorScan::Rows(scan) => match self.take(session, scan, n) {
+                Ok(Some((rows, after))) => {
+                    self.move_cursor(s, Some(CursorScan::Rows(after)));
+                    Reply::Rows(rows)
+                }
+                Ok(None) => Reply::End,
+                Err(_) => Reply::Refused(Refusal::NoMemory),
+            },
+            CursorScan::Keys(range) => match self.take_keys(session, range, n) {
+                Ok(Some((keys, after))) => {
+                    self.move_cursor(s, Some(CursorScan::Keys(after)));
+                    Reply::Keys(keys)
+                }
+                Ok(None) => Reply::End,
+                Err(_) => Reply::Refused(Refusal::NoMemory),
+            },
         }
     }
 
@@ -56,7 +68,7 @@ impl SessionEngine {
     /// Writes the next rows of the session's cursor to the first places, and answers how many there are: none exactly where nothing
     /// is left, and the cursor stays open then. Of an index they are as many as there are places, or all that are left. Of the heap
     /// they are those of the next page on which the session sees any, from where the cursor is, up to so many; what the page has
-    /// left over is handed out by the next call. Refusals in order: NoSuchSession, NotOpen, Failed, NoCursor. It takes no memory.
+    /// left over is handed out by the next call. Of a cursor over keys the key alone is written, and all else in its place stays. Refusals in order: NoSuchSession, NotOpen, Failed, NoCursor. It takes no memory.
     pub fn next_rows(&mut self, s: u8, places: &mut [RowPlace]) -> Result<usize, Refusal>
         requires { 0 < length places.old }
         ensures { AnswersNextRows self.old s places.old result places.new self.new }
@@ -67,10 +79,9 @@ impl SessionEngine {
         };
         fact_few(places);
         let (count, after) = self.put(session, cursor, places);
-        if count == 0 {
-            return Ok(0);
+        if count > 0 {
+            self.move_cursor(s, Some(after));
         }
-        self.move_cursor(s, Some(after));
         Ok(count)
     }
 
@@ -78,31 +89,45 @@ impl SessionEngine {
     fn take(
         &self,
         session: &Session,
-        cursor: Scan,
+        scan: Scan,
         n: u16,
     ) -> Result<Option<(Vec<Row>, Scan)>, AllocError>
-        ensures taken { IfOk result
-            (TakesNext (session_sight self.now session.now) cursor n) }
-        ensures refused { OnErr result
-            (MeetsSome (session_sight self.now session.now) cursor) }
+        ensures taken { IfOk result (TakesNext (session_sight self.now session.now) scan n) }
+        ensures refused { OnErr result (MeetsSome (session_sight self.now session.now) scan) }
     {
         let mut place = None;
         let reader = self.cursor_reader(session, &mut place);
-        take_next(self.alloc, &self.heap, &reader, cursor, n)
+        take_next(self.alloc, &self.heap, &reader, scan, n)
     }
 
-    /// Writes them to the first places, and answers how many there are, and what is left.
-    fn put(&self, session: &Session, cursor: Scan, places: &mut [RowPlace]) -> (usize, Scan)
+    /// The next keys of a range as it sees them, and what is left of it.
+    fn take_keys(
+        &self,
+        session: &Session,
+        range: KeyRange,
+        n: u16,
+    ) -> Result<Option<(Vec<u64>, KeyRange)>, AllocError>
+        ensures taken { IfOk result (TakesNextKeys (session_sight self.now session.now) range n) }
+        ensures refused { OnErr result (MeetsSomeKey (session_sight self.now session.now) range) }
+    {
+        let mut place = None;
+        let reader = self.cursor_reader(session, &mut place);
+        take_keys(self.alloc, &self.heap, &reader, range, n)
+    }
+
+    /// Writes the next rows or keys of a cursor to the first places, and answers how many there are, and what is left.
+    fn put(
+        &self,
+        session: &Session,
+        cursor: CursorScan,
+        places: &mut [RowPlace],
+    ) -> (usize, CursorScan)
         requires { 0 < length places.old }
-        ensures { PutsNext (session_sight self.now session.now) cursor places.old
+        ensures { PutsOfCursor (session_sight self.now session.now) cursor places.old
             result.0 result.1 places.new }
     {
         let mut place = None;
-        put_next(
-            &self.heap,
-            &self.cursor_reader(session, &mut place),
-            cursor,
-            places,
-        )
+        let reader = self.cursor_reader(session, &mut place);
+        put_next(&self.heap, &reader, cursor, places)
     }
 }

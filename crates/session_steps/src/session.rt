@@ -8,7 +8,7 @@ ghost use Rattle.session_steps.specs.Takes.{ReadsBy};
 
 use crate::engine::SessionEngine;
 use snapshot::{OwnIds, Snapshot, earlier};
-use table_scans::Scan;
+use table_scans::CursorScan;
 use visibility::Reader;
 use xid_circle::Xid;
 
@@ -61,7 +61,7 @@ pub struct Session {
     pub(crate) isolation: SessionIsolation,
     pub(crate) own: OwnIds,
     pub(crate) failed: bool,
-    pub(crate) cursor: Option<Scan>,
+    pub(crate) cursor: Option<CursorScan>,
     pub(crate) too_new: [bool; 4],
 }
 

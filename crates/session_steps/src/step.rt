@@ -40,6 +40,7 @@ impl SessionEngine {
             Step::Release(s) => self.release(s),
             Step::OpenIndex(s, index, low, high) => self.open_index(s, index, low, high),
             Step::OpenHeap(s) => self.open_heap(s),
+            Step::OpenKeys(s, low, high) => self.open_keys(s, low, high),
             Step::Close(s) => self.close_cursor(s),
             Step::Commit(s) => self.commit(s),
             Step::Abort(s) => self.abort(s),
@@ -61,6 +62,6 @@ impl SessionEngine {
     {
         let session = self.open_session(s)?;
         let mut place = None;
-        Ok(copy_of(self.heap.row(key, &self.reader(session, &mut place))))
+        Ok(copy_of(self.heap.find_row(key, &self.reader(session, &mut place))))
     }
 }

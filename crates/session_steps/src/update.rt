@@ -11,10 +11,9 @@ ghost use Rattle.session_steps.specs.Replies.{reply_to};
 ghost use Rattle.session_steps.specs.Follows.{FollowsUpdate};
 ghost use Rattle.session_steps.specs.Tests.{MayWriteKey};
 
-use crate::checks::fill_row;
 use crate::engine::SessionEngine;
 use crate::outcome::{Ack, write_answer};
-use calls::{Refusal, Row, RowIn};
+use calls::{Refusal, Row, RowIn, fill_row};
 use table_scans::no_row;
 use xid_circle::Tid;
 

@@ -1,4 +1,4 @@
--- How many rows a reply has.
+-- How many rows or keys a reply has.
 use Rattle.std.proofs.Common.{◌≤◌, ℕ, min, max, List, length, Vec, ap, arith}
 use Rattle.std.specs.declared.alloc.Global.{Global}
 use Rattle.tuple_header.specs.declared.version.Row.{Row}
@@ -16,14 +16,14 @@ use Rattle.table_scans.specs.Scans.{Sight}
 use Rattle.table_scans.specs.Takes.{Takes}
 use Rattle.session_steps.specs.Takes.{session_sight}
 use Rattle.waiting_engine.specs.State.{WaitingView}
-use Rattle.shared_heap.specs.Replies.{RowsFit, HasRoomFor}
-use Rattle.shared_heap.proofs.Scanned.{few-scanned}
+use Rattle.shared_heap.specs.Replies.{ListFits, HasRoomFor}
+use Rattle.shared_heap.proofs.Scanned.{few-scanned, few-keys_scanned}
 
 -- no index has more entries than this
 abbrev pub HasNoMore : IndexesView → ℕ → Type 0
 HasNoMore indexes most = (i : ℕ) → length (entries_in indexes i) ≤ most
 
--- no step but a cursor's or that of a page is answered rows
+-- no step but a cursor's or that of a page is answered rows, or keys
 pub data AsksForRows : Step → Type 0 where
   next : (s n : ℕ) → AsksForRows (step.Next s n)
   page : (s p : ℕ) → AsksForRows (step.TakePage s p)
@@ -32,6 +32,10 @@ no_rows : (w : World) (step : Step) (rows : Vec Row Global) → Allows w step (r
 no_rows w (step.Next s n) rows allows = next s n
 no_rows w (step.TakePage s p) rows allows = page s p
 no_rows w _ rows allows = absurd allows
+
+no_keys : (w : World) (step : Step) (keys : Vec ℕ Global) → Allows w step (reply.Keys keys) → AsksForRows step
+no_keys w (step.Next s n) keys allows = next s n
+no_keys w _ keys allows = absurd allows
 
 few : (t : Sight) (scan : Scan) (n most : ℕ) (rows : List Row) (after : Scan) → HasNoMore t.heap.indexes most → Takes t scan n rows after
     → length rows ≤ max (min (max n 1) most) MOST_SLOTS
@@ -46,6 +50,11 @@ pub room-next : (old : WaitingView) (s n most room : ℕ) → HasNoMore old.engi
 room-next old s n most room no_more enough w new (reply.Rows rows) agrees follows exact =
     let hands = exact.0.core in
     let fit = few (session_sight old.engine.core hands.session) hands.before n most rows.items hands.after no_more hands.takes in omega arith
+room-next old s n most room no_more enough w new (reply.Keys keys) agrees follows exact =
+    let hands = exact.0.core in
+    let asked = hands.takes.at_most in
+    let scanned = few-keys_scanned (session_sight old.engine.core hands.session) hands.before hands.after keys.items hands.takes.scans in
+    let all = no_more 0 in omega arith
 room-next old s n most room no_more enough w new _ agrees follows exact = tt
 
 pub room-page : (old : WaitingView) (s p room : ℕ) → MOST_SLOTS ≤ room → HasRoomFor old (step.TakePage s p) room
@@ -53,14 +62,17 @@ room-page old s p room enough w new (reply.Rows rows) agrees follows exact =
     let are = exact.0.core.0 in
     let few = are.1.rows.few in
     let same = ap length are.2 in omega (arith, few, same, enough)
+room-page old s p room enough w new (reply.Keys keys) agrees follows exact = absurd exact.0.core
 room-page old s p room enough w new _ agrees follows exact = tt
 
 pub room-other : (old : WaitingView) (step : Step) (room : ℕ) → (AsksForRows step → ⊥) → HasRoomFor old step room
 room-other old step room other w new (reply.Rows rows) agrees follows exact = absurd (other (no_rows w step rows (follows w agrees).0))
+room-other old step room other w new (reply.Keys keys) agrees follows exact = absurd (other (no_keys w step keys (follows w agrees).0))
 room-other old step room other w new _ agrees follows exact = tt
 
-fits-more : (reply : Reply) (n m : ℕ) → n ≤ m → RowsFit reply n → RowsFit reply m
+fits-more : (reply : Reply) (n m : ℕ) → n ≤ m → ListFits reply n → ListFits reply m
 fits-more (reply.Rows rows) n m more fits = omega arith
+fits-more (reply.Keys keys) n m more fits = omega arith
 fits-more _ n m more fits = tt
 
 -- more room is room too

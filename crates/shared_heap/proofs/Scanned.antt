@@ -1,5 +1,5 @@
--- A scan along an index meets no more rows than the index has entries.
-use Rattle.std.proofs.Common.{◌≡◌, inl, inr, ◌∙◌, zero, suc, ◌+◌, ◌≤◌, List, [], ◌∷◌, length, Option, Some, None, Contains, refl, sym, ap, subst, arith}
+-- A scan along an index meets no more rows, or keys, than the index has entries.
+use Rattle.std.proofs.Common.{◌≡◌, inl, inr, ◌∙◌, ℕ, zero, suc, ◌+◌, ◌≤◌, List, [], ◌∷◌, length, Option, Some, None, Contains, refl, sym, ap, subst, arith}
 use Rattle.std.proofs.lemmas.List.{length-append}
 use Rattle.std.proofs.lemmas.Int.{ints}
 use Rattle.index_nodes.specs.declared.entry.Entry.{Entry}
@@ -8,7 +8,9 @@ use Rattle.index_lookup.specs.declared.index_scan.IndexRange.{IndexRange}
 use Rattle.index_lookup.specs.Walking.{ComesAfter}
 use Rattle.tuple_header.specs.declared.version.Row.{Row}
 use Rattle.table_indexes.specs.Indexes.{entries_in}
+use Rattle.table_scans.specs.declared.progress.KeyRange.{KeyRange}
 use Rattle.table_scans.specs.Scans.{Sight, ScansIndex, index_begins, index_goes_on}
+use Rattle.table_scans.specs.Keys.{ScansKeys, keys_begin, keys_go_on}
 
 -- One entry is taken away, and what else was there stays.
 
@@ -76,3 +78,25 @@ remains t range _ _ (index_goes_on left rows position row scans next) =
 
 pub few-scanned : (t : Sight) (range left : IndexRange) (rows : List Row) → ScansIndex t range left rows → length rows ≤ length (entries_in t.heap.indexes range.index)
 few-scanned t range left rows scans = let count = (remains t range left rows scans).count in omega arith
+
+-- A scan over keys alone.
+
+record KeysRemain (t : Sight) (range left : KeyRange) (keys : List ℕ) : Type 0 where
+  pub rest : List Entry
+  pub count : length keys + length rest ≡ length (entries_in t.heap.indexes 0)
+  pub among : (x : Entry) → Contains (entries_in t.heap.indexes 0) x → ComesAfter x left.last → Contains rest x
+
+keys_remain : (t : Sight) (range left : KeyRange) (keys : List ℕ) → ScansKeys t range left keys → KeysRemain t range left keys
+keys_remain t range _ _ keys_begin = record { rest = entries_in t.heap.indexes 0; count = omega arith; among = λ x there after. there }
+keys_remain t range _ _ (keys_go_on left keys position scans next) =
+    let before = keys_remain t range left keys scans in
+    let without = take_away before.rest next.entry (before.among next.entry next.there next.lies.after) in
+    record {
+      rest = without.rest;
+      count = (let long = length-append keys (position.key ∷ []) in let fewer = without.fewer in let all = before.count in omega arith);
+      among = λ x is after. without.stays x (not-after_itself next.entry x position next.value next.key after)
+          (before.among x is (after-later next.entry x position left.last next.value next.key next.lies.after after));
+    }
+
+pub few-keys_scanned : (t : Sight) (range left : KeyRange) (keys : List ℕ) → ScansKeys t range left keys → length keys ≤ length (entries_in t.heap.indexes 0)
+few-keys_scanned t range left keys scans = let count = (keys_remain t range left keys scans).count in omega arith

@@ -1,30 +1,32 @@
 //! Copies of replies, in room that is made before the step.
 
 ghost use Rattle.std.specs.Prelude.{◌≡◌, ◌≤◌, ◌++◌, take, length, vec_len, vec_capacity, IfOk, false};
-ghost use Rattle.shared_heap.specs.Replies.{IsSame, RowsFit, HasRoomFor, is_busy_reply};
+ghost use Rattle.shared_heap.specs.Replies.{IsSame, ListFits, HasRoomFor, is_busy_reply};
 
 use session_core::{Engine, Refusal, Reply, Row, Step};
 use std::alloc::{AllocError, Global};
 use std::marker::Model;
 use tuple_header::MOST_SLOTS;
 
-/// Room for the copy of a reply. Contracts see it as how many rows it has room for.
+/// Room for the copy of a reply. Contracts see it as how many rows it has room for, and how many keys.
 #[derive(Drop)]
 pub struct Spare {
-    room: Vec<Row>,
+    rows: Vec<Row>,
+    keys: Vec<u64>,
 }
 
 impl Model for Spare {
-    ghost use Rattle.std.specs.Prelude.{◌≡◌, ℕ, vec_len, vec_capacity};
+    ghost use Rattle.std.specs.Prelude.{◌≡◌, ℕ, min, vec_len, vec_capacity};
 
     ghost Value = { ℕ };
 
-    ghost view = { λ s. vec_capacity s.room };
+    ghost view = { λ s. min (vec_capacity s.rows) (vec_capacity s.keys) };
 
-    ghost invariant = { λ s. vec_len s.room ≡ 0 };
+    ghost invariant = { λ s. (vec_len s.rows ≡ 0) × (vec_len s.keys ≡ 0) };
 }
 
-/// How many rows the engine's reply to a step has at most: no more than were asked for, nor than an index has entries or a page slots.
+/// How many rows or keys the engine's reply to a step has at most: no more than were asked for, nor than an index has entries or a page
+/// slots.
 fn most_rows(engine: &Engine, step: &Step) -> usize
     ensures { HasRoomFor engine.now step.now result }
 {
@@ -43,8 +45,10 @@ fn most_rows(engine: &Engine, step: &Step) -> usize
 pub fn spare_for(alloc: Global, engine: &Engine, step: &Step) -> Result<Spare, AllocError>
     ensures { IfOk result (λ spare. HasRoomFor engine.now step.now spare) }
 {
-    let room = Vec::with_capacity(alloc, most_rows(engine, step))?;
-    Ok(Spare { room })
+    let most = most_rows(engine, step);
+    let rows = Vec::with_capacity(alloc, most)?;
+    let keys = Vec::with_capacity(alloc, most)?;
+    Ok(Spare { rows, keys })
 }
 
 /// Copies of all rows, in a list with room for them.
@@ -58,9 +62,20 @@ fn copy_rows(rows: &[Row], room: &mut Vec<Row>)
     }
 }
 
+/// Copies of all keys, in a list with room for them.
+fn copy_keys(keys: &[u64], room: &mut Vec<u64>)
+    requires empty { vec_len room.old ≡ 0 }
+    requires fits { length keys.now ≤ vec_capacity room.old }
+    ensures { room.new.items ≡ keys.now }
+{
+    for key in keys {
+        room.push_reserved(*key);
+    }
+}
+
 /// The same reply, in room that was made for it. It takes no memory.
 pub fn copy_reply(reply: &Reply, spare: Spare) -> Reply
-    requires { RowsFit reply.now spare }
+    requires { ListFits reply.now spare }
     ensures { IsSame reply.now result }
 {
     match reply {
@@ -70,9 +85,14 @@ pub fn copy_reply(reply: &Reply, spare: Spare) -> Reply
         Reply::Committed => Reply::Committed,
         Reply::RolledBack => Reply::RolledBack,
         Reply::Rows(rows) => {
-            let mut room = spare.room;
+            let mut room = spare.rows;
             copy_rows(rows.as_slice(), &mut room);
             Reply::Rows(room)
+        }
+        Reply::Keys(keys) => {
+            let mut room = spare.keys;
+            copy_keys(keys.as_slice(), &mut room);
+            Reply::Keys(room)
         }
         Reply::End => Reply::End,
         Reply::Worked(piece) => Reply::Worked(*piece),

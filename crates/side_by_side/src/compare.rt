@@ -46,6 +46,12 @@ fn same_rows(a: &[Row], b: &[Row]) -> bool
     true
 }
 
+fn same_keys(a: &[u64], b: &[u64]) -> bool
+    ensures { IsTrue result ↔ (a.now ≡ b.now) }
+{
+    a == b
+}
+
 /// Whether both are the same row, or both none.
 pub(crate) fn same_found(a: &Option<Row>, b: &Option<Row>) -> bool
     ensures { IsTrue result ↔ (a.now ≡ b.now) }
@@ -57,7 +63,7 @@ pub(crate) fn same_found(a: &Option<Row>, b: &Option<Row>) -> bool
     }
 }
 
-/// Whether both replies are the same, rows and all.
+/// Whether both replies are the same, rows and keys and all.
 pub(crate) fn same_reply(a: &Reply, b: &Reply) -> bool
     ensures { IsTrue result ↔ AreSame a.now b.now }
 {
@@ -67,6 +73,7 @@ pub(crate) fn same_reply(a: &Reply, b: &Reply) -> bool
         (Reply::Committed, Reply::Committed) => true,
         (Reply::RolledBack, Reply::RolledBack) => true,
         (Reply::Rows(a), Reply::Rows(b)) => same_rows(a.as_slice(), b.as_slice()),
+        (Reply::Keys(a), Reply::Keys(b)) => same_keys(a.as_slice(), b.as_slice()),
         (Reply::End, Reply::End) => true,
         (Reply::Worked(a), Reply::Worked(b)) => *a == *b,
         (Reply::Ended(a), Reply::Ended(b)) => *a == *b,

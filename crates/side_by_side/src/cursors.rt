@@ -10,6 +10,7 @@ use std::mem;
 #[derive(Drop)]
 pub(crate) enum Cursor {
     None,
+    /// One along an index, over rows or over keys.
     Index,
     /// One of the heap, with the rows that it has not handed out.
     Heap(Vec<Row>),

@@ -166,7 +166,8 @@ fn reading_of(row: &Option<Row>, expected: &Option<Row>) -> Reading {
 fn session_of_snapshot(step: &Step) -> Option<u8> {
     match step {
         Step::Begin(s) | Step::BeginReadCommitted(s) => Some(*s),
-        Step::OpenIndex(s, _, _, _) | Step::OpenHeap(s) | Step::Close(s) => Some(*s),
+        Step::OpenIndex(s, _, _, _) | Step::OpenKeys(s, _, _) => Some(*s),
+        Step::OpenHeap(s) | Step::Close(s) => Some(*s),
         _ => None,
     }
 }
@@ -279,6 +280,21 @@ impl Pair {
     /// How many indexes were made in use so far.
     pub fn makings(&self) -> u64 {
         self.makings
+    }
+
+    /// Whether a page that has a slot is noted as all-visible.
+    pub fn has_all_visible(&self) -> bool {
+        for number in 0..self.settings.max_pages {
+            if let (Some(page), Some(bits)) = (
+                self.engine.page(number),
+                self.engine.page_bits(number),
+            ) {
+                if bits > 0 && page.slots() > 0 {
+                    return true;
+                }
+            }
+        }
+        false
     }
 
     /// Whether a vacuum runs.
@@ -403,7 +419,7 @@ impl Pair {
         }
     }
 
-    // What the engine has to reply to a request for more rows, where it has replied this. The plain program has handed out
+    // What the engine has to reply to a request for more rows or keys, where it has replied this. The plain program has handed out
     // all rows of a heap cursor already.
     fn expected_of_next(
         &mut self,
@@ -486,7 +502,7 @@ impl Pair {
     // The session whose cursor a step that was done has changed, and its cursor now, if there is such a session.
     fn cursor_after(&mut self, alloc: Global, step: &Step) -> Option<(u8, Cursor)> {
         match step {
-            Step::OpenIndex(s, _, _, _) => Some((*s, Cursor::Index)),
+            Step::OpenIndex(s, _, _, _) | Step::OpenKeys(s, _, _) => Some((*s, Cursor::Index)),
             Step::OpenHeap(s) => Some((*s, Cursor::Heap(all_rows(alloc, &mut self.plain, *s)))),
             Step::Begin(s) | Step::BeginReadCommitted(s) => Some((*s, Cursor::None)),
             Step::Close(s) | Step::Commit(s) | Step::Abort(s) => Some((*s, Cursor::None)),

@@ -48,10 +48,10 @@ fn rolled_back(answered: Result<(), Refusal>) -> Option<Reply> {
     }
 }
 
-fn reply_rows(answered: Result<Handed, Refusal>) -> Option<Reply> {
+fn reply_handed(answered: Result<Handed, Refusal>) -> Option<Reply> {
     match answered {
         Ok(Handed::Rows(rows)) => Some(Reply::Rows(rows)),
-        Ok(Handed::Keys(_)) => None,
+        Ok(Handed::Keys(keys)) => Some(Reply::Keys(keys)),
         Ok(Handed::End) => Some(Reply::End),
         Err(why) => reply_refused(why),
     }
@@ -87,7 +87,8 @@ pub(crate) fn answer(plain: &mut PlainHistory, step: &Step) -> Option<Reply> {
             reply_done(plain.open_index(*s, *index, *low, *high))
         }
         Step::OpenHeap(s) => reply_done(plain.open_heap(*s)),
-        Step::Next(s, count) => reply_rows(plain.next(*s, *count)),
+        Step::OpenKeys(s, low, high) => reply_done(plain.open_keys(*s, *low, *high)),
+        Step::Next(s, count) => reply_handed(plain.next(*s, *count)),
         Step::Close(s) => reply_done(plain.close(*s)),
         Step::CreateIndex(column) => reply_done(plain.make_index(*column)),
         Step::TakePage(_, _) | Step::Prune(_) | Step::ApplyPlan(_, _) => None,

@@ -20,7 +20,6 @@ use Rattle.prune.specs.Pruning.{PrunesSlot, by_root, by_none, IsPruned, loose_in
 use Rattle.sound_page.specs.Sound.{lead, IsIn, SoundPage}
 use Rattle.sound_page.proofs.Links.{member-version}
 use Rattle.sound_page.proofs.ChainPlaces.{place-of}
-use Rattle.prune.proofs.Removing.{pruned-removes}
 use Rattle.prune.specs.Thinning.{IsThinned}
 use Rattle.prune.proofs.Thinned.{thinned-sound, thinned-keeps_chains, thinned-dead}
 use Rattle.prune.proofs.Thins.{pruned-thins}

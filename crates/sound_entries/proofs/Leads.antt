@@ -58,13 +58,13 @@ pub seen-made : (w : Window) (R : ℕ → Type 0) (t : Version) → ((x : ℕ) �
 seen-made w R t none seen undone = ⊎_elim (λ frozen. undone.thawed frozen) (λ counts. none t.header.xmin.0 undone.aborted counts) (made-of R t.header seen)
 
 -- a chain begins with a version
-record FirstIn (w : Window) (slots : List Slot) (root : ℕ) : Type 0 where
+pub record FirstIn (w : Window) (slots : List Slot) (root : ℕ) : Type 0 where
   pub place : ℕ
   pub version : Version
   pub within : IsIn w slots root place
   pub there : version_at slots place ≡ Some version
 
-first-in : (w : Window) (horizon : ℕ) (slots : List Slot) (n : ℕ) → SoundPage w horizon slots → is_root slots n ≡ true → FirstIn w slots n
+pub first-in : (w : Window) (horizon : ℕ) (slots : List Slot) (n : ℕ) → SoundPage w horizon slots → is_root slots n ≡ true → FirstIn w slots n
 first-in w horizon slots n sound root = by (slot_at slots n) refl root
   where
     plain : (b : Bool) → not b ≡ true → (if b then None else Some n) ≡ Some n

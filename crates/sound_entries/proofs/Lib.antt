@@ -5,3 +5,4 @@ pub mod Finishing
 pub mod OnHeap
 pub mod Tables
 pub mod Since
+pub mod KeysOnHeap

@@ -1,6 +1,7 @@
 -- What is held once an id was asked for.
-use Rattle.std.proofs.Common.{◌≡◌, ◌≢◌, ℕ, ◌-◌, List, [], ◌∷◌, take, nat_eq, true, false, Option, Some, None, Result, Ok, Err, refl, sym, ap, ◌∙◌, subst, inl, inr, arith}
+use Rattle.std.proofs.Common.{◌≡◌, ◌≢◌, ℕ, ◌-◌, List, [], ◌∷◌, take, nat_eq, true, false, Option, Some, None, Result, Ok, Err, slice_get, refl, sym, ap, ◌∙◌, subst, inl, inr, arith}
 use Rattle.std.proofs.lemmas.Bool.Decides.{nat_tests}
+use Rattle.std.proofs.lemmas.Option.{same_Some}
 use Rattle.std.specs.Prelude.{IsSome}
 use Rattle.std.specs.Option.{option_map_or}
 use Rattle.std.specs.Result.{OnOk, OnErr}
@@ -38,6 +39,20 @@ promoted-none held x h = ap (λ (o : Option (ℕ × Status)). option_map_or (λ 
 
 pub held-found : (held : List (ℕ × Status)) (x : ℕ) (status : Status) → lookup (nat_eq x) held ≡ Some status → IsCached held x
 held-found held x status h = subst IsSome (sym h) refl
+
+-- an id that is first already
+self-number : (x : ℕ) → nat_eq x x ≡ true
+self-number x = grind (arith, nat_tests)
+
+pub first-found : (held : List (ℕ × Status)) (x : ℕ) (status : Status) → Some (x, status) ≡ slice_get held 0 → lookup (nat_eq x) held ≡ Some status
+first-found [] x status at = absurd (cc at)
+first-found (e ∷ held) x status at =
+    subst (λ (f : ℕ × Status). lookup (nat_eq x) (f ∷ held) ≡ Some status) (same_Some (x, status) e at) (rw (self-number x) refl)
+
+pub first-promoted : (held : List (ℕ × Status)) (x : ℕ) (status : Status) → Some (x, status) ≡ slice_get held 0 → promoted (nat_eq x) held ≡ held
+first-promoted [] x status at = absurd (cc at)
+first-promoted (e ∷ held) x status at =
+    subst (λ (f : ℕ × Status). promoted (nat_eq x) (f ∷ held) ≡ f ∷ held) (same_Some (x, status) e at) (rw (self-number x) refl)
 
 not-some : (o : Option Status) → o ≡ None → ¬ IsSome o
 not-some None e there = absurd (cc there)

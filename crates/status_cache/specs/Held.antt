@@ -1,5 +1,5 @@
 -- What a cache of statuses holds: ids with their statuses, the last asked for first.
-use Rattle.std.specs.Prelude.{◌≡◌, ◌≢◌, ℕ, ◌-◌, ◌≤◌, nat_eq, not, List, ◌∷◌, length, take, filter, Contains, Some, IsSome}
+use Rattle.std.specs.Prelude.{◌≡◌, ◌≢◌, ℕ, ◌-◌, ◌≤◌, nat_eq, not, List, ◌∷◌, length, take, filter, Contains, Option, Some, None, IsSome}
 use Rattle.std.specs.List.{IsDistinct}
 use Rattle.std.specs.Map.{keys_of, lookup, remove_entry}
 use Rattle.commit_status.specs.declared.status.Status.{Status}
@@ -30,6 +30,11 @@ pub record IsStatusCache (held : List (ℕ × Status)) (capacity : ℕ) : Type 0
 -- each id that is held is remembered, and has the table's status
 abbrev pub CacheAgrees : List (ℕ × Status) → Window → Type 0
 CacheAgrees held w = (e : ℕ × Status) → Contains held e → state_of w e.0 ≡ Some e.1
+
+-- what is kept of a cache where there may be none: it agrees with the table, and each id that it holds is committed or aborted
+abbrev pub KeepsCache : Option (List (ℕ × Status)) → Window → Type 0
+KeepsCache None w = Unit {0}
+KeepsCache (Some held) w = HaveEnded held × CacheAgrees held w
 
 -- An id has this status: it is put first, if it has ended, and the last leaves a full cache; or there is no memory for it.
 pub data CachesStatus (old new : List (ℕ × Status)) (x : ℕ) (status : Status) : Type 0 where

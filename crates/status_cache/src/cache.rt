@@ -1,6 +1,6 @@
 //! The cache.
 
-ghost use Rattle.std.specs.Prelude.{◌≡◌, ◌≤◌, ◌↔◌, ◌∷◌, ◌++◌, [], ℕ, List, length, nat_eq, IsTrue, IfOk};
+ghost use Rattle.std.specs.Prelude.{◌≡◌, ◌≤◌, ◌↔◌, ◌∷◌, ◌++◌, [], ℕ, List, length, nat_eq, IsTrue, IfOk, IfSome, Some, slice_get};
 ghost use Rattle.std.specs.Map.{lookup};
 ghost use Rattle.lru.specs.LruCache.{promoted};
 ghost use Rattle.commit_status.specs.Window.{status_of};
@@ -100,11 +100,22 @@ impl StatusCache {
         status
     }
 
+    /// The status of an id, if it is the first that is held. This takes no hash, and neighbours on a page mostly have one inserter.
+    fn status_of_first(&self, x: Xid) -> Option<Status>
+        ensures { IfSome result (λ status. Some (x.0, status) ≡ slice_get self.now 0) }
+    {
+        let (first, status) = self.kept.peek_mru()?;
+        if *first == x.0 { Some(*status) } else { None }
+    }
+
     /// The status of an id, if it is held; it comes first then.
     fn find(&mut self, x: Xid) -> Option<Status>
         ensures value { result ≡ lookup (nat_eq x.0) self.old }
         ensures kept { self.new ≡ promoted (nat_eq x.0) self.old }
     {
+        if let Some(status) = self.status_of_first(x) {
+            return Some(status);
+        }
         self.kept.get(&x.0).copied()
     }
 

@@ -11,4 +11,4 @@ pub mod laws;
 mod visible;
 
 pub use cache::{MOST_STATUSES, StatusCache};
-pub use visible::visible_cached;
+pub use visible::{sees_cached, visible_cached};

@@ -56,8 +56,9 @@ fn counts_deletion(reader: &Reader<'_>, header: &Header, cache: &mut StatusCache
     header.xmax.0 != 0 && reads(reader, header.xmax, cache)
 }
 
-/// Whether it sees the version with this header.
-fn sees(reader: &Reader<'_>, header: &Header, cache: &mut StatusCache) -> bool
+/// Whether the reader sees the version with this header, as [`Reader::sees`] answers it. Statuses come from the cache, where it holds
+/// the id, and else from the reader's table. No hint is read.
+pub fn sees_cached(reader: &Reader<'_>, header: &Header, cache: &mut StatusCache) -> bool
     requires faultless { header_fault header.now ≡ None }
     requires agrees { CacheAgrees cache.old reader.now.statuses.now }
     ensures value { IsTrue result ↔ IsSeenBy reader.now header.now }
@@ -66,12 +67,11 @@ fn sees(reader: &Reader<'_>, header: &Header, cache: &mut StatusCache) -> bool
     counts_making(reader, header, cache) && !counts_deletion(reader, header, cache)
 }
 
-/// Whether the reader sees a version, as [`Reader::sees_version`] answers it. Statuses come from the cache, where it holds the
-/// id, and else from the reader's table. No hint is read.
+/// Whether the reader sees a version, as [`Reader::sees_version`] answers it, by the cache as [`sees_cached`].
 pub fn visible_cached(tuple: &Tuple, reader: &Reader<'_>, cache: &mut StatusCache) -> bool
     requires { CacheAgrees cache.old reader.now.statuses.now }
     ensures value { IsTrue result ↔ IsSeenBy reader.now tuple.now.header }
     ensures agrees { CacheAgrees cache.new reader.now.statuses.now }
 {
-    sees(reader, &tuple.header, cache)
+    sees_cached(reader, &tuple.header, cache)
 }

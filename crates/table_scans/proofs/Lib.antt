@@ -2,3 +2,4 @@ pub mod Outcomes
 pub mod ScanLemmas
 pub mod TakeLemmas
 pub mod PutLemmas
+pub mod KeyLemmas

@@ -1,3 +1,4 @@
 pub mod Scans
 pub mod Takes
 pub mod Puts
+pub mod Keys

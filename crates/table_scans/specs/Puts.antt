@@ -6,6 +6,10 @@ use Rattle.tuple_header.specs.declared.version.Row.{Row}
 use Rattle.tuple_header.specs.Places.{places_with}
 use Rattle.index_lookup.specs.declared.index_scan.IndexRange.{IndexRange}
 use Rattle.table_scans.specs.declared.progress.Scan.{Scan}
+use Rattle.table_scans.specs.declared.progress.KeyRange.{KeyRange}
+use Rattle.table_scans.specs.declared.progress.CursorScan.{CursorScan}
+use Rattle.table_scans.specs.declared.progress.CursorScan.TheVariants.{Rows, Keys}
+use Rattle.table_scans.specs.Keys.{PutsKeys}
 use Rattle.table_scans.specs.declared.progress.Scan.TheVariants.{Heap}
 use Rattle.table_scans.specs.Scans.{Sight, NoneToPageEnd, ScansHeap, slot_on}
 use Rattle.table_scans.specs.Takes.{IsAtEnd, TakesRows, TakesPart, TakesUpTo}
@@ -42,3 +46,8 @@ pub record PutsOfPage (t : Sight) (from : Tid) (places : List RowPlace) (count s
   pub scans : ScansHeap t from (slot_on from slot) rows
   pub at_most : length rows ≤ length places
   pub all : length rows < length places → NoneToPageEnd t (slot_on from slot)
+
+-- of either kind of cursor
+abbrev pub PutsOfCursor : Sight → CursorScan → List RowPlace → ℕ → CursorScan → List RowPlace → Type 0
+PutsOfCursor t (Rows scan) places count to after = (left : Scan) × (to ≡ Rows left) × PutsNext t scan places count left after
+PutsOfCursor t (Keys range) places count to after = (left : KeyRange) × (to ≡ Keys left) × PutsKeys t range places count left after

@@ -1,20 +1,45 @@
-//! The next rows of a scan, written to places of the caller's. Nothing here takes memory.
+//! The next rows or keys of a cursor, written to places of the caller's. Nothing here takes memory.
 
 ghost use Rattle.std.specs.Prelude.{◌<◌, length};
 ghost use Rattle.table_scans.specs.Scans.{sight_of};
-ghost use Rattle.table_scans.specs.Puts.{PutsNext, PutsOfIndex, PutsOfHeap, PutsOfPage};
+ghost use Rattle.table_scans.specs.Puts.{PutsOfCursor, PutsNext, PutsOfIndex, PutsOfHeap, PutsOfPage};
 
-use crate::progress::{Scan, start_of};
+use crate::keys::put_keys;
+use crate::progress::{CursorScan, Scan, start_of};
 use heap_write::HeapState;
 use index_lookup::{IndexRange, seen_row};
 use tuple_header::RowPlace;
 use visibility::Reader;
 use xid_circle::Tid;
 
-/// Writes the next rows of the scan to the first places, and answers how many there are, and what is left of it behind them: none
+/// Writes the next rows of a cursor to the first places, and answers how many there are, and what is left of it behind them: none
 /// exactly where nothing is left. Of an index they are as many as there are places, or all; of the heap those of the next page on
-/// which the reader sees any, up to so many.
+/// which the reader sees any, up to so many. Of a cursor over keys it writes keys, as many as there are places, or all; all else in
+/// these places stays.
 pub fn put_next(
+    heap: &HeapState,
+    reader: &Reader<'_>,
+    cursor: CursorScan,
+    places: &mut [RowPlace],
+) -> (usize, CursorScan)
+    requires { 0 < length places.old }
+    ensures { PutsOfCursor (sight_of heap.now reader.now) cursor places.old
+        result.0 result.1 places.new }
+{
+    match cursor {
+        CursorScan::Rows(scan) => {
+            let (count, left) = put_scan(heap, reader, scan, places);
+            (count, CursorScan::Rows(left))
+        }
+        CursorScan::Keys(range) => {
+            let (count, left) = put_keys(heap, reader, range, places);
+            (count, CursorScan::Keys(left))
+        }
+    }
+}
+
+/// Writes the next rows of a scan.
+fn put_scan(
     heap: &HeapState,
     reader: &Reader<'_>,
     scan: Scan,

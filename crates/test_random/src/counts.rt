@@ -9,7 +9,7 @@ use std::io;
 use tuple_header::Tuple;
 
 /// How many kinds there are.
-pub(crate) const KINDS: usize = 49;
+pub(crate) const KINDS: usize = 51;
 
 const NAMES: [&str; KINDS] = [
     "Done",
@@ -61,6 +61,8 @@ const NAMES: [&str; KINDS] = [
     "Deadlock",
     "rows of a page",
     "no rows of a page",
+    "Keys",
+    "Keys, with a page noted as all-visible",
 ];
 
 const NEAR: usize = 39;
@@ -79,6 +81,10 @@ const DEADLOCK: usize = 46;
 const PAGE_ROWS: usize = 47;
 
 const NO_PAGE_ROWS: usize = 48;
+
+const KEYS: usize = 49;
+
+const NOTED_KEYS: usize = 50;
 
 // How many indexes have to be made.
 const MANY_MADE: u64 = 3000;
@@ -101,7 +107,7 @@ pub(crate) struct Counts {
 }
 
 fn place_of_refusal(refusal: Refusal) -> Option<usize>
-    ensures { IfSome result (λ place. place < 49) }
+    ensures { IfSome result (λ place. place < 51) }
 {
     match refusal {
         Refusal::NotOpen => Some(7),
@@ -132,7 +138,7 @@ fn place_of_refusal(refusal: Refusal) -> Option<usize>
 }
 
 fn place_of_reply(reply: &Reply) -> Option<usize>
-    ensures { IfSome result (λ place. place < 49) }
+    ensures { IfSome result (λ place. place < 51) }
 {
     match reply {
         Reply::Done => Some(0),
@@ -141,6 +147,7 @@ fn place_of_reply(reply: &Reply) -> Option<usize>
         Reply::Committed => Some(3),
         Reply::RolledBack => Some(4),
         Reply::Rows(_) => Some(5),
+        Reply::Keys(_) => Some(KEYS),
         Reply::End => Some(6),
         Reply::Worked(Piece::Heap(_)) => Some(33),
         Reply::Worked(Piece::Index(_)) => Some(34),
@@ -152,7 +159,7 @@ fn place_of_reply(reply: &Reply) -> Option<usize>
 
 // Where the step says more of the reply.
 fn place_of_both(step: &Step, reply: &Reply) -> Option<usize>
-    ensures { IfSome result (λ place. place < 49) }
+    ensures { IfSome result (λ place. place < 51) }
 {
     match (step, reply) {
         (Step::VacuumCancel, Reply::Done) => Some(37),
@@ -163,7 +170,7 @@ fn place_of_both(step: &Step, reply: &Reply) -> Option<usize>
 }
 
 fn place_of_version(version: &Tuple, page: u32) -> Option<usize>
-    ensures { IfSome result (λ place. place < 49) }
+    ensures { IfSome result (λ place. place < 51) }
 {
     if version.header.ctid.page != page {
         Some(29)
@@ -175,7 +182,7 @@ fn place_of_version(version: &Tuple, page: u32) -> Option<usize>
 }
 
 fn place_of_slot(slot: &Slot, page: u32) -> Option<usize>
-    ensures { IfSome result (λ place. place < 49) }
+    ensures { IfSome result (λ place. place < 51) }
 {
     match slot {
         Slot::Unused => Some(25),
@@ -211,7 +218,7 @@ impl Counts {
     }
 
     fn add(&mut self, place: Option<usize>)
-        requires { IfSome place (λ place. place < 49) }
+        requires { IfSome place (λ place. place < 51) }
     {
         if let Some(place) = place {
             self.counts[place] = self.counts[place].saturating_add(1);
@@ -246,6 +253,11 @@ impl Counts {
     /// Counts a vacuum that ended in an engine in which an index was made.
     pub(crate) fn add_cleaned(&mut self) {
         self.add(Some(CLEANED));
+    }
+
+    /// Counts keys that were handed out while a page was noted as all-visible.
+    pub(crate) fn add_noted_keys(&mut self) {
+        self.add(Some(NOTED_KEYS));
     }
 
     /// Counts versions that prunings took before they were dead.

@@ -162,6 +162,17 @@ fn draw_open_index(generator: &mut Generator, s: u8) -> Step {
     }
 }
 
+// A cursor over keys alone, often over all. One in eight has its bounds as they come.
+fn draw_open_keys(generator: &mut Generator, s: u8) -> Step {
+    let low = draw_bound(generator);
+    let high = draw_bound(generator);
+    match generator.below(8) {
+        0 => Step::OpenKeys(s, low, high),
+        1..=3 => Step::OpenKeys(s, i128::MIN, i128::MAX),
+        _ => Step::OpenKeys(s, low.min(high), low.max(high)),
+    }
+}
+
 fn draw_next(generator: &mut Generator, s: u8) -> Step {
     let count = match generator.below(16) {
         0 => 0,
@@ -183,8 +194,9 @@ fn draw_any(
     Ok(match generator.below(100) {
         0..=7 => Step::Get(s, key),
         8 => Step::TakePage(s, generator.below(pages.saturating_add(1))),
-        9..=12 => draw_open_index(generator, s),
-        13..=14 => Step::OpenHeap(s),
+        9..=11 => draw_open_index(generator, s),
+        12..=13 => draw_open_keys(generator, s),
+        14 => Step::OpenHeap(s),
         15..=69 => {
             let length = draw_length(generator);
             draw_write(generator, bodies, s, key, reads, length)?

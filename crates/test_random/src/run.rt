@@ -213,6 +213,7 @@ impl Run {
                 }
             }
             (_, Reply::Ended(_)) if self.pair.makings() > 0 => counts.add_cleaned(),
+            (_, Reply::Keys(_)) if self.pair.has_all_visible() => counts.add_noted_keys(),
             _ => {}
         }
     }

@@ -36,7 +36,7 @@ fn line_ends_so(
 }
 
 // Lines with what they and the `begin 0` before them are answered.
-static ALLOWED: [(&[u8], &[u8]); 63] = [
+static ALLOWED: [(&[u8], &[u8]); 67] = [
     (b"begin 63", b"ok\nok\n"),
     (b"begin 0", b"ok\nerror 2 AlreadyOpen\n"),
     (b"begin 255", b"ok\nerror 23 NoSuchSession\n"),
@@ -105,6 +105,16 @@ static ALLOWED: [(&[u8], &[u8]); 63] = [
     (
         b"insert 0 2 5 0 0 0 -\ninsert 0 1 6 -7 0 0 00ff\nopenheap 0\nopenheap 0\nsavepoint 0\nnext 0 1\nnext 0 1\nclose 0\nnext 0 1",
         b"ok\nok\nok\nok\nerror 9 CursorOpen\nerror 9 CursorOpen\nrows 2\nrow 2 5 0 0 0 -\nrow 1 6 -7 0 0 00ff\nend\nok\nerror 10 NoCursor\n",
+    ),
+    (b"openkeys 0 1 0", b"ok\nerror 24 BadBounds\n"),
+    (b"openkeys 1 0 1", b"ok\nerror 1 NotOpen\n"),
+    (
+        b"openkeys 0 -170141183460469231731687303715884105728 170141183460469231731687303715884105727\nnext 0 0",
+        b"ok\nok\nend\n",
+    ),
+    (
+        b"insert 0 2 5 0 0 0 -\ninsert 0 1 6 -7 0 0 00ff\nopenkeys 0 -1 18446744073709551615\nnext 0 0\nnext 0 65535\nnext 0 1\nclose 0\nnext 0 1",
+        b"ok\nok\nok\nok\nkeys 1\nkey 1\nkeys 1\nkey 2\nend\nok\nerror 10 NoCursor\n",
     ),
     (b"takepage 0 0", b"ok\nerror 19 NoSuchPage\n"),
     (b"takepage 0 4294967295", b"ok\nerror 19 NoSuchPage\n"),
@@ -175,7 +185,7 @@ fn allowed_lines(rt: HostRuntime) -> Result<(), Fail> {
 }
 
 // Lines that are not allowed.
-static BAD: [&[u8]; 158] = [
+static BAD: [&[u8]; 170] = [
     b"",
     b" ",
     b"begin",
@@ -318,6 +328,18 @@ static BAD: [&[u8]; 158] = [
     b"openheap",
     b"openheap 256",
     b"openheap 0 0",
+    b"openkeys",
+    b"openkeys 0",
+    b"openkeys 0 0",
+    b"openkeys 0 0 ",
+    b"openkeys 0 0 0 0",
+    b"openkeys 256 0 0",
+    b"openkeys 0 -0 0",
+    b"openkeys 0 00 1",
+    b"openkeys 0 0 +1",
+    b"openkeys 0 0 170141183460469231731687303715884105728",
+    b"openkeys 0 -170141183460469231731687303715884105729 0",
+    b"openkeys  0 0 0",
     b"open 0",
     b"next",
     b"next 0",

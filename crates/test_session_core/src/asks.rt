@@ -28,8 +28,9 @@ pub enum Ask {
     Release(u8),
     OpenIndex(u8, u8, i128, i128),
     OpenHeap(u8),
+    OpenKeys(u8, i128, i128),
     Next(u8, u16),
-    /// Has the next rows written to so many places, up to three.
+    /// Has the next rows, or keys, written to so many places, up to three.
     Places(u8, usize),
     Close(u8),
     /// The rows of a page.
@@ -70,7 +71,7 @@ pub enum Answer {
     Body(usize),
     /// Rows of these keys, with these first columns, in this order.
     Rows(&'static [(u64, i64)]),
-    /// Rows of these keys, with the columns of [`SAMPLE`], in this order.
+    /// Rows of these keys, with the columns of [`SAMPLE`], in this order; or these keys alone.
     Keys(&'static [u64]),
     End,
     /// The step of a vacuum did this.
@@ -97,6 +98,16 @@ pub enum Answer {
     Entries(u64),
     NoIndex,
 }
+
+/// Those of a small table. Tests that need others say which.
+pub(crate) const ONE_PAGE: Settings = Settings {
+    max_pages: 1,
+    stop_age: 1000,
+    freeze_min_age: 0,
+    first_xid: 3,
+    dead_limit: 64,
+    indexed: [false; 4],
+};
 
 const SAMPLE: [i64; 4] = [1, -2, 3, -4];
 
@@ -142,6 +153,7 @@ fn step_of(alloc: Global, ask: Ask) -> Result<Option<Step>, AllocError> {
         Ask::Release(s) => Step::Release(s),
         Ask::OpenIndex(s, index, low, high) => Step::OpenIndex(s, index, low, high),
         Ask::OpenHeap(s) => Step::OpenHeap(s),
+        Ask::OpenKeys(s, low, high) => Step::OpenKeys(s, low, high),
         Ask::Next(s, count) => Step::Next(s, count),
         Ask::Close(s) => Step::Close(s),
         Ask::TakePage(s, page) => Step::TakePage(s, page),
@@ -238,6 +250,7 @@ fn is_answer(reply: &Reply, ask: Ask, answer: Answer) -> bool {
             Answer::Keys(keys) => have_keys(rows.as_slice(), keys),
             _ => false,
         },
+        Reply::Keys(keys) => matches!(answer, Answer::Keys(told) if keys.as_slice() == told),
         Reply::End => matches!(answer, Answer::End),
         Reply::Worked(piece) => is_worked(*piece, answer),
         Reply::Ended(first) => is_ended(*first, answer),
@@ -410,7 +423,7 @@ fn are_placed(places: &[RowPlace], told: &[(u64, i64)]) -> bool {
     true
 }
 
-// Whether the next rows are handed out so, where there are so many places.
+// Whether the next rows or keys are handed out so, where there are so many places.
 fn hands_out(engine: &mut Engine, s: u8, asked: usize, answer: Answer) -> bool {
     let mut all = [empty_place(), empty_place(), empty_place()];
     let places = &mut all[..asked.min(3)];

@@ -1,22 +1,13 @@
 //! Cursors of sessions on one table, each reply reckoned by hand.
 
 use crate::asks::Answer::Refused;
-use crate::asks::{Answer, Ask, ask_new};
-use session_core::{Refusal, Settings};
+use crate::asks::{Answer, Ask, ONE_PAGE, ask_new};
+use session_core::{Mode, Piece, Refusal, Settings};
 use std::test::Fail;
 
 const SETTINGS: Settings = Settings {
-    max_pages: 1,
-    stop_age: 1000,
-    freeze_min_age: 0,
-    first_xid: 3,
-    dead_limit: 64,
     indexed: [true, false, false, false],
-};
-
-const BY_KEY_ALONE: Settings = Settings {
-    indexed: [false; 4],
-    ..SETTINGS
+    ..ONE_PAGE
 };
 
 const TWO_PAGES: Settings = Settings {
@@ -50,7 +41,7 @@ static OVER_THE_HEAP: [(Ask, Answer); 16] = [
 
 #[test]
 fn over_the_heap(rt: HostRuntime) -> Result<(), Fail> {
-    ask_new(rt.alloc(), BY_KEY_ALONE, &OVER_THE_HEAP)
+    ask_new(rt.alloc(), ONE_PAGE, &OVER_THE_HEAP)
 }
 
 // What a page has left over comes with the next call, as it was when the cursor was opened.
@@ -238,7 +229,7 @@ static OVER_THE_HEAP_ACROSS_A_COMMIT: [(Ask, Answer); 19] = [
 
 #[test]
 fn over_the_heap_across_a_commit(rt: HostRuntime) -> Result<(), Fail> {
-    ask_new(rt.alloc(), BY_KEY_ALONE, &OVER_THE_HEAP_ACROSS_A_COMMIT)
+    ask_new(rt.alloc(), ONE_PAGE, &OVER_THE_HEAP_ACROSS_A_COMMIT)
 }
 
 // A page has room for seven rows with the largest body: each takes 1096 bytes and a pointer of 4, of 8168.
@@ -295,7 +286,39 @@ static AN_END_CLOSES_THE_CURSOR: [(Ask, Answer); 15] = [
 
 #[test]
 fn an_end_closes_the_cursor(rt: HostRuntime) -> Result<(), Fail> {
-    ask_new(rt.alloc(), BY_KEY_ALONE, &AN_END_CLOSES_THE_CURSOR)
+    ask_new(rt.alloc(), ONE_PAGE, &AN_END_CLOSES_THE_CURSOR)
+}
+
+// Of rows with columns the keys alone are handed out, from a page that is noted as all-visible, and from it once it was written. In a place
+// the key alone is written, and the column stays 0.
+static KEYS_ALONE: [(Ask, Answer); 22] = [
+    (Ask::Begin(0), Answer::Done),
+    (Ask::Insert(0, 1, 5), Answer::Done),
+    (Ask::Insert(0, 2, 6), Answer::Done),
+    (Ask::Insert(0, 3, 7), Answer::Done),
+    (Ask::Commit(0), Answer::Committed),
+    (Ask::VacuumBegin(Mode::Normal), Answer::Done),
+    (Ask::VacuumStep, Answer::Worked(Piece::Heap(0))),
+    (Ask::VacuumStep, Answer::Ended(3)),
+    (Ask::Page(0), Answer::Slots(3, 2)),
+    (Ask::Begin(1), Answer::Done),
+    (Ask::BeginReadCommitted(2), Answer::Done),
+    (Ask::OpenKeys(1, 0, 9), Answer::Done),
+    (Ask::Places(1, 2), Answer::Rows(&[(1, 0), (2, 0)])),
+    (Ask::Begin(0), Answer::Done),
+    (Ask::Update(0, 3, 8), Answer::Done),
+    (Ask::Delete(0, 1), Answer::Done),
+    (Ask::Commit(0), Answer::Committed),
+    (Ask::Page(0), Answer::Slots(4, 0)),
+    (Ask::Next(1, 5), Answer::Keys(&[3])),
+    (Ask::Next(1, 5), Answer::End),
+    (Ask::OpenKeys(2, 0, 9), Answer::Done),
+    (Ask::Next(2, 5), Answer::Keys(&[2, 3])),
+];
+
+#[test]
+fn keys_alone(rt: HostRuntime) -> Result<(), Fail> {
+    ask_new(rt.alloc(), SETTINGS, &KEYS_ALONE)
 }
 
 // While its cursor is open, a session reads and ends, and does nothing else.

@@ -1,17 +1,13 @@
 //! Indexes that are made while sessions are open, with each answer that a making may have, reckoned by hand.
 
 use crate::asks::Answer::{Done, Refused};
-use crate::asks::{Answer, Ask, ask_new};
+use crate::asks::{Answer, Ask, ONE_PAGE, ask_new};
 use session_core::{Mode, Refusal, Settings};
 use std::test::Fail;
 
 const SETTINGS: Settings = Settings {
     max_pages: 4,
-    stop_age: 1000,
-    freeze_min_age: 0,
-    first_xid: 3,
-    dead_limit: 64,
-    indexed: [false; 4],
+    ..ONE_PAGE
 };
 
 static WHO_MAY_SCAN: [(Ask, Answer); 14] = [

@@ -1,18 +1,14 @@
 //! Opening cursors, asking them for rows and closing them, with each answer that they may have.
 
 use crate::asks::Answer::Refused;
-use crate::asks::{Answer, Ask, ask_new};
+use crate::asks::{Answer, Ask, ONE_PAGE, ask_new};
 use session_core::{Refusal, Settings};
 use std::test::Fail;
 
 /// There is no index but the primary one.
 const SETTINGS: Settings = Settings {
     max_pages: 2,
-    stop_age: 1000,
-    freeze_min_age: 0,
-    first_xid: 3,
-    dead_limit: 64,
-    indexed: [false; 4],
+    ..ONE_PAGE
 };
 
 static STEPS: [(Ask, Answer); 77] = [

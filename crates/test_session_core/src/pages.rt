@@ -1,17 +1,13 @@
 //! What stands on the pages, in the index and among the ids after some steps, each reckoned by hand.
 
-use crate::asks::{Answer, Ask, ask_new};
+use crate::asks::{Answer, Ask, ONE_PAGE, ask_new};
 use session_core::{Refusal, Settings};
 use session_steps::laws::{horizon_is_earliest, tickets_hold_the_view, views_by_index};
 use std::test::Fail;
 
 const SETTINGS: Settings = Settings {
-    max_pages: 1,
-    stop_age: 1000,
-    freeze_min_age: 0,
     first_xid: 4_294_967_295,
-    dead_limit: 64,
-    indexed: [false; 4],
+    ..ONE_PAGE
 };
 
 static FIRST_ROW: [(Ask, Answer); 8] = [
@@ -133,8 +129,7 @@ fn each_level_is_given_an_id(rt: HostRuntime) -> Result<(), Fail> {
 
 const FOUR_PAGES: Settings = Settings {
     max_pages: 4,
-    first_xid: 3,
-    ..SETTINGS
+    ..ONE_PAGE
 };
 
 // The ids are 3, then 4, then 5 of the other session, then 6 of the released level.

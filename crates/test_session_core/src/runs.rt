@@ -1,17 +1,13 @@
 //! Runs of steps from the empty table, each reply reckoned by hand.
 
-use crate::asks::{Answer, Ask, ask_run};
+use crate::asks::{Answer, Ask, ONE_PAGE, ask_run};
 use session_core::{Refusal, RunFault, Settings, SettingsFault, run};
 use std::alloc::Global;
 use std::test::Fail;
 
 const SETTINGS: Settings = Settings {
-    max_pages: 1,
-    stop_age: 1000,
-    freeze_min_age: 0,
     first_xid: 4_294_967_295,
-    dead_limit: 64,
-    indexed: [false; 4],
+    ..ONE_PAGE
 };
 
 static A_RUN_OF_STEPS: [(Ask, Answer); 4] = [

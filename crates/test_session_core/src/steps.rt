@@ -1,18 +1,14 @@
 //! Each kind of step that opens, reads, inserts and ends, with each answer that it may have.
 
 use crate::asks::Answer::Refused;
-use crate::asks::{Answer, Ask, ask_new};
+use crate::asks::{Answer, Ask, ONE_PAGE, ask_new};
 use session_core::{Action, Refusal, Settings};
 use std::test::Fail;
 
 // The ids end with 6: the next one would be 4 away from the first.
 const SETTINGS: Settings = Settings {
-    max_pages: 1,
     stop_age: 4,
-    freeze_min_age: 0,
-    first_xid: 3,
-    dead_limit: 64,
-    indexed: [false; 4],
+    ..ONE_PAGE
 };
 
 // The keys of the rows that are committed at the end, by their slots.

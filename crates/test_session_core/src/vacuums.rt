@@ -1,17 +1,13 @@
 //! Vacuums, step by step, with each answer that they may have, reckoned by hand.
 
-use crate::asks::{Answer, Ask, ask_new};
+use crate::asks::{Answer, Ask, ONE_PAGE, ask_new};
 use session_core::{Mode, Piece, Refusal, Settings};
 use std::test::Fail;
 
 /// The ids end with 7: the next one would be 5 away from the first.
 const SETTINGS: Settings = Settings {
-    max_pages: 1,
     stop_age: 5,
-    freeze_min_age: 0,
-    first_xid: 3,
-    dead_limit: 64,
-    indexed: [false; 4],
+    ..ONE_PAGE
 };
 
 static ONE_RUNS_AT_A_TIME: [(Ask, Answer); 15] = [

@@ -1,11 +1,9 @@
 -- An engine whose old ids are forgotten at the end of an aggressive vacuum.
-use Rattle.std.proofs.Common.{◌≡◌, ◌≢◌, ◌⊎◌, ◌↔◌, ℕ, zero, suc, ◌≤◌, false, List, length, Option, Some, None, arith, refl, sym, ap, ◌∙◌, subst, inl, inr, ⊎_elim, slice_get}
+use Rattle.std.proofs.Common.{◌≡◌, ◌≢◌, ◌⊎◌, ◌↔◌, ℕ, ◌≤◌, List, length, Option, Some, None, arith, refl, sym, ap, ◌∙◌, subst, inl, inr, ⊎_elim, slice_get}
 use Rattle.std.specs.Prelude.{Contains, IsSome}
 use Rattle.std.specs.Option.{option_map}
-use Rattle.std.proofs.lemmas.Bool.{cases_Bool}
 use Rattle.std.proofs.lemmas.Option.{slice_get_within, get_or_from_slice_get}
 use Rattle.xid_circle.specs.declared.Tid.{Tid}
-use Rattle.xid_circle.specs.Following.{ReachesIn}
 use Rattle.tuple_header.specs.Version.{Version}
 use Rattle.page_slots.specs.declared.slot.Slot.{Slot}
 use Rattle.page_slots.specs.Slots.{version_at}
@@ -20,26 +18,18 @@ use Rattle.commit_status.proofs.Ancestors.{top-before}
 use Rattle.commit_status.proofs.Tables.{window_of, table-dropped}
 use Rattle.snapshot.specs.Snap.{Snap, Sees, earliest}
 use Rattle.snapshot.proofs.Sights.{sees-top}
-use Rattle.visibility.specs.Visible.{IsDead, state_of}
+use Rattle.visibility.specs.Visible.{state_of}
 use Rattle.visibility.specs.Seeing.{IsRunning, Touches}
 use Rattle.visibility.proofs.Makers.{touch-cases, state-some, state-is, active-to}
-use Rattle.hot_chain.specs.Chain.{has_aborted}
-use Rattle.sound_page.specs.Links.{link}
-use Rattle.sound_page.specs.Sound.{IsIn, SoundPage}
-use Rattle.sound_page.proofs.Links.{link-of}
-use Rattle.sound_page.proofs.Undone.{has-aborted, aborted-has, committed-some}
-use Rattle.tuple_writes.proofs.Statuses.{successor-from, replaced-live}
 use Rattle.forgetting.specs.Truncating.{ForgetsFor, IsWellTopped}
 use Rattle.forgetting.specs.Pages.{AreYoung}
 use Rattle.forgetting.proofs.Stays.{place-stays, stays-known, stays-next}
 use Rattle.forgetting.proofs.Tops.{TopAfter, top-stays, tops-kept, same-sight, window-kept}
-use Rattle.forgetting.proofs.PageLemmas.{forgetting-sound}
 use Rattle.freeze.specs.Visiting.{IsYoung, SettlesOn}
 use Rattle.freeze.proofs.Visiting.{true-on}
-use Rattle.tuple_header.specs.IndexValue.{value_in}
 use Rattle.index_lookup.specs.Pages.{slots_on, slot_in, version_in}
 use Rattle.index_lookup.proofs.PageLists.{slots-there}
-use Rattle.sound_entries.proofs.Going.{StaysExcused, page-same, stay-sound, stays-same}
+use Rattle.sound_entries.proofs.Going.{stays-same}
 use Rattle.table_integrity.specs.Table.{SoundTable}
 use Rattle.table_integrity.proofs.InUse.{used-by}
 use Rattle.heap_write.specs.Heap.{HeapView, slots_of}

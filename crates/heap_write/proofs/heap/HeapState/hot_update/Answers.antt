@@ -1,15 +1,30 @@
-use Rattle.std.proofs.Common.{true, false, ◌≤◌, rules, ap, sym, refl, subst}
-use Rattle.page_slots.specs.Slots.{free_number, next_change}
+use Rattle.std.proofs.Common.{true, false, ◌≡◌, ◌≤◌, Some, rules, ap, sym, refl, subst, slice_get}
+use Rattle.std.proofs.iter.Serving.{serving}
+use Rattle.tuple_header.specs.Version.{rounded_size_of}
+use Rattle.page_slots.specs.View.{PageView}
+use Rattle.page_slots.specs.Slots.{IsNormalAt, room_of, free_number, next_change}
 use Rattle.tuple_writes.specs.Writes.{with_updated, replaced_change, AddsToPage}
 use Rattle.heap_pages.specs.View.{PagesView}
-use Rattle.heap_write.specs.Heap.{HeapView}
+use Rattle.heap_write.specs.Heap.{HeapView, page_on}
 use Rattle.heap_write.specs.Writes.{HotUpdates}
 use Rattle.heap_write.specs.contracts.heap.HeapState.{the_view}
 use Rattle.heap_write.proofs.Writing.{replaces-here}
 use Rattle.heap_write.specs.Refusals.{VersionIsThere}
-use Rattle.heap_write.proofs.PageLemmas.{there-at}
+use Rattle.heap_write.proofs.PageLemmas.{page-at, there-at}
 use Rattle.heap_write.proofs.HintLemmas.{hints-taken, hints-replaced}
 use Rattle.heap_write.proofs.heap.HeapState.hot_update.Goals as goal
+
+pub write-slot-requires-clause-ready : goal.write-slot-requires-clause-ready
+write-slot-requires-clause-ready c =
+    let place = c.args.place in
+    let h = the_view c.self.inside in
+    let size = rounded_size_of c.args.row.now in
+    let there : VersionIsThere h place = subst (λ (h : HeapView). VersionIsThere h place) (sym c.self.view_is) c.requires.may.there in
+    let has_room : size ≤ room_of (page_on h place.page).slots = subst (λ (h : HeapView). size ≤ room_of (page_on h place.page).slots) (sym c.self.view_is) c.requires.room in
+    let version : (page : PageView) → slice_get c.self.inside.pages.pages place.page ≡ Some page → IsNormalAt page.slots place.slot = λ page at. there-at h place page there at in
+    let room : (page : PageView) → slice_get c.self.inside.pages.pages place.page ≡ Some page → size ≤ room_of page.slots =
+    λ page at. subst (λ (p : PageView). size ≤ room_of p.slots) (page-at h.pages.pages place.page page at) has_room in
+    grind serving
 
 pub returns-clause-replaces : goal.returns-clause-replaces
 returns-clause-replaces c =

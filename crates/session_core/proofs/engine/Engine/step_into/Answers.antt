@@ -1,5 +1,4 @@
-use Rattle.std.proofs.Common.{◌≡◌, ◌∙◌, Bool, List, Option, ℕ, Some, None, sym, subst}
-use Rattle.calls.specs.Steps.{session_of}
+use Rattle.std.proofs.Common.{◌∙◌, Bool, List, Option, ℕ, sym, subst}
 use Rattle.waiting_engine.specs.Laws.{with_waits}
 use Rattle.waiting_engine.specs.Notes.{NotesWait}
 use Rattle.waiting_engine.proofs.Noting.{Follows, noted-follows, ownerless-follows}

@@ -9,8 +9,8 @@ returns-in-Ok c = record {
   answers = record {
     follows = (
         let e = c.in-Ok.session.now in
-        Follows-get c.args.self.now c.args.s e c.args.key c.row.result c.in-Ok.ensures.1 c.in-Ok.ensures.2
-        (row-read _ c.args.self.now e c.reader.result c.self.view_is c.reader.ensures c.args.key c.row.result c.row.ensures));
+        Follows-get c.args.self.now c.args.s e c.args.key c.find_row.result c.in-Ok.ensures.1 c.in-Ok.ensures.2
+        (row-read _ c.args.self.now e c.reader.result c.self.view_is c.reader.ensures c.args.key c.find_row.result c.find_row.ensures));
     exact = search rules;
   };
   refused = search rules;

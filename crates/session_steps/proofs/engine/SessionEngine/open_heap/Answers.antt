@@ -1,4 +1,5 @@
 use Rattle.std.proofs.Common.{rules, Some, refl, subst}
+use Rattle.table_scans.specs.declared.progress.CursorScan.TheVariants.{Rows}
 use Rattle.table_scans.specs.declared.progress.Scan.TheVariants.{Heap}
 use Rattle.refinement.specs.Cursors.{heap_start}
 use Rattle.session_steps.specs.Exact.{HasCursor}
@@ -25,8 +26,8 @@ pub returns : goal.returns
 returns c =
     let st = c.args.self.now in
     let e = c.in_ok-session.session.now in
-    let put = subst (λ place. HasCursor st c.put_cursor.new.self c.args.s (Some (Heap place)) c.in_ok-kept.kept) c.start_of.ensures c.put_cursor.ensures in
-    let opens = opens-as st c.put_cursor.new.self c.args.s e (Heap heap_start) c.in_ok-kept.kept c.in_ok-session.ensures.1 c.in_ok-kept.ensures.kept put in
+    let put = subst (λ place. HasCursor st c.put_cursor.new.self c.args.s (Some (Rows (Heap place))) c.in_ok-kept.kept) c.start_of.ensures c.put_cursor.ensures in
+    let opens = opens-as st c.put_cursor.new.self c.args.s e (Rows (Heap heap_start)) c.in_ok-kept.kept c.in_ok-session.ensures.1 c.in_ok-kept.ensures.kept put in
     record {
       follows = Follows-opened_heap st c.put_cursor.new.self c.args.s e c.in_ok-session.ensures.1 c.in_ok-session.ensures.2 c.in_ok-session.ensures.3 opens;
       exact = opens;

@@ -2,6 +2,7 @@ use Rattle.std.proofs.Common.{rules, Some, None, refl, sym, ap, ◌∙◌, subst
 use Rattle.std.specs.Prelude.{is_some, option_copied}
 use Rattle.index_lookup.specs.declared.index_scan.IndexRange.{IndexRange}
 use Rattle.session_steps.specs.Exact.{HasCursor}
+use Rattle.table_scans.specs.declared.progress.CursorScan.TheVariants.{Rows}
 use Rattle.table_scans.specs.declared.progress.Scan.TheVariants.{Index}
 use Rattle.session_steps.proofs.InUse.{there-used}
 use Rattle.session_steps.proofs.Outcomes.{handed-on}
@@ -62,9 +63,9 @@ returns c =
     let e = c.in_ok-session.session.now in
     let used = there-used st st c.args.index c.in-Some.field-0.now refl (sym c.index.ensures ∙ ap option_copied c.in-Some.is) in
     let span : IndexRange = record { index = c.args.index; low = c.args.low; high = c.args.high; last = None } in
-    let put = subst (λ (sp : IndexRange). HasCursor st c.put_cursor.new.self c.args.s (Some (Index sp)) c.in_ok-kept.kept)
+    let put = subst (λ (sp : IndexRange). HasCursor st c.put_cursor.new.self c.args.s (Some (Rows (Index sp))) c.in_ok-kept.kept)
     (stored-span c.args.index c.args.low c.args.high c.ranges.low c.ranges.high) c.put_cursor.ensures in
-    let opens = opens-as st c.put_cursor.new.self c.args.s e (Index span) c.in_ok-kept.kept c.in_ok-session.ensures.1 c.in_ok-kept.ensures.kept put in
+    let opens = opens-as st c.put_cursor.new.self c.args.s e (Rows (Index span)) c.in_ok-kept.kept c.in_ok-session.ensures.1 c.in_ok-kept.ensures.kept put in
     record {
       follows = Follows-opened_index st _ c.args.s e span c.in_ok-session.ensures.1 c.in_ok-session.ensures.2 c.in_ok-session.ensures.3
           (in-bounds c.args.low c.args.high c.ranges.low c.ranges.high c.if-low-high.false) refl used (sym c.is_too_new.ensures ∙ c.if-is_too_new.false) opens;

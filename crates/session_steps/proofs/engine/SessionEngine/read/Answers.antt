@@ -9,4 +9,4 @@ returns c w agrees =
     let e = c.in_ok-session.session.now in
     reads-view c.args.self.now w c.args.s e c.args.key c.copy_of.result agrees c.in_ok-session.ensures.1
     (subst (RowOf c.args.self.now e c.args.key) (sym c.copy_of.ensures)
-    (row-read _ c.args.self.now e c.reader.result c.self.view_is c.reader.ensures c.args.key c.row.result c.row.ensures))
+    (row-read _ c.args.self.now e c.reader.result c.self.view_is c.reader.ensures c.args.key c.find_row.result c.find_row.ensures))

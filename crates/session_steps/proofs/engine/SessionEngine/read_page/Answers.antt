@@ -1,6 +1,5 @@
 use Rattle.std.proofs.Common.{sym, subst}
 use Rattle.calls.specs.declared.step.Step.TheVariants as step
-use Rattle.calls.specs.declared.reply.Reply.{Reply}
 use Rattle.calls.specs.declared.reply.Reply.TheVariants as reply
 use Rattle.session_steps.specs.State.{State}
 use Rattle.session_steps.specs.Exact.{AnswersStep}

@@ -3,7 +3,7 @@ use Rattle.std.specs.Prelude.{Contains, IsSome}
 use Rattle.std.proofs.lemmas.List.Elements.{Contains-append_right}
 use Rattle.commit_status.specs.Changes.{numbers}
 use Rattle.snapshot.specs.Own.{newest}
-use Rattle.table_scans.specs.declared.progress.Scan.{Scan}
+use Rattle.table_scans.specs.declared.progress.CursorScan.{CursorScan}
 use Rattle.session_steps.specs.declared.session.Session.{Session}
 use Rattle.session_steps.specs.State.{State, session_at}
 use Rattle.session_steps.specs.Changes.{RollsBack}
@@ -23,7 +23,7 @@ returns-in_err-session c = record {
 pub returns-in-Some : goal.returns-in-Some
 returns-in-Some c = record {
   follows = (
-      let P : Option Scan → Type 0 = λ o. IsSome o in
+      let P : Option CursorScan → Type 0 = λ o. IsSome o in
       Follows-barred_roll_back_to c.args.self.now c.args.s c.in_ok-session.session.now c.in_ok-session.ensures.1 (subst P (sym c.in-Some.is) refl));
   exact = search rules;
 }

@@ -8,8 +8,9 @@ use Rattle.session_steps.specs.State.{State, is_answered_above}
 use Rattle.session_steps.specs.Replies.{reply_to}
 use Rattle.session_steps.specs.Exact.{AnswersStep}
 use Rattle.session_steps.proofs.CursorSteps.{stored-step}
+use Rattle.session_steps.proofs.KeySteps.{stored-open_keys}
 use Rattle.session_steps.proofs.engine.SessionEngine.step_into.Goals as goal
-use Rattle.session_steps.proofs.engine.SessionEngine.step_into.Goals.{in-Begin, in-BeginReadCommitted, in-Insert, in-Update, in-Delete, in-Savepoint, in-RollbackTo, in-Release, in-OpenIndex, in-OpenHeap, in-Close, in-Commit, in-Abort, in-Prune, in-ApplyPlan}
+use Rattle.session_steps.proofs.engine.SessionEngine.step_into.Goals.{in-Begin, in-BeginReadCommitted, in-Insert, in-Update, in-Delete, in-Savepoint, in-RollbackTo, in-Release, in-OpenIndex, in-OpenHeap, in-OpenKeys, in-Close, in-Commit, in-Abort, in-Prune, in-ApplyPlan}
 
 -- of the step that was asked for, and what came of it
 told : {step asked : Step} {answer came : Result Ack Refusal} {new after : State} (P : Step → Result Ack Refusal → State → Type 0) → step ≡ asked → answer ≡ came → new ≡ after → P asked came after → P step answer new
@@ -51,6 +52,8 @@ returns c =
       | in-OpenIndex w ↦ (let fits = subst B w.in-OpenIndex.is c.fact_bounds.ensures in
           told P (w.in-OpenIndex.is ∙ sym (stored-step w.in-OpenIndex.s w.in-OpenIndex.index w.in-OpenIndex.low w.in-OpenIndex.high fits.0 fits.1)) w.answer-is w.self-is (w.open_index-answer.ensures, refl))
       | in-OpenHeap w ↦ told P w.in-OpenHeap.is w.answer-is w.self-is (w.open_heap-answer.ensures, refl)
+      | in-OpenKeys w ↦ (let fits = subst B w.in-OpenKeys.is c.fact_bounds.ensures in
+          told P (w.in-OpenKeys.is ∙ sym (stored-open_keys w.in-OpenKeys.s w.in-OpenKeys.low w.in-OpenKeys.high fits.0 fits.1)) w.answer-is w.self-is (w.open_keys-answer.ensures, refl))
       | in-Close w ↦ told P w.in-Close.is w.answer-is w.self-is (w.close_cursor-answer.ensures, refl)
       | in-Commit w ↦ told P w.in-Commit.is w.answer-is w.self-is (w.commit-answer.ensures, refl)
       | in-Abort w ↦ told P w.in-Abort.is w.answer-is w.self-is (w.abort-answer.ensures, refl)

@@ -1,7 +1,7 @@
 use Rattle.std.proofs.Common.{refl}
 use Rattle.visibility.specs.Reading.{IsReadBy}
 use Rattle.visibility.proofs.Parts.{made-kept, not-made}
-use Rattle.status_cache.proofs.visible.sees.Goals as goal
+use Rattle.status_cache.proofs.visible.sees_cached.Goals as goal
 
 pub returns-then-counts_making-clause-value : goal.returns-then-counts_making-clause-value
 returns-then-counts_making-clause-value c =

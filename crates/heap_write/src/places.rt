@@ -1,0 +1,38 @@
+//! Where roots of keys were made, as far as it is known, and what is found by that. Nothing here takes memory.
+
+ghost use Rattle.std.specs.Prelude.{◌≡◌, pos};
+ghost use Rattle.visibility.specs.Reading.{IsSeenBy};
+ghost use Rattle.index_lookup.specs.ByPlace.{FoundOrSeen};
+ghost use Rattle.table_indexes.specs.Indexes.{entries_in};
+ghost use Rattle.heap_write.specs.Heap.{slots_of};
+
+use crate::heap::HeapState;
+use index_lookup::row_by_place;
+use key_places::KeyPlaces;
+use tuple_header::RowRef;
+use visibility::Reader;
+
+impl HeapState {
+    /// Forgets where roots of keys were made, and notes it from now on, or never. With no places kept a get searches the index; no
+    /// answer changes.
+    pub fn keep_places(&mut self, are_wanted: bool)
+        ensures { self.new ≡ self.old }
+    {
+        self.places = KeyPlaces::new(self.alloc, are_wanted);
+    }
+
+    /// The row of the key that the reader sees, where it stands. It is looked for where a root of the key was made last, as far as
+    /// that is known, and along the index only where it is not there.
+    #[inline(always)]
+    pub fn find_row(&self, key: u64, reader: &Reader<'_>) -> Option<RowRef<'_>>
+        ensures { FoundOrSeen reader.now.statuses.now (IsSeenBy reader.now)
+            (slots_of self.now) (entries_in self.now.indexes 0) (pos key) key result }
+    {
+        if let Some(place) = self.places.get(key) {
+            if let Some(row) = row_by_place(&self.pages, place, key, reader) {
+                return Some(row);
+            }
+        }
+        self.row(key, reader)
+    }
+}

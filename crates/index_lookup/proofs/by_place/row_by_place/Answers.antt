@@ -1,0 +1,9 @@
+use Rattle.std.proofs.Common.{sym, ◌∙◌}
+use Rattle.visibility.specs.Reading.{IsSeenBy}
+use Rattle.index_lookup.proofs.SeenLemmas.{seen-of_key}
+use Rattle.index_lookup.proofs.by_place.row_by_place.Goals as goal
+
+pub returns-then-key : goal.returns-then-key
+returns-then-key c =
+    seen-of_key (IsSeenBy c.args.reader.now) c.args.pages.now.pages c.args.place.page c.match-header.slot c.args.key c.in_ok-page.page.now c.in_ok-row.row
+    (sym c.in_ok-page.ensures) c.in_ok-row.ensures (sym c.key.ensures ∙ c.if-key.true)
