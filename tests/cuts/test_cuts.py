@@ -27,8 +27,10 @@ NEAR = 64
 # how many bytes a script has at most that is cut as a worker's
 SHORT = 250
 STRING = r'"((?:[^"\\]|\\.|\\\n)*)"'
+# a row, which leaves out what it has as `PLAIN` has it
 ROW = re.compile(
-    rf'name: {STRING},\s*script: b{STRING},\s*body: (\d+),\s*other: (\d+),\s*answers: b{STRING},\s*status: (\d+),\s*words: {STRING},'
+    rf"name: {STRING},\s*script: b{STRING},(?:\s*body: (\d+),)?(?:\s*other: (\d+),)?\s*answers: b{STRING},"
+    rf"(?:\s*status: (\d+),)?(?:\s*words: {STRING},)?"
 )
 
 
@@ -54,7 +56,7 @@ def whole_answers(text: str) -> List[str]:
     """Answers, each with the lines that its first line announces."""
     lines, answers, at = text.splitlines(keepends=True), [], 0
     while at < len(lines):
-        told = re.match(r"(?:rows|entries \d+|page .* slots) (\d+)$", lines[at])
+        told = re.match(r"(?:rows|keys|entries \d+|page .* slots) (\d+)$", lines[at])
         count = 1 + int(told[1]) if told else 1
         answers.append("".join(lines[at : at + count]))
         at += count
@@ -64,11 +66,15 @@ def whole_answers(text: str) -> List[str]:
 def worked_scripts() -> Iterator[Script]:
     for path in sorted(glob.glob(f"{ROOT}/crates/test_scripts/src/*.rt")):
         with open(path, encoding="utf-8") as file:
-            rows = ROW.findall(file.read())
+            source = file.read()
+        rows = ROW.findall(source)
+        assert len(rows) == source.count(' name: "'), f"{path} has a row that is read otherwise"
         for name, script, body, other, answers, _, words in rows:
-            text = unquoted(script).replace("~", "61" * int(body)).replace("^", "62" * int(other))
+            text = unquoted(script).replace("~", "61" * int(body or 0)).replace("^", "62" * int(other or 0))
             bad = re.match(r"bad line (\d+)", words)
-            yield Script(name, text.encode(), whole_answers(unquoted(answers)), int(bad[1]) if bad else None)
+            # `PLAIN` itself is no script
+            if name:
+                yield Script(name, text.encode(), whole_answers(unquoted(answers)), int(bad[1]) if bad else None)
 
 
 def examples() -> Iterator[Script]:

@@ -12,6 +12,8 @@ mod cursors;
 #[cfg(test)]
 mod growing;
 #[cfg(test)]
+mod keys;
+#[cfg(test)]
 mod leaves;
 #[cfg(test)]
 mod makings;

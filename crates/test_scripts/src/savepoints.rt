@@ -1,6 +1,6 @@
 //! The worked scripts of savepoints, each beside what it has to answer.
 
-use crate::table::Case;
+use crate::table::{Case, PLAIN};
 
 /// The scripts of savepoints, of ids for their levels, and of a snapshot that names too many.
 pub static SAVEPOINTS: [Case; 10] = [
@@ -10,33 +10,24 @@ pub static SAVEPOINTS: [Case; 10] = [
         script: b"heap 4 1000 0 3 64 0000\n\
             begin 0\ninsert 0 1 5 0 0 0 -\ncommit 0\nbegin 0\nbegin 1\nsavepoint 0\nupdate 0 1 6 0 0 0 -\nrollbackto 0\nget 0 1\n\
             update 1 1 7 0 0 0 -\nids\n",
-        body: 0,
-        other: 0,
         answers: b"ok\nok\ncommitted\nok\nok\nok\nok\nok\nrow 1 5 0 0 0 -\nok\nnext 7 frozen_below 3\n",
-        status: 0,
-        words: "",
+        ..PLAIN
     },
     // The savepoint stays, and its level is given another id: 5.
     Case {
         name: "insert_again_after_rollback",
         script: b"heap 4 1000 0 3 64 0000\n\
             begin 0\nsavepoint 0\ninsert 0 1 5 0 0 0 -\nrollbackto 0\ninsert 0 1 5 0 0 0 -\ncommit 0\nprune 0\npage 0\n",
-        body: 0,
-        other: 0,
         answers: b"ok\nok\nok\nok\nok\ncommitted\nok\npage 0 change 3 visible 0 slots 2\n1 dead\n2 normal 5 0 1\n",
-        status: 0,
-        words: "",
+        ..PLAIN
     },
     // Two levels lack an id, and one can be given; after the release one level is left.
     Case {
         name: "needs_freeze_for_two_ids",
         script: b"heap 4 1 0 3 64 0000\n\
             begin 0\nsavepoint 0\ninsert 0 1 0 0 0 0 -\nids\nrelease 0\ninsert 0 1 0 0 0 0 -\n",
-        body: 0,
-        other: 0,
         answers: b"ok\nok\nerror 15 NeedsFreeze\nnext 3 frozen_below 3\nok\nok\n",
-        status: 0,
-        words: "",
+        ..PLAIN
     },
     // The level of the second savepoint was given no id.
     Case {
@@ -44,12 +35,9 @@ pub static SAVEPOINTS: [Case; 10] = [
         script: b"heap 4 1000 0 3 64 0000\n\
             begin 1\nbegin 0\ninsert 0 1 5 0 0 0 -\ncommit 0\nsavepoint 1\ninsert 1 2 7 0 0 0 -\nsavepoint 1\n\
             insert 1 1 6 0 0 0 -\nget 1 2\nrollbackto 1\nget 1 2\nget 1 1\ncommit 1\nbegin 0\nget 0 1\nget 0 2\nids\n",
-        body: 0,
-        other: 0,
         answers: b"ok\nok\nok\ncommitted\nok\nok\nok\nerror 6 Conflict\nerror 3 Failed\nok\nrow 2 7 0 0 0 -\nnone\ncommitted\nok\n\
             row 1 5 0 0 0 -\nrow 2 7 0 0 0 -\nnext 6 frozen_below 3\n",
-        status: 0,
-        words: "",
+        ..PLAIN
     },
     // Going back takes with it what was released into the level. Ids 3 to 5, and then 6.
     Case {
@@ -57,12 +45,9 @@ pub static SAVEPOINTS: [Case; 10] = [
         script: b"heap 4 1000 0 3 64 0000\n\
             begin 0\nsavepoint 0\ninsert 0 1 5 0 0 0 -\nsavepoint 0\nupdate 0 1 6 0 0 0 -\nrelease 0\nget 0 1\nrollbackto 0\n\
             get 0 1\ninsert 0 1 7 0 0 0 -\nrelease 0\nrelease 0\ncommit 0\nbegin 1\nget 1 1\nids\n",
-        body: 0,
-        other: 0,
         answers: b"ok\nok\nok\nok\nok\nok\nrow 1 6 0 0 0 -\nok\nnone\nok\nok\nerror 12 NoSavepoint\ncommitted\nok\nrow 1 7 0 0 0 -\n\
             next 7 frozen_below 3\n",
-        status: 0,
-        words: "",
+        ..PLAIN
     },
     // Key 1 is deleted under 4 again, and not under 6, the released level's: 4 precedes the horizon, which is 5.
     Case {
@@ -70,13 +55,10 @@ pub static SAVEPOINTS: [Case; 10] = [
         script: b"heap 4 1000 0 3 64 0000\n\
             begin 0\ninsert 0 1 5 0 0 0 -\ncommit 0\nbegin 0\ninsert 0 2 0 0 0 0 -\nbegin 1\ninsert 1 3 0 0 0 0 -\nsavepoint 0\n\
             insert 0 4 0 0 0 0 -\nrelease 0\ndelete 0 1\ncommit 0\nbegin 2\ncommit 1\npage 0\nprune 0\npage 0\n",
-        body: 0,
-        other: 0,
         answers: b"ok\nok\ncommitted\nok\nok\nok\nok\nok\nok\nok\nok\ncommitted\nok\ncommitted\n\
             page 0 change 5 visible 0 slots 4\n1 normal 3 4 1\n2 normal 4 0 2\n3 normal 5 0 3\n4 normal 6 0 4\nok\n\
             page 0 change 6 visible 0 slots 4\n1 dead\n2 normal 4 0 2\n3 normal 5 0 3\n4 normal 6 0 4\n",
-        status: 0,
-        words: "",
+        ..PLAIN
     },
     // The insert gives an id to each of 33 levels.
     Case {
@@ -90,13 +72,10 @@ pub static SAVEPOINTS: [Case; 10] = [
             release 0\nrelease 0\nrelease 0\nrelease 0\nrelease 0\nrelease 0\nrelease 0\nrelease 0\nrelease 0\nrelease 0\n\
             release 0\nrelease 0\nrelease 0\nrelease 0\nrelease 0\nrelease 0\nrelease 0\nrelease 0\nrelease 0\nrelease 0\n\
             release 0\nrelease 0\nrelease 0\n",
-        body: 0,
-        other: 0,
         answers: b"ok\nok\nok\nok\nok\nok\nok\nok\nok\nok\nok\nok\nok\nok\nok\nok\nok\nok\nok\nok\nok\nok\nok\nok\nok\nok\nok\nok\nok\n\
             ok\nok\nok\nok\nerror 11 TooDeep\nok\nnext 36 frozen_below 3\nok\nok\nok\nok\nok\nok\nok\nok\nok\nok\nok\nok\nok\nok\n\
             ok\nok\nok\nok\nok\nok\nok\nok\nok\nok\nok\nok\nok\nok\nok\nok\nok\nok\nerror 12 NoSavepoint\n",
-        status: 0,
-        words: "",
+        ..PLAIN
     },
     // Session 0 has 65 children in progress, which the snapshot of session 1 does not name.
     Case {
@@ -135,8 +114,6 @@ pub static SAVEPOINTS: [Case; 10] = [
             savepoint 0\ninsert 0 61 0 0 0 0 -\nrelease 0\nsavepoint 0\ninsert 0 62 0 0 0 0 -\nrelease 0\n\
             savepoint 0\ninsert 0 63 0 0 0 0 -\nrelease 0\nsavepoint 0\ninsert 0 64 0 0 0 0 -\nrelease 0\n\
             savepoint 0\ninsert 0 65 0 0 0 0 -\nrelease 0\nids\nbegin 1\ncommit 0\nget 1 40\nbegin 2\nget 2 40\n",
-        body: 0,
-        other: 0,
         answers: b"ok\nok\nok\nok\nok\nok\nok\nok\nok\nok\nok\nok\nok\nok\nok\nok\nok\nok\nok\nok\nok\nok\nok\nok\nok\nok\nok\nok\nok\n\
             ok\nok\nok\nok\nok\nok\nok\nok\nok\nok\nok\nok\nok\nok\nok\nok\nok\nok\nok\nok\nok\nok\nok\nok\nok\nok\nok\nok\nok\n\
             ok\nok\nok\nok\nok\nok\nok\nok\nok\nok\nok\nok\nok\nok\nok\nok\nok\nok\nok\nok\nok\nok\nok\nok\nok\nok\nok\nok\nok\n\
@@ -145,8 +122,7 @@ pub static SAVEPOINTS: [Case; 10] = [
             ok\nok\nok\nok\nok\nok\nok\nok\nok\nok\nok\nok\nok\nok\nok\nok\nok\nok\nok\nok\nok\nok\nok\nok\nok\nok\nok\nok\nok\n\
             ok\nok\nok\nok\nok\nok\nok\nok\nok\nok\nok\nok\nok\nok\nok\nok\nok\nok\nok\nok\nok\nok\nnext 69 frozen_below 3\nok\n\
             committed\nnone\nok\nrow 40 0 0 0 0 -\n",
-        status: 0,
-        words: "",
+        ..PLAIN
     },
     // The ids end with 8: the next one would be 6 away from the first. Ids 3, 4 and 5 are those of session 0: slots 1 to 3.
     // Ids 6 to 8 are for three levels of session 1: slot 4. The level below the newest has an id: slots 5 and 6. In the end
@@ -164,8 +140,6 @@ pub static SAVEPOINTS: [Case; 10] = [
             insert 1 5 1 -2 3 -4 -\ncommit 1\nget 2 5\ninsert 2 5 1 -2 3 -4 -\nrollbackto 2\nget 2 5\ncommit 2\n\
             rollbackto 2\nbegin 2\nget 2 1\nget 2 2\nget 2 3\nget 2 4\nget 2 5\nsavepoint 2\nrollbackto 2\nrelease 2\n\
             abort 2\nprune 0\nbegin 3\nget 3 1\nids\npage 0\n",
-        body: 0,
-        other: 0,
         answers: b"error 1 NotOpen\nerror 1 NotOpen\nerror 1 NotOpen\nerror 23 NoSuchSession\nerror 23 NoSuchSession\n\
             error 23 NoSuchSession\nok\nerror 12 NoSavepoint\nerror 12 NoSavepoint\nok\nok\nok\n\
             row 1 1 -2 3 -4 6161616161616161616161616161616161616161\nok\nrow 1 1 -2 3 -4 61616161616161616161\nok\nok\n\
@@ -177,8 +151,7 @@ pub static SAVEPOINTS: [Case; 10] = [
             row 2 1 -2 3 -4 616161616161616161616161616161616161616161616161616161616161\nnone\nnone\nrow 5 1 -2 3 -4 -\n\
             ok\nok\nok\nrolled back\nok\nok\nrow 1 1 -2 3 -4 61616161616161616161\nnext 9 frozen_below 3\n\
             page 0 change 10 visible 0 slots 6\n1 normal 3 4 1\n2 unused\n3 normal 5 0 2\n4 dead\n5 dead\n6 normal 6 0 5\n",
-        status: 0,
-        words: "",
+        ..PLAIN
     },
     // There may be 32 savepoints, and again as many after one was released.
     Case {
@@ -189,12 +162,9 @@ pub static SAVEPOINTS: [Case; 10] = [
             savepoint 0\nsavepoint 0\nsavepoint 0\nsavepoint 0\nsavepoint 0\nsavepoint 0\nsavepoint 0\nsavepoint 0\n\
             savepoint 0\nsavepoint 0\nsavepoint 0\nsavepoint 0\nrollbackto 0\nrelease 0\nsavepoint 0\nsavepoint 0\nids\n\
             page 0\n",
-        body: 0,
-        other: 0,
         answers: b"ok\nok\nok\nok\nok\nok\nok\nok\nok\nok\nok\nok\nok\nok\nok\nok\nok\nok\nok\nok\nok\nok\nok\nok\nok\nok\nok\nok\n\
             ok\nok\nok\nok\nok\nerror 11 TooDeep\nerror 11 TooDeep\nok\nok\nok\nerror 11 TooDeep\nnext 3 frozen_below 3\n\
             error 19 NoSuchPage\n",
-        status: 0,
-        words: "",
+        ..PLAIN
     },
 ];

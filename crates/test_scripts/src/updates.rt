@@ -1,6 +1,6 @@
 //! The worked scripts of updates, deletes, chains and entries, each beside what it has to answer.
 
-use crate::table::Case;
+use crate::table::{Case, PLAIN};
 
 /// The scripts on one page.
 pub static CHAINS: [Case; 8] = [
@@ -9,12 +9,9 @@ pub static CHAINS: [Case; 8] = [
         name: "prune_keeps_what_an_older_session_reads",
         script: b"heap 4 1000 0 3 64 0000\nbegin 0\ninsert 0 1 5 0 0 0 -\ncommit 0\nbegin 1\n\
             begin 0\nupdate 0 1 6 0 0 0 -\ncommit 0\nbegin 0\nupdate 0 1 7 0 0 0 -\ncommit 0\nprune 0\nget 1 1\npage 0\n",
-        body: 0,
-        other: 0,
         answers: b"ok\nok\ncommitted\nok\nok\nok\ncommitted\nok\nok\ncommitted\nok\nrow 1 5 0 0 0 -\n\
             page 0 change 5 visible 0 slots 3\n1 normal 3 4 1\n2 normal 4 5 1\n3 normal 5 0 1\n",
-        status: 0,
-        words: "",
+        ..PLAIN
     },
     // The same, and then the older session ends.
     Case {
@@ -22,76 +19,55 @@ pub static CHAINS: [Case; 8] = [
         script: b"heap 4 1000 0 3 64 0000\nbegin 0\ninsert 0 1 5 0 0 0 -\ncommit 0\nbegin 1\n\
             begin 0\nupdate 0 1 6 0 0 0 -\ncommit 0\nbegin 0\nupdate 0 1 7 0 0 0 -\ncommit 0\nprune 0\nget 1 1\npage 0\n\
             abort 1\nprune 0\npage 0\nentries 0\n",
-        body: 0,
-        other: 0,
         answers: b"ok\nok\ncommitted\nok\nok\nok\ncommitted\nok\nok\ncommitted\nok\nrow 1 5 0 0 0 -\n\
             page 0 change 5 visible 0 slots 3\n1 normal 3 4 1\n2 normal 4 5 1\n3 normal 5 0 1\n\
             rolled back\nok\npage 0 change 7 visible 0 slots 3\n1 redirect 3\n2 unused\n3 normal 5 0 1\n\
             entries 0 1\nentry 1 1 0 1\n",
-        status: 0,
-        words: "",
+        ..PLAIN
     },
     // A slot of an aborted update is given to another row: the walk from slot 1 doesn't go on to it.
     Case {
         name: "heap_only_slot_reused",
         script: b"heap 4 1000 0 3 64 0000\nbegin 0\ninsert 0 1 5 0 0 0 -\ncommit 0\n\
             begin 0\nupdate 0 1 6 0 0 0 -\nabort 0\nprune 0\npage 0\nbegin 0\ninsert 0 2 0 0 0 0 -\nget 0 1\npage 0\n",
-        body: 0,
-        other: 0,
         answers: b"ok\nok\ncommitted\nok\nok\nrolled back\nok\n\
             page 0 change 4 visible 0 slots 2\n1 normal 3 4 1\n2 unused\nok\nok\nrow 1 5 0 0 0 -\n\
             page 0 change 5 visible 0 slots 2\n1 normal 3 4 1\n2 normal 5 0 2\n",
-        status: 0,
-        words: "",
+        ..PLAIN
     },
     Case {
         name: "busy_then_free",
         script: b"heap 4 1000 0 3 64 0000\nbegin 0\ninsert 0 1 5 0 0 0 -\ncommit 0\nbegin 0\nbegin 1\n\
             update 0 1 6 0 0 0 -\nupdate 1 1 7 0 0 0 -\nabort 0\nupdate 1 1 7 0 0 0 -\nget 1 1\n",
-        body: 0,
-        other: 0,
         answers: b"ok\nok\ncommitted\nok\nok\nok\nerror 7 Busy 0\nrolled back\nok\nrow 1 7 0 0 0 -\n",
-        status: 0,
-        words: "",
+        ..PLAIN
     },
     Case {
         name: "busy_then_conflict",
         script: b"heap 4 1000 0 3 64 0000\nbegin 0\ninsert 0 1 5 0 0 0 -\ncommit 0\nbegin 0\nbegin 1\n\
             update 0 1 6 0 0 0 -\nupdate 1 1 7 0 0 0 -\ncommit 0\nupdate 1 1 7 0 0 0 -\nget 1 1\ncommit 1\n",
-        body: 0,
-        other: 0,
         answers: b"ok\nok\ncommitted\nok\nok\nok\nerror 7 Busy 0\ncommitted\nerror 6 Conflict\nerror 3 Failed\nrolled back\n",
-        status: 0,
-        words: "",
+        ..PLAIN
     },
     // The deleter 3 doesn't precede the horizon 3, and so the trace of the write stays.
     Case {
         name: "insert_of_a_key_inserted_and_deleted_since",
         script: b"heap 4 1000 0 3 64 0000\nbegin 1\nbegin 0\ninsert 0 9 0 0 0 0 -\ndelete 0 9\ncommit 0\nprune 0\ninsert 1 9 0 0 0 0 -\n",
-        body: 0,
-        other: 0,
         answers: b"ok\nok\nok\nok\ncommitted\nok\nerror 6 Conflict\n",
-        status: 0,
-        words: "",
+        ..PLAIN
     },
     Case {
         name: "already_there_not_there_no_such_session",
         script: b"heap 4 1000 0 3 64 0000\nbegin 0\ninsert 0 1 5 0 0 0 -\ncommit 0\nbegin 0\ninsert 0 1 5 0 0 0 -\ndelete 0 9\nget 64 1\n",
-        body: 0,
-        other: 0,
         answers: b"ok\nok\ncommitted\nok\nerror 4 AlreadyThere\nerror 5 NotThere\nerror 23 NoSuchSession\n",
-        status: 0,
-        words: "",
+        ..PLAIN
     },
     // Index 0 is that by key, and there is no other.
     Case {
         name: "entries_of_no_rows_and_no_index",
         script: b"heap 4 1000 0 3 64 0000\nentries 0\nentries 1\nentries 255\n",
-        body: 0,
-        other: 0,
         answers: b"entries 0 0\nerror 20 NoSuchIndex\nerror 20 NoSuchIndex\n",
-        status: 0,
-        words: "",
+        ..PLAIN
     },
 ];
 
@@ -112,8 +88,7 @@ pub static PAGES: [Case; 4] = [
             ok\nok\ncommitted\nok\nok\ncommitted\nok\nok\ncommitted\nok\nok\ncommitted\n\
             entries 0 8\nentry 1 1 0 1\nentry 2 2 0 2\nentry 3 3 0 3\nentry 4 4 0 4\n\
             entry 5 5 0 5\nentry 6 6 0 6\nentry 7 7 0 7\nentry 8 8 1 1\n",
-        status: 0,
-        words: "",
+        ..PLAIN
     },
     // There may be no second page, and the row just fits on the first.
     Case {
@@ -129,8 +104,7 @@ pub static PAGES: [Case; 4] = [
             ok\nok\ncommitted\nok\nok\ncommitted\nok\nok\ncommitted\nok\nok\ncommitted\n\
             entries 0 8\nentry 1 1 0 1\nentry 2 2 0 2\nentry 3 3 0 3\nentry 4 4 0 4\n\
             entry 5 5 0 5\nentry 6 6 0 6\nentry 7 7 0 7\nentry 8 8 0 8\n",
-        status: 0,
-        words: "",
+        ..PLAIN
     },
     // The new version is a root of its own, on the second page.
     Case {
@@ -146,8 +120,7 @@ pub static PAGES: [Case; 4] = [
             ok\nok\ncommitted\nok\nok\ncommitted\nok\nok\ncommitted\nok\nok\n\
             entries 0 8\nentry 1 1 0 1\nentry 1 1 1 1\nentry 2 2 0 2\nentry 3 3 0 3\n\
             entry 4 4 0 4\nentry 5 5 0 5\nentry 6 6 0 6\nentry 7 7 0 7\n",
-        status: 0,
-        words: "",
+        ..PLAIN
     },
     Case {
         name: "update_without_room",
@@ -160,7 +133,6 @@ pub static PAGES: [Case; 4] = [
         other: 1024,
         answers: b"ok\nok\ncommitted\nok\nok\ncommitted\nok\nok\ncommitted\nok\nok\ncommitted\n\
             ok\nok\ncommitted\nok\nok\ncommitted\nok\nok\ncommitted\nok\nerror 14 NoRoom\n",
-        status: 0,
-        words: "",
+        ..PLAIN
     },
 ];

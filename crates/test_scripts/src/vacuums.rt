@@ -1,6 +1,6 @@
 //! The worked scripts of vacuum and freezing, each beside what it has to answer.
 
-use crate::table::Case;
+use crate::table::{Case, PLAIN};
 
 /// The scripts of a vacuum's steps, of what it frees, and of ids that it freezes.
 pub static VACUUMS: [Case; 12] = [
@@ -10,12 +10,9 @@ pub static VACUUMS: [Case; 12] = [
         script: b"heap 4 1000 1000 3 64 0000\n\
             begin 0\ninsert 0 1 5 0 0 0 -\ncommit 0\nvacuum begin normal\nvacuum finish\npage 0\nvacuum begin normal\n\
             vacuum step\nvacuum begin aggressive\nvacuum step\nvacuum step\n",
-        body: 0,
-        other: 0,
         answers: b"ok\nok\ncommitted\nok\nended 3\npage 0 change 1 visible 1 slots 1\n1 normal 3 0 1\nok\nended 3\nok\nheap 0\n\
             ended 3\n",
-        status: 0,
-        words: "",
+        ..PLAIN
     },
     // An update takes back what was noted of its page.
     Case {
@@ -24,12 +21,9 @@ pub static VACUUMS: [Case; 12] = [
             begin 0\ninsert 0 1 5 0 0 0 -\ncommit 0\nvacuum begin normal\nvacuum finish\npage 0\nvacuum begin normal\n\
             vacuum step\nvacuum begin aggressive\nvacuum step\nvacuum step\nbegin 0\nupdate 0 1 6 0 0 0 -\ncommit 0\n\
             page 0\n",
-        body: 0,
-        other: 0,
         answers: b"ok\nok\ncommitted\nok\nended 3\npage 0 change 1 visible 1 slots 1\n1 normal 3 0 1\nok\nended 3\nok\nheap 0\n\
             ended 3\nok\nok\ncommitted\npage 0 change 3 visible 0 slots 2\n1 normal 3 4 1\n2 normal 4 0 1\n",
-        status: 0,
-        words: "",
+        ..PLAIN
     },
     // The slot of a root is given to another row when the entries that led there are gone.
     Case {
@@ -37,12 +31,9 @@ pub static VACUUMS: [Case; 12] = [
         script: b"heap 4 1000 0 3 64 0000\n\
             begin 0\ninsert 0 1 5 0 0 0 -\ncommit 0\nbegin 0\ndelete 0 1\ncommit 0\nprune 0\nbegin 0\n\
             insert 0 2 0 0 0 0 -\ncommit 0\nvacuum begin normal\nvacuum finish\nbegin 0\ninsert 0 3 0 0 0 0 -\npage 0\n",
-        body: 0,
-        other: 0,
         answers: b"ok\nok\ncommitted\nok\nok\ncommitted\nok\nok\nok\ncommitted\nok\nended 3\nok\nok\n\
             page 0 change 7 visible 0 slots 2\n1 normal 6 0 3\n2 normal 5 0 2\n",
-        status: 0,
-        words: "",
+        ..PLAIN
     },
     // What died since the heap was visited stays, with its entry, until the next vacuum.
     Case {
@@ -51,13 +42,10 @@ pub static VACUUMS: [Case; 12] = [
             begin 0\ninsert 0 1 0 0 0 0 -\ninsert 0 2 0 0 0 0 -\ninsert 0 3 0 0 0 0 -\ninsert 0 4 0 0 0 0 -\n\
             insert 0 5 0 0 0 0 -\ncommit 0\nbegin 0\ndelete 0 1\ncommit 0\nvacuum begin normal\nvacuum step\nvacuum step\n\
             begin 0\ndelete 0 5\ncommit 0\nprune 0\nvacuum step\nvacuum step\npage 0\nentries 0\n",
-        body: 0,
-        other: 0,
         answers: b"ok\nok\nok\nok\nok\nok\ncommitted\nok\nok\ncommitted\nok\nheap 0\nindex 0\nok\nok\ncommitted\nok\nfree 0\n\
             ended 3\npage 0 change 14 visible 0 slots 5\n1 unused\n2 normal 3 0 2\n3 normal 3 0 3\n4 normal 3 0 4\n\
             5 dead\nentries 0 4\nentry 2 2 0 2\nentry 3 3 0 3\nentry 4 4 0 4\nentry 5 5 0 5\n",
-        status: 0,
-        words: "",
+        ..PLAIN
     },
     // Only one dead slot is collected at a time, so there are two rounds, and the page is visited again.
     Case {
@@ -66,12 +54,9 @@ pub static VACUUMS: [Case; 12] = [
             begin 0\ninsert 0 1 0 0 0 0 -\ninsert 0 2 0 0 0 0 -\ncommit 0\nbegin 0\ndelete 0 1\ndelete 0 2\ncommit 0\n\
             vacuum begin normal\nvacuum step\nvacuum step\nvacuum step\nvacuum step\nvacuum step\nvacuum step\n\
             vacuum step\npage 0\n",
-        body: 0,
-        other: 0,
         answers: b"ok\nok\nok\ncommitted\nok\nok\nok\ncommitted\nok\nheap 0\nindex 0\nfree 0\nheap 0\nindex 0\nfree 0\nended 3\n\
             page 0 change 8 visible 2 slots 2\n1 unused\n2 unused\n",
-        status: 0,
-        words: "",
+        ..PLAIN
     },
     // What a vacuum did that was broken off stays, and the next one does the rest.
     Case {
@@ -80,12 +65,9 @@ pub static VACUUMS: [Case; 12] = [
             begin 0\ninsert 0 1 5 0 0 0 -\ncommit 0\nbegin 0\ndelete 0 1\ncommit 0\nvacuum begin normal\nvacuum step\n\
             vacuum step\nvacuum cancel\nvacuum step\nentries 0\nvacuum begin normal\nvacuum step\nvacuum step\n\
             vacuum step\nvacuum step\npage 0\n",
-        body: 0,
-        other: 0,
         answers: b"ok\nok\ncommitted\nok\nok\ncommitted\nok\nheap 0\nindex 0\nok\nerror 18 NoVacuum\nentries 0 0\nok\nheap 0\n\
             index 0\nfree 0\nended 3\npage 0 change 4 visible 2 slots 1\n1 unused\n",
-        status: 0,
-        words: "",
+        ..PLAIN
     },
     // An older reader holds the horizon back, so its cursor still finds the rows that others deleted.
     Case {
@@ -94,12 +76,9 @@ pub static VACUUMS: [Case; 12] = [
             begin 0\ninsert 0 1 30 0 0 0 -\ninsert 0 2 10 0 0 0 -\ninsert 0 3 20 0 0 0 -\ncommit 0\nbegin 1\n\
             openindex 1 1 0 100\nnext 1 1\nbegin 0\ndelete 0 1\ndelete 0 2\ndelete 0 3\ncommit 0\nprune 0\n\
             vacuum begin normal\nvacuum finish\ninsert 1 9 0 0 0 0 -\nnext 1 5\nnext 1 5\n",
-        body: 0,
-        other: 0,
         answers: b"ok\nok\nok\nok\ncommitted\nok\nok\nrows 1\nrow 2 10 0 0 0 -\nok\nok\nok\nok\ncommitted\nok\nok\nended 3\n\
             error 9 CursorOpen\nrows 2\nrow 3 20 0 0 0 -\nrow 1 30 0 0 0 -\nend\n",
-        status: 0,
-        words: "",
+        ..PLAIN
     },
     // The id of an update that was rolled back is taken off the version that stays.
     Case {
@@ -107,12 +86,9 @@ pub static VACUUMS: [Case; 12] = [
         script: b"heap 4 1000 0 3 64 0000\n\
             begin 0\ninsert 0 1 5 0 0 0 -\ncommit 0\nbegin 0\nupdate 0 1 6 0 0 0 -\nabort 0\nvacuum begin normal\n\
             vacuum step\nvacuum step\npage 0\n",
-        body: 0,
-        other: 0,
         answers: b"ok\nok\ncommitted\nok\nok\nrolled back\nok\nheap 0\nended 3\npage 0 change 5 visible 2 slots 2\n\
             1 normal 3 0 1\n2 unused\n",
-        status: 0,
-        words: "",
+        ..PLAIN
     },
     // The reader's horizon is the cutoff, so the new version stays unfrozen.
     Case {
@@ -120,12 +96,9 @@ pub static VACUUMS: [Case; 12] = [
         script: b"heap 4 1000 0 3 64 0000\n\
             begin 0\ninsert 0 1 5 0 0 0 -\ncommit 0\nbegin 1\nbegin 0\nupdate 0 1 6 0 0 0 -\ncommit 0\n\
             vacuum begin aggressive\nvacuum finish\nget 1 1\npage 0\n",
-        body: 0,
-        other: 0,
         answers: b"ok\nok\ncommitted\nok\nok\nok\ncommitted\nok\nended 4\nrow 1 5 0 0 0 -\npage 0 change 4 visible 0 slots 2\n\
             1 normal 3 4 1\n2 normal 4 0 1\n",
-        status: 0,
-        words: "",
+        ..PLAIN
     },
     // Ids are given again when an aggressive vacuum has frozen the old ones.
     Case {
@@ -134,13 +107,10 @@ pub static VACUUMS: [Case; 12] = [
             begin 0\ninsert 0 1 0 0 0 0 -\ncommit 0\nbegin 0\ninsert 0 2 0 0 0 0 -\ncommit 0\nbegin 0\n\
             insert 0 3 0 0 0 0 -\ncommit 0\nbegin 0\ninsert 0 4 0 0 0 0 -\ncommit 0\npage 0\nbegin 0\n\
             insert 0 5 0 0 0 0 -\nabort 0\nvacuum begin aggressive\nvacuum finish\nbegin 0\ninsert 0 5 0 0 0 0 -\nids\n",
-        body: 0,
-        other: 0,
         answers: b"ok\nok\ncommitted\nok\nok\ncommitted\nok\nok\ncommitted\nok\nok\ncommitted\n\
             page 0 change 4 visible 0 slots 4\n1 normal 3 0 1\n2 normal 4 0 2\n3 normal 5 0 3\n4 normal 6 0 4\nok\n\
             error 15 NeedsFreeze\nrolled back\nok\nended 7\nok\nok\nnext 8 frozen_below 7\n",
-        status: 0,
-        words: "",
+        ..PLAIN
     },
     // From 4294967294 on it is five steps to 3, over the ids 0 to 2 that are never given.
     Case {
@@ -151,13 +121,10 @@ pub static VACUUMS: [Case; 12] = [
             abort 0\nvacuum begin aggressive\nvacuum finish\nbegin 0\ninsert 0 5 0 0 0 0 -\ncommit 0\nbegin 0\n\
             insert 0 6 0 0 0 0 -\ncommit 0\nbegin 0\ninsert 0 99 0 0 0 0 -\nids\nabort 0\nvacuum begin aggressive\n\
             vacuum finish\n",
-        body: 0,
-        other: 0,
         answers: b"ok\nok\ncommitted\nok\nok\ncommitted\nok\nok\ncommitted\nok\nok\ncommitted\nok\nerror 15 NeedsFreeze\n\
             rolled back\nok\nended 4294967294\nok\nok\ncommitted\nok\nok\ncommitted\nok\nerror 15 NeedsFreeze\n\
             next 3 frozen_below 4294967294\nrolled back\nok\nended 3\n",
-        status: 0,
-        words: "",
+        ..PLAIN
     },
     // With a stop age of one each id that is given has to be frozen before the next.
     Case {
@@ -169,12 +136,9 @@ pub static VACUUMS: [Case; 12] = [
             commit 0\nvacuum begin aggressive\nvacuum finish\nbegin 0\ninsert 0 5 0 0 0 0 -\ncommit 0\n\
             vacuum begin aggressive\nvacuum finish\nbegin 0\ninsert 0 6 0 0 0 0 -\ncommit 0\nvacuum begin aggressive\n\
             vacuum finish\n",
-        body: 0,
-        other: 0,
         answers: b"ok\nended 4294967290\nok\nok\ncommitted\nok\nended 4294967291\nok\nok\ncommitted\nok\nended 4294967292\nok\n\
             ok\ncommitted\nok\nended 4294967293\nok\nok\ncommitted\nok\nended 4294967294\nok\nok\ncommitted\nok\n\
             ended 4294967295\nok\nok\ncommitted\nok\nended 3\n",
-        status: 0,
-        words: "",
+        ..PLAIN
     },
 ];

@@ -1,6 +1,7 @@
 //! The worked scripts, from their first line to their end.
 
 use crate::cursors::CURSORS;
+use crate::keys::KEYS;
 use crate::makings::MAKINGS;
 use crate::plans::PLANS;
 use crate::savepoints::SAVEPOINTS;
@@ -105,6 +106,11 @@ fn worked_statements(rt: HostRuntime) -> Result<(), Fail> {
 #[test]
 fn worked_cursors(rt: HostRuntime) -> Result<(), Fail> {
     run_all(rt.alloc(), &CURSORS)
+}
+
+#[test]
+fn worked_keys(rt: HostRuntime) -> Result<(), Fail> {
+    run_all(rt.alloc(), &KEYS)
 }
 
 #[test]
