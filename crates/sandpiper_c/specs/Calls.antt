@@ -11,7 +11,7 @@ use Rattle.calls.specs.declared.reply.Reply.{Reply}
 use Rattle.calls.specs.declared.reply.Reply.TheVariants as reply
 use Rattle.calls.specs.declared.reply.Refusal.TheVariants as refusal
 use Rattle.calls.specs.Words.{RowToWrite, FirstFault}
-use Rattle.waiting_engine.specs.Clauses.{WaitingFollows, WaitingExact, IsNewWaiting}
+use Rattle.session_core.specs.Clauses.{WaitingFollows, WaitingExact, IsNewWaiting}
 use Rattle.sandpiper_c.specs.declared.database.Sandpiper.{Sandpiper}
 use Rattle.sandpiper_c.specs.declared.held.Held.{Held}
 use Rattle.sandpiper_c.specs.declared.settings.SandpiperSettings.{SandpiperSettings}

@@ -7,7 +7,7 @@ use Rattle.calls.specs.declared.reply.Reply.{Reply}
 use Rattle.calls.specs.declared.reply.Refusal.{Refusal}
 use Rattle.session_steps.specs.NextRows.{places_after, count_in, ExactNextRows}
 use Rattle.vacuum_engine.specs.State.{noted}
-use Rattle.waiting_engine.specs.Clauses.{WaitingFollows}
+use Rattle.session_core.specs.Clauses.{WaitingFollows}
 use Rattle.sandpiper_c.specs.declared.database.Sandpiper.{Sandpiper}
 use Rattle.sandpiper_c.specs.declared.held.Held.{Held}
 use Rattle.sandpiper_c.specs.declared.status.CallStatus.{CallStatus}

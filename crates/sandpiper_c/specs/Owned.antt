@@ -5,8 +5,8 @@ use denote.RawPtr.{Ptr}
 use Rattle.std.specs.contracts.impls.GlobalAllocator.TheImpl.{ghosts}
 use Rattle.std_alloc.specs.Box.Ownership.{box_owns}
 use Rattle.sandpiper_c.specs.Heap.{the_heap}
-use Rattle.tickets.specs.View.{TicketView}
-use Rattle.tickets.specs.contracts.ticket.Ticket as ticket
+use Rattle.table_scans.specs.Tickets.{TicketView}
+use Rattle.table_scans.specs.contracts.ticket.Ticket as ticket
 use Rattle.sandpiper_c.specs.contracts.held.Held as held
 use Rattle.sandpiper_c.specs.declared.held.Held.{Held}
 

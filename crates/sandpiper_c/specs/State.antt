@@ -8,7 +8,7 @@ use Rattle.calls.specs.declared.vacuum.Mode.{Mode}
 use Rattle.calls.specs.declared.vacuum.Mode.TheVariants.{Normal, Aggressive}
 use Rattle.session_steps.specs.State.{State, engine_index, open_bits}
 use Rattle.vacuum_passes.specs.View.{VacuumView}
-use Rattle.waiting_engine.specs.State.{WaitingView}
+use Rattle.session_core.specs.State.{WaitingView}
 use Rattle.sandpiper_c.specs.declared.database.Sandpiper.{Sandpiper}
 use Rattle.sandpiper_c.specs.declared.held.Held.{Held}
 use Rattle.sandpiper_c.specs.declared.state.SandpiperState.{SandpiperState}

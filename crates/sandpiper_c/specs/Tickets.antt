@@ -4,7 +4,7 @@ use Rattle.xid_circle.specs.Numbers.{SessionNo, PageNo, Count}
 use Rattle.tuple_header.specs.declared.row_place.RowPlace.{RowPlace}
 use Rattle.tuple_header.specs.declared.version.Row.{Row}
 use Rattle.tuple_header.specs.Places.{places_with}
-use Rattle.tickets.specs.View.{TicketView, ticket_rows}
+use Rattle.table_scans.specs.Tickets.{TicketView, ticket_rows}
 use Rattle.calls.specs.declared.reply.Refusal.{Refusal}
 use Rattle.calls.specs.declared.reply.Refusal.TheVariants as refusal
 use Rattle.session_steps.specs.State.{State}

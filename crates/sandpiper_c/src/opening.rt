@@ -3,7 +3,7 @@
 ghost use Rattle.std.specs.Prelude.{◌≡◌, IfOk, IfErr};
 ghost use Rattle.calls.specs.declared.reply.Reply.TheVariants as reply;
 ghost use Rattle.calls.specs.Words.{FirstFault};
-ghost use Rattle.waiting_engine.specs.Clauses.{IsNewWaiting};
+ghost use Rattle.session_core.specs.Clauses.{IsNewWaiting};
 ghost use Rattle.sandpiper_c.specs.Calls.{settings_of, OpensTable, ClosesTable};
 
 use crate::database::Sandpiper;

@@ -2,7 +2,7 @@
 
 ghost use Rattle.std.specs.Prelude.{◌≡◌, ◌≤◌, None, length, IfOk, MatchResult};
 ghost use Rattle.tuple_header.specs.Places.{places_with};
-ghost use Rattle.tickets.specs.View.{ticket_rows};
+ghost use Rattle.table_scans.specs.Tickets.{ticket_rows};
 ghost use Rattle.session_steps.specs.Tickets.{TakesTicket, AreViewed};
 ghost use Rattle.sandpiper_c.specs.Calls.{StaysAsIs};
 ghost use Rattle.sandpiper_c.specs.Tickets.{core_of, ticket_by, RefusesPage, GivesTicket, GivesTicketOf, ShowsRows, ReadsRows, ReadsTicket, ClosesTicket};
@@ -13,7 +13,7 @@ use crate::status::CallStatus;
 use crate::ticket::SandpiperTicket;
 use session_core::{Refusal, RowPlace};
 use std::alloc::Global;
-use tickets::{Ticket, resolve};
+use table_scans::{Ticket, resolve};
 use tuple_header::{Row, RowRef};
 
 /// The page's ticket, on the heap.

@@ -7,7 +7,7 @@ use crate::block::Block;
 use crate::ticket_handle::TicketHandle;
 use std::alloc::Global;
 use std::mem::replace;
-use tickets::Ticket;
+use table_scans::Ticket;
 
 /// A ticket, or none: all zeros is none. C keeps it, may move it, and never copies it or changes what is in it.
 #[repr(C)]

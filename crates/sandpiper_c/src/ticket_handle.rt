@@ -1,12 +1,12 @@
 //! A pointer that owns a ticket, or nothing.
 
 ghost use Rattle.std.specs.Prelude.{◌≡◌, Option, Some, None, IsSome};
-ghost use Rattle.tickets.specs.View.{TicketView};
+ghost use Rattle.table_scans.specs.Tickets.{TicketView};
 
 use crate::block::Block;
 use std::marker::Model;
 use std::ptr::null_mut;
-use tickets::Ticket;
+use table_scans::Ticket;
 
 /// A pointer to a ticket, which C never sees, and owns. It cannot be let go: who has one ends it by `into_block` or by `forget`.
 #[repr(C)]

@@ -17,10 +17,9 @@ use Rattle.session_steps.specs.Replies.{found_reply}
 use Rattle.vacuum_engine.specs.State.{EngineView, is_session}
 use Rattle.vacuum_engine.specs.Exact.{ExactBesideVacuum}
 use Rattle.vacuum_engine.proofs.Others.{others-follow}
-use Rattle.waiting_engine.specs.State.{WaitingView}
-use Rattle.waiting_engine.specs.Laws.{with_waits}
-use Rattle.waiting_engine.specs.Notes.{gives_back, NotesWait}
-use Rattle.waiting_engine.proofs.Noting.{Follows, noted-follows}
+use Rattle.session_core.specs.State.{WaitingView, with_waits}
+use Rattle.session_core.specs.Notes.{gives_back, NotesWait}
+use Rattle.session_core.proofs.Noting.{Follows, noted-follows}
 use Rattle.session_core.proofs.Stepping.{beside-exact}
 
 -- what bars from a look is not Busy

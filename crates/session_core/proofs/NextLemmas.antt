@@ -16,10 +16,9 @@ use Rattle.vacuum_passes.specs.View.{disturbed}
 use Rattle.refinement.specs.Allowed.{Allows}
 use Rattle.vacuum_engine.specs.Between.{KeepsOrTakes, Changes}
 use Rattle.vacuum_engine.proofs.Others.{sessions-follow}
-use Rattle.waiting_engine.specs.State.{WaitingView, freed}
-use Rattle.waiting_engine.specs.Clauses.{WaitingFollows}
-use Rattle.waiting_engine.specs.Laws.{with_waits}
-use Rattle.waiting_engine.proofs.Waiting.{unblocked-follows}
+use Rattle.session_core.specs.State.{WaitingView, freed, with_waits}
+use Rattle.session_core.specs.Clauses.{WaitingFollows}
+use Rattle.session_core.proofs.Waiting.{unblocked-follows}
 use Rattle.session_core.specs.NextRows.{EngineNextRows}
 
 -- the cursor of one session alone moves, or nothing changes

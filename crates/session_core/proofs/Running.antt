@@ -6,8 +6,8 @@ use Rattle.calls.specs.declared.step.Step.{Step}
 use Rattle.calls.specs.declared.reply.Reply.{Reply}
 use Rattle.history.specs.World.{World, beginning}
 use Rattle.refinement.specs.Allowed.{IsRun, after_reply, after}
-use Rattle.waiting_engine.specs.State.{WaitingView, WaitingAgrees}
-use Rattle.waiting_engine.specs.Clauses.{WaitingFollows, WaitingExact, IsNewWaiting}
+use Rattle.session_core.specs.State.{WaitingView, WaitingAgrees}
+use Rattle.session_core.specs.Clauses.{WaitingFollows, WaitingExact, IsNewWaiting}
 use Rattle.session_core.specs.Runs.{RepliesLead, Ran}
 
 -- a list before, at and behind a place

@@ -7,9 +7,8 @@ use Rattle.calls.specs.declared.reply.Refusal.TheVariants as refusal
 use Rattle.session_steps.specs.declared.outcome.Ack.{Ack}
 use Rattle.session_steps.specs.declared.outcome.Ack.TheVariants.{Done, Committed, RolledBack}
 use Rattle.session_steps.specs.Replies.{reply_to}
-use Rattle.waiting_engine.specs.State.{WaitingView, woken}
-use Rattle.waiting_engine.specs.Laws.{with_waits}
-use Rattle.waiting_engine.specs.Notes.{was_refused, NotesWait}
+use Rattle.session_core.specs.State.{WaitingView, woken, with_waits}
+use Rattle.session_core.specs.Notes.{was_refused, NotesWait}
 
 -- no wait begins
 pub notes-other : (old : WaitingView) (s : ℕ) (gives : Bool) (given : Reply) (new : WaitingView) → ((o : ℕ) → given ≢ reply.Refused (refusal.Busy o))

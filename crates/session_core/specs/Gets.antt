@@ -10,8 +10,8 @@ use Rattle.calls.specs.Bars.{BarsReady}
 use Rattle.session_steps.specs.State.{State, engine_sessions}
 use Rattle.session_steps.specs.Exact.{AnswersStep}
 use Rattle.session_steps.specs.Replies.{found_reply}
-use Rattle.waiting_engine.specs.State.{WaitingView}
-use Rattle.waiting_engine.specs.Clauses.{WaitingFollows, WaitingExact}
+use Rattle.session_core.specs.State.{WaitingView}
+use Rattle.session_core.specs.Clauses.{WaitingFollows, WaitingExact}
 
 -- whether there is a row
 abbrev pub whether_found : Result (Option Row) Refusal → Result Bool Refusal

@@ -7,8 +7,8 @@ use Rattle.calls.specs.declared.reply.Reply.{Reply}
 use Rattle.calls.specs.declared.reply.Refusal.{Refusal}
 use Rattle.session_steps.specs.NextRows.{WritesReply, ExactNextRows}
 use Rattle.vacuum_passes.specs.View.{disturbed}
-use Rattle.waiting_engine.specs.State.{WaitingView}
-use Rattle.waiting_engine.specs.Clauses.{WaitingFollows}
+use Rattle.session_core.specs.State.{WaitingView}
+use Rattle.session_core.specs.Clauses.{WaitingFollows}
 
 -- It is answered as a step that asks for as many rows as there are places, by a reply that the history allows; and a running vacuum is
 -- disturbed by it, and its session's own wait ends, as by a session's step.

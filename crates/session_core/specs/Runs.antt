@@ -10,8 +10,8 @@ use Rattle.calls.specs.Writes.{HasBody}
 use Rattle.refinement.specs.Allowed.{after}
 use Rattle.session_core.specs.declared.runs.RunFault.{RunFault}
 use Rattle.session_core.specs.declared.runs.RunFault.TheVariants as fault
-use Rattle.waiting_engine.specs.State.{WaitingView, WaitingAgrees}
-use Rattle.waiting_engine.specs.Clauses.{WaitingFollows, WaitingExact, IsNewWaiting}
+use Rattle.session_core.specs.State.{WaitingView, WaitingAgrees}
+use Rattle.session_core.specs.Clauses.{WaitingFollows, WaitingExact, IsNewWaiting}
 
 -- the engine's states one after another: by each step and its reply it follows the history, and does what the history leaves
 -- to it exactly

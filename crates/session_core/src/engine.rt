@@ -14,8 +14,8 @@ ghost use Rattle.calls.specs.Steps.{session_of};
 ghost use Rattle.vacuum_engine.specs.State.{is_session};
 ghost use Rattle.vacuum_engine.specs.Exact.{EngineExact};
 ghost use Rattle.vacuum_engine.specs.Clauses.{EngineFollows};
-ghost use Rattle.waiting_engine.specs.Clauses.{WaitingFollows, WaitingExact, IsNewWaiting};
-ghost use Rattle.waiting_engine.specs.Notes.{gives_back};
+ghost use Rattle.session_core.specs.Clauses.{WaitingFollows, WaitingExact, IsNewWaiting};
+ghost use Rattle.session_core.specs.Notes.{gives_back};
 ghost use Rattle.session_core.specs.NextRows.{EngineNextRows};
 
 use calls::{Refusal, Reply, Row, Settings, SettingsFault, Step};
@@ -38,7 +38,7 @@ pub struct Engine {
 }
 
 impl Model for Engine {
-    ghost use Rattle.waiting_engine.specs.State.{WaitingView};
+    ghost use Rattle.session_core.specs.State.{WaitingView};
 
     ghost Value = { WaitingView };
 

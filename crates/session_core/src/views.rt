@@ -2,7 +2,7 @@
 
 ghost use Rattle.std.specs.Prelude.{◌≡◌, ◌≤◌, ◌-◌, drop, take, length, IfOk, MatchResult};
 ghost use Rattle.page_views.specs.View.{pages_behind, numbered};
-ghost use Rattle.tickets.specs.View.{ticket_rows};
+ghost use Rattle.table_scans.specs.Tickets.{ticket_rows};
 ghost use Rattle.session_steps.specs.Tickets.{TakesTicket, RefusesTicket, AreViewed};
 ghost use Rattle.session_core.specs.Views.{AreViews, RefusesViews};
 
@@ -13,7 +13,7 @@ use page_views::PageViews;
 use session_steps::SessionEngine;
 use std::alloc::{AllocError, Global};
 use std::sync::Arc;
-use tickets::Ticket;
+use table_scans::Ticket;
 
 /// The pages from one number up to another, each beside its number.
 fn share_pages(
@@ -57,7 +57,7 @@ impl Engine {
         Ok(PageViews::of(pages, statuses, self.core.horizon()))
     }
 
-    /// The page of this number with what a statement of the session sees of it, for [`tickets::resolve`] to give the rows at any time. It
+    /// The page of this number with what a statement of the session sees of it, for [`table_scans::resolve`] to give the rows at any time. It
     /// is no step, and changes nothing; whatever is written later, the ticket stays as it was. Refusals in order: NoSuchSession,
     /// NotOpen, Failed, NoSuchPage, NoMemory.
     pub fn take_page(&mut self, session: u8, page: u32) -> Result<Ticket, Refusal>

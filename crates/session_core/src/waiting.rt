@@ -1,9 +1,8 @@
 //! For whom each session waits.
 
 ghost use Rattle.std.specs.Prelude.{◌≡◌, ◌≢◌, ◌&&◌, not, ℕ, if◌then◌else◌, false, None, slice_set, MatchOption};
-ghost use Rattle.waiting_engine.specs.State.{woken};
-ghost use Rattle.waiting_engine.specs.Laws.{with_waits};
-ghost use Rattle.waiting_engine.specs.Notes.{was_refused, NotesWait};
+ghost use Rattle.session_core.specs.State.{woken, with_waits};
+ghost use Rattle.session_core.specs.Notes.{was_refused, NotesWait};
 ghost use Rattle.session_steps.specs.Replies.{reply_to};
 ghost use Rattle.vacuum_engine.specs.State.{failed_at};
 

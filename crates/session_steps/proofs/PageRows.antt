@@ -6,7 +6,7 @@ use Rattle.std.proofs.lemmas.Option.{same_Some, slice_get_within}
 use Rattle.tuple_header.specs.declared.version.Row.{Row}
 use Rattle.history.specs.World.{World, OpenSession, view}
 use Rattle.history.specs.Cursors.{AreOf}
-use Rattle.tickets.specs.View.{TicketView, ticket_rows}
+use Rattle.table_scans.specs.Tickets.{TicketView, ticket_rows}
 use Rattle.calls.specs.declared.step.Step.TheVariants as step
 use Rattle.calls.specs.declared.reply.Reply.TheVariants as reply
 use Rattle.calls.specs.declared.reply.Refusal.{Refusal}

@@ -10,8 +10,8 @@ use Rattle.tuple_header.specs.Version.{Version}
 use Rattle.page_slots.specs.View.{PageView}
 use Rattle.visibility.specs.Visible.{IsVisible}
 use Rattle.visibility.specs.declared.reader.Reader.{Reader}
-use Rattle.tickets.specs.View.{TicketView, ticket_rows}
-use Rattle.tickets.specs.Seen.{AreSeenOn}
+use Rattle.table_scans.specs.Tickets.{TicketView, ticket_rows}
+use Rattle.table_scans.specs.Seen.{AreSeenOn}
 use Rattle.history.specs.World.{World, OpenSession, view}
 use Rattle.history.specs.Cursors.{AreOf}
 use Rattle.refinement.specs.Agrees.{Shows}

@@ -4,7 +4,7 @@ use Rattle.std.specs.List.{flat_map}
 use Rattle.xid_circle.specs.Numbers.{SessionNo, PageNo}
 use Rattle.tuple_header.specs.declared.version.Row.{Row}
 use Rattle.visibility.specs.Visible.{IsVisible}
-use Rattle.tickets.specs.View.{TicketView, ticket_rows}
+use Rattle.table_scans.specs.Tickets.{TicketView, ticket_rows}
 use Rattle.table_scans.specs.Scans.{Sight, start_of}
 use Rattle.table_scans.specs.Takes.{TakesAll}
 use Rattle.calls.specs.declared.step.TheConstants.{MOST_SESSIONS}

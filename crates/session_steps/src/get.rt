@@ -11,8 +11,7 @@ ghost use Rattle.session_steps.specs.Tickets.{AreTicketRows, RefusesTicket};
 
 use crate::engine::SessionEngine;
 use calls::{Refusal, Reply, Row};
-use table_scans::no_row;
-use tickets::resolve;
+use table_scans::{no_row, resolve};
 use tuple_header::RowRef;
 
 impl SessionEngine {

@@ -2,7 +2,7 @@
 
 ghost use Rattle.std.specs.Prelude.{◌≡◌, ◌<◌, Some, length, slice_get, IfOk, MatchResult};
 ghost use Rattle.std.specs.Arc.{arc_value};
-ghost use Rattle.tickets.specs.View.{ticket_rows};
+ghost use Rattle.table_scans.specs.Tickets.{ticket_rows};
 ghost use Rattle.session_steps.specs.Tickets.{TakesTicket, RefusesTicket, AreViewed};
 
 use crate::engine::SessionEngine;
@@ -11,7 +11,7 @@ use commit_status::StatusTable;
 use page_slots::Page;
 use std::alloc::AllocError;
 use std::sync::Arc;
-use tickets::Ticket;
+use table_scans::Ticket;
 
 impl SessionEngine {
     /// The page of this number, which is in use, as it is now, for readers to keep whatever is written later. Memory is asked for where

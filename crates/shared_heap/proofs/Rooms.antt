@@ -15,7 +15,7 @@ use Rattle.table_scans.specs.declared.progress.Scan.TheVariants.{Index, Heap}
 use Rattle.table_scans.specs.Scans.{Sight}
 use Rattle.table_scans.specs.Takes.{Takes}
 use Rattle.session_steps.specs.Takes.{session_sight}
-use Rattle.waiting_engine.specs.State.{WaitingView}
+use Rattle.session_core.specs.State.{WaitingView}
 use Rattle.shared_heap.specs.Replies.{ListFits, HasRoomFor}
 use Rattle.shared_heap.proofs.Scanned.{few-scanned, few-keys_scanned}
 

@@ -5,8 +5,8 @@ use Rattle.calls.specs.declared.settings.Settings.{Settings}
 use Rattle.calls.specs.declared.step.Step.{Step}
 use Rattle.calls.specs.declared.reply.Reply.{Reply}
 use Rattle.refinement.specs.Allowed.{after}
-use Rattle.waiting_engine.specs.State.{WaitingView, WaitingAgrees}
-use Rattle.waiting_engine.specs.Clauses.{WaitingExact, WaitingFollows, IsNewWaiting}
+use Rattle.session_core.specs.State.{WaitingView, WaitingAgrees}
+use Rattle.session_core.specs.Clauses.{WaitingExact, WaitingFollows, IsNewWaiting}
 use Rattle.session_core.specs.Runs.{RepliesLead}
 use Rattle.session_core.proofs.Running.{Leads-run}
 use Rattle.shared_heap.specs.Books.{BookView, noted_steps, noted_replies, IsBookOf, IsRunOf, IsBook, HasRun, Appends}

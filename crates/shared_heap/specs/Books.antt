@@ -12,8 +12,8 @@ use Rattle.refinement.specs.Allowed.{IsRun, after}
 use Rattle.session_core.specs.declared.runs.RunFault.{RunFault}
 use Rattle.session_core.specs.declared.runs.RunFault.TheVariants as fault
 use Rattle.session_core.specs.Runs.{RepliesLead}
-use Rattle.waiting_engine.specs.State.{WaitingView, WaitingAgrees}
-use Rattle.waiting_engine.specs.Clauses.{WaitingExact, WaitingFollows, IsNewWaiting}
+use Rattle.session_core.specs.State.{WaitingView, WaitingAgrees}
+use Rattle.session_core.specs.Clauses.{WaitingExact, WaitingFollows, IsNewWaiting}
 use Rattle.shared_heap.specs.Replies.{IsSame}
 
 pub record BookView : Type 0 where

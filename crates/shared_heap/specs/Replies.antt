@@ -5,8 +5,8 @@ use Rattle.calls.specs.declared.step.Step.{Step}
 use Rattle.calls.specs.declared.reply.Reply.{Reply}
 use Rattle.calls.specs.declared.reply.Reply.TheVariants as reply
 use Rattle.calls.specs.declared.reply.Refusal.TheVariants as refusal
-use Rattle.waiting_engine.specs.State.{WaitingView, WaitingAgrees}
-use Rattle.waiting_engine.specs.Clauses.{WaitingExact, WaitingFollows}
+use Rattle.session_core.specs.State.{WaitingView, WaitingAgrees}
+use Rattle.session_core.specs.Clauses.{WaitingExact, WaitingFollows}
 
 -- the same reply: a list of rows or keys by what it holds, wherever that is
 abbrev pub IsSame : Reply → Reply → Type 0

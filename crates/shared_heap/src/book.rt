@@ -2,7 +2,7 @@
 
 ghost use Rattle.std.specs.Prelude.{◌≡◌, [], IfOk, IfErr, OnOk, MatchResult};
 ghost use Rattle.calls.specs.Words.{AreSettings};
-ghost use Rattle.tickets.specs.View.{ticket_rows};
+ghost use Rattle.table_scans.specs.Tickets.{ticket_rows};
 ghost use Rattle.session_steps.specs.Tickets.{TakesTicket, RefusesTicket, AreViewed};
 ghost use Rattle.session_core.specs.Views.{AreViews, RefusesViews};
 ghost use Rattle.shared_heap.specs.Books.{IsBookOf, HasRun, Appends, Calls, FirstThreadsFault};
@@ -12,7 +12,7 @@ use page_views::PageViews;
 use session_core::{Engine, Refusal, Reply, RunFault, Settings, SettingsFault, Step};
 use std::alloc::{AllocError, Global};
 use std::marker::Model;
-use tickets::Ticket;
+use table_scans::Ticket;
 
 /// An engine with the journal of the calls that it answered, oldest first: a run from a new engine, at whose end the engine is.
 #[derive(Drop)]
@@ -76,7 +76,7 @@ impl Book {
         self.engine.page_views(self.alloc, from, to)
     }
 
-    /// The page of this number with what a statement of the session sees of it, for [`tickets::resolve`] to give the rows outside the latch.
+    /// The page of this number with what a statement of the session sees of it, for [`table_scans::resolve`] to give the rows outside the latch.
     /// It is no step, and isn't noted. Refusals in order: NoSuchSession, NotOpen, Failed, NoSuchPage, NoMemory.
     pub fn take_page(&mut self, session: u8, page: u32) -> Result<Ticket, Refusal>
         ensures same { self.new ≡ self.old }

@@ -9,7 +9,7 @@ use page_views::PageViews;
 use session_core::{Refusal, Reply, RunFault, Settings, Step};
 use std::alloc::Global;
 use std::sync::{Condvar, Mutex, Wait};
-use tickets::Ticket;
+use table_scans::Ticket;
 
 /// A book under a latch.
 #[derive(Drop)]

@@ -3,3 +3,5 @@ pub mod ScanLemmas
 pub mod TakeLemmas
 pub mod PutLemmas
 pub mod KeyLemmas
+pub mod TicketRows
+pub mod SeenLemmas

@@ -6,7 +6,7 @@ use shared_heap::Shared;
 use std::alloc::{AllocError, Global};
 use std::sync::Wait;
 use std::test::Fail;
-use tickets::{Ticket, resolve};
+use table_scans::{Ticket, resolve};
 
 const ROWS: usize = 10;
 

@@ -1,5 +1,5 @@
 use Rattle.std.proofs.Common.{sym, subst}
-use Rattle.tickets.specs.View.{TicketView, ticket_rows}
+use Rattle.table_scans.specs.Tickets.{TicketView, ticket_rows}
 use Rattle.session_steps.specs.Tickets.{AreViewed}
 use Rattle.sandpiper_c.specs.Tickets.{core_of}
 use Rattle.sandpiper_c.proofs.taking.new_ticket.Goals as goal

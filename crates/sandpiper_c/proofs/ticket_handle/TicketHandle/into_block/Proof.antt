@@ -21,8 +21,8 @@ use Rattle.std.proofs.raw_atomic.Walks.{proved_at, leaves}
 use Rattle.std.specs.Prelude.{Option, Some, IsSome}
 use Rattle.sandpiper_c.proofs.Pointers.{param_at, ptr_typed, pointer_val, pointer_own, pointer_told, pointer_made, pointer_typed, by_some}
 use Rattle.sandpiper_c.specs.Owned.{owned_ticket}
-use Rattle.tickets.specs.View.{TicketView}
-use Rattle.tickets.specs.contracts.ticket.Ticket as held
+use Rattle.table_scans.specs.Tickets.{TicketView}
+use Rattle.table_scans.specs.contracts.ticket.Ticket as held
 use Rattle.sandpiper_c.specs.contracts.block.Block as row
 use Rattle.sandpiper_c.specs.contracts.ticket_handle.TicketHandle.into_block.{ended, clauses}
 use Rattle.sandpiper_c.specs.contracts.ticket_handle.TicketHandle.into_block.Key.{name as #self}

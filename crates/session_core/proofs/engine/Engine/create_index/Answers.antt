@@ -2,7 +2,7 @@ use Rattle.std.proofs.Common.{◌≡◌, ◌∙◌, true, false, sym, ap, subst}
 use Rattle.session_steps.specs.State.{State}
 use Rattle.session_steps.specs.Making.{HasOrMakes, RefusesIndexOn}
 use Rattle.vacuum_engine.specs.State.{EngineView}
-use Rattle.waiting_engine.specs.State.{WaitingView}
+use Rattle.session_core.specs.State.{WaitingView}
 use Rattle.session_core.proofs.Creating.{create-barred, create-refused, create-done}
 use Rattle.session_core.proofs.engine.Engine.create_index.Goals as goal
 

@@ -1,7 +1,7 @@
 use Rattle.std.proofs.Common.{◌↔◌, ◌≤◌, ℕ, ◌∙◌, ap, subst}
 use Rattle.commit_status.specs.Window.{Window}
 use Rattle.commit_status.specs.Changes.{CanGive}
-use Rattle.waiting_engine.specs.State.{WaitingView}
+use Rattle.session_core.specs.State.{WaitingView}
 use Rattle.session_core.proofs.engine.Engine.ids_left.Goals as goal
 
 pub returns : goal.returns

@@ -1,9 +1,9 @@
 use Rattle.std.proofs.Common.{List, Option, ℕ, None, refl, sym, subst}
 use Rattle.vacuum_engine.specs.State.{EngineView}
 use Rattle.vacuum_engine.proofs.NewEngines.{new-engine}
-use Rattle.waiting_engine.specs.Clauses.{IsNewWaiting}
-use Rattle.waiting_engine.specs.Laws.{with_waits}
-use Rattle.waiting_engine.proofs.Waiting.{new-is_waiting}
+use Rattle.session_core.specs.Clauses.{IsNewWaiting}
+use Rattle.session_core.specs.State.{with_waits}
+use Rattle.session_core.proofs.Waiting.{new-is_waiting}
 use Rattle.session_core.proofs.engine.Engine.new.Goals as goal
 
 pub returns-in-Ok-clause-new : goal.returns-in-Ok-clause-new

@@ -1,7 +1,7 @@
 use Rattle.std.proofs.Common.{◌∙◌, None, set, ap, subst}
 use Rattle.session_steps.specs.State.{State}
 use Rattle.session_steps.specs.NextRows.{AnswersNextRows}
-use Rattle.waiting_engine.specs.State.{WaitingView}
+use Rattle.session_core.specs.State.{WaitingView}
 use Rattle.session_core.proofs.NextLemmas.{engine-next_rows}
 use Rattle.session_core.proofs.engine.Engine.next_rows.Goals as goal
 

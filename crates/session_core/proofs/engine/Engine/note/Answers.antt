@@ -1,8 +1,7 @@
 use Rattle.std.proofs.Common.{◌∙◌, cond, set, None, sym, ap, subst}
 use Rattle.calls.specs.declared.reply.Reply.TheVariants as reply
-use Rattle.waiting_engine.specs.State.{woken}
-use Rattle.waiting_engine.specs.Laws.{with_waits}
-use Rattle.waiting_engine.specs.Notes.{NotesWait}
+use Rattle.session_core.specs.State.{woken, with_waits}
+use Rattle.session_core.specs.Notes.{NotesWait}
 use Rattle.session_core.proofs.Waits.{notes-other}
 use Rattle.session_core.proofs.engine.Engine.note.Goals as goal
 

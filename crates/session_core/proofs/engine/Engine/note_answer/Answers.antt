@@ -1,6 +1,6 @@
 use Rattle.std.proofs.Common.{Ok, Err, sym, ap, subst, ◌∙◌}
 use Rattle.session_steps.specs.Replies.{reply_to}
-use Rattle.waiting_engine.specs.Notes.{NotesWait}
+use Rattle.session_core.specs.Notes.{NotesWait}
 use Rattle.session_core.proofs.Waits.{notes-done, notes-refused}
 use Rattle.session_core.proofs.engine.Engine.note_answer.Goals as goal
 

@@ -2,7 +2,7 @@ use Rattle.std.proofs.Common.{◌≡◌, subst, Some}
 use Rattle.std.specs.Prelude.{MatchResult}
 use Rattle.history.specs.World.{World, OpenSession, view, world_sessions}
 use Rattle.session_steps.specs.Agrees.{Agrees}
-use Rattle.waiting_engine.specs.State.{WaitingView}
+use Rattle.session_core.specs.State.{WaitingView}
 use Rattle.session_core.proofs.engine.Engine.read.Goals as goal
 use Rattle.calls.specs.Bars.{BarsOpen}
 

@@ -1,7 +1,7 @@
 use Rattle.std.proofs.Common.{◌∙◌, List, sym, subst, take, drop, ◌+◌, arith, refl, length}
 use Rattle.calls.specs.declared.step.Step.{Step}
 use Rattle.calls.specs.declared.reply.Reply.{Reply}
-use Rattle.waiting_engine.specs.Clauses.{WaitingFollows, WaitingExact}
+use Rattle.session_core.specs.Clauses.{WaitingFollows, WaitingExact}
 use Rattle.session_core.specs.Runs.{RepliesLead, for_replies, for_copy}
 use Rattle.session_core.proofs.Running.{Leads-more, Leads-all, split_at, positive}
 use Rattle.session_core.proofs.engine.Engine.replies_to.Goals as goal

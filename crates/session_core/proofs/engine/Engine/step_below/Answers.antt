@@ -7,7 +7,7 @@ use Rattle.session_steps.specs.Vacuums.{IsSetUp}
 use Rattle.session_steps.specs.State.{State, is_answered_above}
 use Rattle.session_steps.specs.Exact.{AnswersStep}
 use Rattle.vacuum_engine.specs.State.{EngineView}
-use Rattle.waiting_engine.specs.State.{WaitingView}
+use Rattle.session_core.specs.State.{WaitingView}
 use Rattle.vacuum_engine.specs.Clauses.{EngineFollows}
 use Rattle.vacuum_engine.proofs.Vacuums.{above-follows}
 use Rattle.vacuum_engine.proofs.Others.{others-follow}

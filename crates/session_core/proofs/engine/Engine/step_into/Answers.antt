@@ -1,7 +1,7 @@
 use Rattle.std.proofs.Common.{◌∙◌, Bool, List, Option, ℕ, sym, subst}
-use Rattle.waiting_engine.specs.Laws.{with_waits}
-use Rattle.waiting_engine.specs.Notes.{NotesWait}
-use Rattle.waiting_engine.proofs.Noting.{Follows, noted-follows, ownerless-follows}
+use Rattle.session_core.specs.State.{with_waits}
+use Rattle.session_core.specs.Notes.{NotesWait}
+use Rattle.session_core.proofs.Noting.{Follows, noted-follows, ownerless-follows}
 use Rattle.session_core.proofs.engine.Engine.step_into.Goals as goal
 
 pub returns : goal.returns

@@ -2,7 +2,7 @@ use Rattle.std.proofs.Common.{Some, None, refl, sym, ap, ◌∙◌, subst}
 use Rattle.calls.specs.declared.reply.Reply.{Reply}
 use Rattle.calls.specs.declared.reply.Reply.TheVariants as reply
 use Rattle.session_steps.specs.Vacuums.{VacuumWorks}
-use Rattle.waiting_engine.specs.State.{WaitingView}
+use Rattle.session_core.specs.State.{WaitingView}
 use Rattle.vacuum_engine.specs.Exact.{DoesStep, ExactVacuumStep}
 use Rattle.session_core.proofs.Stepping.{ended}
 use Rattle.session_core.proofs.engine.Engine.step_vacuum.Goals as goal

@@ -1,8 +1,7 @@
 use Rattle.std.proofs.Common.{◌≡◌, ◌∙◌, true, false, Some, set, refl, sym, ap, subst, inl, inr}
 use Rattle.history.specs.World.{ClosesRing}
 use Rattle.waits.specs.View.{wait_in}
-use Rattle.waiting_engine.specs.State.{WaitingView}
-use Rattle.waiting_engine.specs.Laws.{with_waits}
+use Rattle.session_core.specs.State.{WaitingView, with_waits}
 use Rattle.session_core.proofs.engine.Engine.wait_for.Goals as goal
 
 pub returns-then-closes_ring : goal.returns-then-closes_ring

@@ -1,7 +1,7 @@
 use Rattle.std.proofs.Common.{List, [], ◌∷◌, ◌++◌, ap, sym, subst, ◌∙◌}
 use Rattle.calls.specs.declared.step.Step.{Step}
 use Rattle.calls.specs.declared.reply.Reply.{Reply}
-use Rattle.waiting_engine.specs.Clauses.{WaitingExact, WaitingFollows}
+use Rattle.session_core.specs.Clauses.{WaitingExact, WaitingFollows}
 use Rattle.shared_heap.specs.Books.{BookView, Appends}
 use Rattle.shared_heap.proofs.Running.{IsBook-more, IsBook-agrees, world_of}
 use Rattle.shared_heap.proofs.book.Book.try_call.Goals as goal

@@ -1,5 +1,0 @@
-use Rattle.tickets.proofs.Noting.{HasNoted}
-use Rattle.tickets.proofs.seeing.seen_slots.Given as goal
-
-abbrev pub invariant-loop-slot : goal.invariant-loop-slot
-invariant-loop-slot l = HasNoted l.page l.reader l.slot l.slots l.seen.items

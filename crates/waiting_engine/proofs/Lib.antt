@@ -1,3 +1,0 @@
-pub mod WaitsAfter
-pub mod Waiting
-pub mod Noting

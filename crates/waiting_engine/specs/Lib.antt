@@ -1,4 +1,0 @@
-pub mod State
-pub mod Clauses
-pub mod Laws
-pub mod Notes
