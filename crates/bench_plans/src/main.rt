@@ -3,9 +3,9 @@
 //!     bench_plans PAGES ROUNDS
 #![tactic(auto)]
 
-use page_plans::{PageViews, plan_pages};
+use page_plans::{PageViews, PrunePlan, plan_pages_into};
 use session_core::{Engine, Reply, RowIn, Settings, Step};
-use std::alloc::{AllocError, Global};
+use std::alloc::Global;
 use std::env::Args;
 use std::process::ExitCode;
 use std::thread::Threads;
@@ -60,19 +60,15 @@ fn full_pages(alloc: Global, pages: u32) -> Option<PageViews> {
 }
 
 /// How many slots the plans of the pages name.
-fn slots_to_prune(
-    rt: &(impl Threads + Sync),
-    alloc: Global,
-    views: &PageViews,
-) -> Result<usize, AllocError> {
+fn slots_named(plans: &[(u32, PrunePlan)]) -> usize {
     let mut slots = 0usize;
-    for (_, plan) in plan_pages(rt, alloc, views)?.iter() {
+    for (_, plan) in plans {
         slots = slots.saturating_add(plan.actions.len());
     }
-    Ok(slots)
+    slots
 }
 
-/// Plans the pages in each round, and says how many slots were named in all.
+/// Plans the pages in each round, into one list, and says how many slots the plans of the last one name.
 fn plan_rounds(
     rt: &(impl Threads + Print + Sync),
     alloc: Global,
@@ -82,11 +78,12 @@ fn plan_rounds(
     let Some(views) = full_pages(alloc, pages) else {
         return Ok(false);
     };
-    let mut slots = 0usize;
+    let mut plans = Vec::new(alloc);
     for _ in 0..rounds {
-        slots = slots.saturating_add(slots_to_prune(rt, alloc, &views)?);
+        plan_pages_into(rt, &views, &mut plans)?;
     }
-    println!(rt; "{pages} pages, {slots} slots named in {rounds} rounds")?;
+    let slots = slots_named(plans.as_slice());
+    println!(rt; "{pages} pages, {slots} slots named, planned {rounds} times")?;
     Ok(true)
 }
 

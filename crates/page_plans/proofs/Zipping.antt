@@ -1,20 +1,13 @@
--- Plans of pages that readers share are those of what the pages hold.
-use Rattle.std.proofs.Common.{List, [], ◌∷◌, ℕ}
+-- Lists of one length, place by place.
+use Rattle.std.proofs.Common.{◌≡◌, ◌<◌, List, [], ◌∷◌, ℕ, Some, suc, length, slice_index_or, refl, arith}
+use Rattle.std.specs.Prelude.{slice_get}
 use Rattle.std.specs.List.{AllZip}
-use Rattle.std.specs.declared.sync.Arc.{Arc}
-use Rattle.std.specs.declared.boxed.Box.{Box}
-use Rattle.std.specs.declared.alloc.Global.{Global}
-use Rattle.xid_circle.specs.Numbers.{Id, PageNo}
-use Rattle.page_slots.specs.View.{PageView}
-use Rattle.commit_status.specs.Window.{Window}
-use Rattle.prune.specs.declared.action.PrunePlan.{PrunePlan}
-use Rattle.page_views.specs.View.{page_behind, pages_behind}
-use Rattle.page_plans.specs.Plans.{IsPlanOfPage}
 
-pub planned-behind : (w : Window) (horizon : Id) (pages : List (ℕ × Arc (Box PageView Global) Global)) (plans : List (PageNo × PrunePlan))
-    → AllZip (λ (page : ℕ × Arc (Box PageView Global) Global) (plan : PageNo × PrunePlan). IsPlanOfPage w horizon (page_behind page) plan) pages plans
-    → AllZip (IsPlanOfPage w horizon) (pages_behind pages) plans
-planned-behind w horizon [] [] all = all
-planned-behind w horizon [] (p ∷ plans) all = absurd all
-planned-behind w horizon (page ∷ pages) [] all = absurd all
-planned-behind w horizon (page ∷ pages) (p ∷ plans) all = (all.0, planned-behind w horizon pages plans all.1)
+-- What holds at each place holds of the lists.
+pub zipped-at : {X Y : Type 0} (R : X → Y → Type 0) (xs : List X) (ys : List Y) → length ys ≡ length xs
+    → ((i : ℕ) (d : Y) → i < length ys → (x : X) → slice_get xs i ≡ Some x → R x (slice_index_or ys i d)) → AllZip R xs ys
+zipped-at R [] [] same each = tt
+zipped-at R [] (y ∷ ys) same each = absurd (omega (same, arith))
+zipped-at R (x ∷ xs) [] same each = absurd (omega (same, arith))
+zipped-at R (x ∷ xs) (y ∷ ys) same each =
+    (each 0 y (omega arith) x refl, zipped-at R xs ys (omega (same, arith)) (λ i d lt z at. each (suc i) d (omega (lt, arith)) z at))

@@ -1,5 +1,5 @@
 -- The plan of a page as it was.
-use Rattle.std.specs.Prelude.{◌≡◌}
+use Rattle.std.specs.Prelude.{◌≡◌, ℕ, List, Some, slice_get}
 use Rattle.xid_circle.specs.Numbers.{Id, PageNo}
 use Rattle.page_slots.specs.View.{PageView}
 use Rattle.commit_status.specs.Window.{Window}
@@ -16,3 +16,7 @@ pub record IsPlanOfPage (statuses : Window) (horizon : Id) (page : PageNo × Pag
   pub exact : IsPlan statuses horizon page.1.slots plan.1.actions.items
   pub checks : NoSharedSlots (has_aborted statuses) page.1.slots
       → Checks statuses horizon page.1 plan.1.change plan.1.actions.items
+
+-- So it is of the page at this place.
+abbrev pub IsPlanAt : Window → Id → List (PageNo × PageView) → ℕ → PageNo × PrunePlan → Type 0
+IsPlanAt statuses horizon pages at plan = (page : PageNo × PageView) → slice_get pages at ≡ Some page → IsPlanOfPage statuses horizon page plan

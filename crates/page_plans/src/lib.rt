@@ -7,5 +7,5 @@
 mod plans;
 
 pub use page_views::PageViews;
-pub use plans::plan_pages;
+pub use plans::{plan_pages, plan_pages_into};
 pub use prune::{Action, PrunePlan};

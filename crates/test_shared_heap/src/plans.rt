@@ -1,7 +1,7 @@
 //! Plans of pruning, made by threads from pages that were taken under the latch.
 
 use crate::rows::{SETTINGS, row};
-use page_plans::{Action, plan_pages};
+use page_plans::{Action, plan_pages, plan_pages_into};
 use session_core::{Refusal, Reply, Step};
 use shared_heap::Shared;
 use std::alloc::Global;
@@ -27,7 +27,8 @@ fn make_chain<R: Wait>(rt: &R, alloc: Global, shared: &Shared) -> Reply {
     shared.call(rt, Step::Abort(1))
 }
 
-// The first slot is to lead to the third, and the second to become unused. What is written after the pages were taken isn't seen.
+// The first slot is to lead to the third, and the second to become unused. What is written after the pages were taken isn't seen. The
+// same plans come where they are put in the place of others.
 #[test]
 fn plans_of_pages_as_they_were(rt: HostRuntime) -> Result<(), Fail> {
     let alloc = rt.alloc();
@@ -39,7 +40,10 @@ fn plans_of_pages_as_they_were(rt: HostRuntime) -> Result<(), Fail> {
         return Err(Fail::new(format_args!("no pages")));
     };
     update(&rt, alloc, &shared, 8);
-    let plans = plan_pages(&rt, alloc, &views)?;
+    let mut plans = plan_pages(&rt, alloc, &views)?;
+    plans.clear();
+    plan_pages_into(&rt, &views, &mut plans)?;
+    plan_pages_into(&rt, &views, &mut plans)?;
     assert_eq!(rt; plans.len(), 1);
     let (number, plan) = &plans[0];
     assert_eq!(rt; *number, 0);
