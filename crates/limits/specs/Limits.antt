@@ -5,6 +5,7 @@ use Rattle.dead_places.specs.declared.dead_set.TheConstants.{MOST_PLACES}
 use Rattle.page_slots.specs.Slots.{room_of}
 use Rattle.root_index.specs.View.{free_places}
 use Rattle.heap_pages.specs.declared.pages.TheConstants.{MOST_PAGES}
+use Rattle.status_cache.specs.declared.cache.TheConstants.{MOST_STATUSES}
 use Rattle.snapshot.specs.declared.own.TheConstants.{MOST_SAVEPOINTS}
 use Rattle.snapshot.specs.Snap.{are_many}
 use Rattle.calls.specs.declared.reply.Refusal.TheVariants as refusal
@@ -24,6 +25,8 @@ pub record LimitsAre : Type 0 where
   pub savepoints : MOST_SAVEPOINTS ≡ 32
   -- that a vacuum collects before it goes through the indexes
   pub dead_slots : MOST_PLACES ≡ 4096
+  -- of the ids that were asked for last
+  pub held_statuses : MOST_STATUSES ≡ 1024
   -- of a transaction's child ids in a snapshot
   pub listed : are_many (replicate 64 3) ≡ false
   pub not_listed : are_many (replicate 65 3) ≡ true

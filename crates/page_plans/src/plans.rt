@@ -89,7 +89,8 @@ fn plan_each(
         plans,
         |at: usize, place: &mut (u32, PrunePlan)|
             requires { at < length pages.now }
-            ensures { IsPlanAt statuses.entry.now horizon.0 (pages_behind pages.entry.now) at place.new }
+            ensures { IsPlanAt statuses.entry.now horizon.0 (pages_behind pages.entry.now)
+                at place.new }
         {
             *place = plan_one(&pages[at], statuses, horizon);
         },

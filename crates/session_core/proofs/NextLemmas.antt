@@ -18,11 +18,11 @@ use Rattle.vacuum_engine.specs.Between.{KeepsOrTakes, Changes}
 use Rattle.vacuum_engine.proofs.Others.{sessions-follow}
 use Rattle.session_core.specs.State.{WaitingView, freed, with_waits}
 use Rattle.session_core.specs.Clauses.{WaitingFollows}
-use Rattle.session_core.proofs.Waiting.{unblocked-follows}
+use Rattle.session_core.proofs.WaitingSteps.{unblocked-follows}
 use Rattle.session_core.specs.NextRows.{EngineNextRows}
 
 -- the cursor of one session alone moves, or nothing changes
-next-change : (old new : core.State) (s n : ℕ) (reply : Reply) → ExactNextRows old s n reply new → Changes old new
+pub next-change : (old new : core.State) (s n : ℕ) (reply : Reply) → ExactNextRows old s n reply new → Changes old new
 next-change old new s n (reply.Rows rows) e = Changes.becomes s e.1.session (with_cursor (Some (Rows e.1.after)) e.1.session) e.1.there (KeepsOrTakes.keeps refl) e.1.is
 next-change old new s n (reply.Keys keys) e = Changes.becomes s e.1.session (with_cursor (Some (Keys e.1.after)) e.1.session) e.1.there (KeepsOrTakes.keeps refl) e.1.is
 next-change old new s n reply.End e = Changes.nothing e

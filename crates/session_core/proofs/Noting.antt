@@ -16,7 +16,7 @@ use Rattle.session_core.specs.State.{WaitingView, ended, blocked, woken, given_b
 use Rattle.session_core.specs.Clauses.{WaitingFollows, WaitingExact}
 use Rattle.session_core.proofs.WaitingLaws.{IsNeverBusy, NotedFollows, OwnerlessFollows}
 use Rattle.session_core.specs.Notes.{gives_back}
-use Rattle.session_core.proofs.Waiting.{unblocked-follows, unblocked-is_exact, blocked-follows, deadlock-follows}
+use Rattle.session_core.proofs.WaitingSteps.{unblocked-follows, unblocked-is_exact, blocked-follows, deadlock-follows}
 
 abbrev pub Follows : WaitingView → Step → Reply → WaitingView → Type 0
 Follows old step reply new = WaitingFollows old step reply new × WaitingExact old step reply new

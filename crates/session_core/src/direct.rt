@@ -52,6 +52,7 @@ impl Engine {
         ensures exact { WaitingExact self.old (Step.Begin s) (reply_to result) self.new }
     {
         self.disturb(true);
+        self.core.fact_set_up();
         let answer = self.core.begin(s);
         self.note_answer(s, false, answer)
     }
@@ -64,6 +65,7 @@ impl Engine {
         ensures exact { WaitingExact self.old (Step.Commit s) (reply_to result) self.new }
     {
         self.disturb(true);
+        self.core.fact_set_up();
         let answer = self.core.commit(s);
         self.note_answer(s, true, answer)
     }
@@ -75,6 +77,7 @@ impl Engine {
         ensures exact { WaitingExact self.old (Step.Abort s) (reply_to result) self.new }
     {
         self.disturb(true);
+        self.core.fact_set_up();
         let answer = self.core.abort(s);
         self.note_answer(s, true, answer)
     }

@@ -22,6 +22,7 @@ use calls::{Refusal, Reply, Row, Settings, SettingsFault, Step};
 use page_slots::Page;
 use root_index::RootIndex;
 use session_steps::SessionEngine;
+use status_cache::StatusCache;
 use std::alloc::Global;
 use std::marker::Model;
 use tuple_header::RowPlace;
@@ -29,16 +30,21 @@ use vacuum_passes::Vacuum;
 use waits::Waits;
 use xid_circle::Xid;
 
-/// A table with its sessions, of which there may be 64 open at a time, and a vacuum. It is kept for whom each session waits.
+/// A table with its sessions, of which there may be 64 open at a time, and a vacuum. It is kept for whom each session waits, and of
+/// ids that were asked for last what became of them: after each step as the table has it.
 #[derive(Drop)]
 pub struct Engine {
+    pub(crate) alloc: Global,
     pub(crate) core: SessionEngine,
     pub(crate) vacuum: Option<Vacuum>,
     pub(crate) waits: Waits,
+    // made when an id is first asked for, if there is memory for it
+    pub(crate) cache: Option<StatusCache>,
 }
 
 impl Model for Engine {
     ghost use Rattle.session_core.specs.State.{WaitingView};
+    ghost use Rattle.status_cache.specs.Held.{KeepsCache};
 
     ghost Value = { WaitingView };
 
@@ -46,6 +52,8 @@ impl Model for Engine {
       engine = record { core = e.core; vacuum = e.vacuum };
       waits = e.waits;
     } };
+
+    ghost invariant = { λ e. KeepsCache e.cache e.core.heap.statuses };
 }
 
 /// Whether a step is a session's, be that open or not.
@@ -113,9 +121,11 @@ impl Engine {
             Ok(core) => {
                 let waits = Waits::new();
                 Ok(Engine {
+                    alloc,
                     core,
                     vacuum: None,
                     waits,
+                    cache: None,
                 })
             }
             Err(fault) => Err(fault),

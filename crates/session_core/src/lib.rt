@@ -14,6 +14,7 @@ mod direct;
 mod engine;
 mod making;
 mod runs;
+mod statuses;
 mod vacuuming;
 mod views;
 mod waiting;
@@ -21,8 +22,10 @@ mod waiting;
 pub use calls::{
     Action, Mode, Piece, PlanIn, Refusal, Reply, Row, RowIn, Settings, SettingsFault, Step,
 };
+pub use commit_status::Status;
 pub use engine::Engine;
 pub use page_slots::Page;
 pub use runs::{RunFault, run};
 pub use session_steps::Ack;
 pub use tuple_header::RowPlace;
+pub use xid_circle::Xid;

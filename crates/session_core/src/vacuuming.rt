@@ -1,12 +1,24 @@
 //! The steps of a vacuum.
 
 ghost use Rattle.std.specs.Prelude.{◌≡◌, None, MatchOption};
+ghost use Rattle.std.specs.Option.{option_map};
+ghost use Rattle.status_cache.specs.Held.{held_from};
 ghost use Rattle.session_steps.specs.Vacuums.{Forgets};
 ghost use Rattle.vacuum_engine.specs.Exact.{ExactVacuumBegin, ExactVacuumStep, ExactVacuumCancel};
 
 use crate::engine::Engine;
 use calls::{Mode, Refusal, Reply};
+use status_cache::StatusCache;
 use xid_circle::Xid;
+
+/// Drops each id before the cutoff from the cache, if there is one.
+fn truncate(cache: &mut Option<StatusCache>, cutoff: Xid)
+    ensures { cache.new ≡ option_map (held_from cutoff.0) cache.old }
+{
+    if let Some(cache) = cache {
+        cache.truncate(cutoff);
+    }
+}
 
 impl Engine {
     /// Begins a vacuum of this mode. It fixes the horizon, the cutoff, the pages that it visits and how many entries the indexes have.
@@ -53,10 +65,22 @@ impl Engine {
     {
         self.vacuum = None;
         if let Some(cutoff) = cutoff {
-            self.core.forget(cutoff);
+            self.forget(cutoff);
         }
         let (_, first) = self.core.ids();
         first.0
+    }
+
+    /// Forgets the ids before the cutoff, where they can be forgotten, in the table and in the cache.
+    fn forget(&mut self, cutoff: Xid)
+        ensures core { Forgets self.old.engine.core self.new.engine.core cutoff.0 }
+        ensures vacuum { self.new.engine.vacuum ≡ self.old.engine.vacuum }
+        ensures waits { self.new.waits ≡ self.old.waits }
+    {
+        self.core.statuses().fact_window();
+        self.core.forget(cutoff);
+        self.core.statuses().fact_window();
+        truncate(&mut self.cache, cutoff);
     }
 
     /// Drops the vacuum. What it did stays. Refusals: NoVacuum. It takes no memory.

@@ -7,7 +7,7 @@ ghost use Rattle.commit_status.specs.Changes.{numbers};
 ghost use Rattle.commit_status.specs.Window.{IsUpToNext};
 ghost use Rattle.forgetting.specs.Cutoffs.{aged, cutoff_at};
 ghost use Rattle.session_steps.specs.declared.session.Session.{Session as OpenSession};
-ghost use Rattle.session_steps.specs.Keeps.{open_at};
+ghost use Rattle.session_steps.specs.Keeps.{open_at, OwnIdsKeep};
 ghost use Rattle.session_steps.specs.Vacuums.{IsSetUp, vacuum_begun, VacuumWorks, MayForget, Forgets};
 
 use crate::engine::SessionEngine;
@@ -75,10 +75,11 @@ fn own_from(sessions: &[Option<Session>], cutoff: Xid) -> bool
 }
 
 impl SessionEngine {
-    /// That its settings are in their ranges, and its indexes are those that it was made with. It does nothing; its contract is the
-    /// fact.
+    /// That its settings are in their ranges, and its indexes are those that it was made with. And that each own id of an open session
+    /// is in progress, there once, and no other's, and each id in progress a session's. It does nothing; its contract is the fact.
     pub fn fact_set_up(&self)
-        ensures { IsSetUp self.now }
+        ensures set_up { IsSetUp self.now }
+        ensures own_ids { OwnIdsKeep self.now.sessions self.now.heap.statuses }
     {
         self.heap.fact_indexes();
         let _limit = self.settings.dead_limit();

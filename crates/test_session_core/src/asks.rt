@@ -3,7 +3,7 @@
 use page_slots::{Page, Slot};
 use session_core::{
     Action, Engine, Mode, Piece, PlanIn, Refusal, Reply, Row, RowIn, RowPlace, Settings,
-    SettingsFault, Step, run,
+    SettingsFault, Status, Step, Xid, run,
 };
 use std::alloc::{AllocError, Global};
 use std::test::Fail;
@@ -48,10 +48,10 @@ pub enum Ask {
     Read(u8, u64),
     /// The next id to be given, and the oldest that is remembered.
     Ids,
-    /// How many slots a page has, and besides its bits, or its room and how often it was changed.
+    /// What became of an id.
+    Status(u32),
+    /// How many slots a page has, and besides its bits, or its room and how often it was changed; or that alone.
     Page(u32),
-    /// How often a page was changed.
-    Changes(u32),
     /// What a slot of the first page holds.
     Slot(u16),
     /// The id that deleted the version in a slot of the first page.
@@ -82,6 +82,8 @@ pub enum Answer {
     RolledBack,
     Refused(Refusal),
     Ids(u32, u32),
+    /// Nothing is known of an id that is not remembered.
+    Status(Option<Status>),
     /// So many slots, and these bits.
     Slots(u16, u8),
     /// So many slots, this room, and so many changes.
@@ -282,10 +284,7 @@ fn reads(engine: &Engine, s: u8, key: u64, answer: Answer) -> bool {
 
 fn are_ids(engine: &Engine, answer: Answer) -> bool {
     let (next, oldest) = engine.ids();
-    match answer {
-        Answer::Ids(told, below) => next.0 == told && oldest.0 == below,
-        _ => false,
-    }
+    matches!(answer, Answer::Ids(told, below) if next.0 == told && oldest.0 == below)
 }
 
 fn is_page(engine: &Engine, number: u32, answer: Answer) -> bool {
@@ -295,15 +294,9 @@ fn is_page(engine: &Engine, number: u32, answer: Answer) -> bool {
         (Some(page), Answer::Page(slots, room, changes)) => {
             page.slots() == slots && page.room() == room && page.change() == changes
         }
+        (Some(page), Answer::Changes(told)) => page.change() == told,
         (Some(_), Answer::SomePage) => true,
         (None, Answer::NoPage) => bits.is_none(),
-        _ => false,
-    }
-}
-
-fn are_changes(engine: &Engine, number: u32, answer: Answer) -> bool {
-    match (engine.page(number), answer) {
-        (Some(page), Answer::Changes(told)) => page.change() == told,
         _ => false,
     }
 }
@@ -348,7 +341,6 @@ fn shows(engine: &Engine, ask: Ask, answer: Answer) -> bool {
         Ask::Read(s, key) => reads(engine, s, key, answer),
         Ask::Ids => are_ids(engine, answer),
         Ask::Page(number) => is_page(engine, number, answer),
-        Ask::Changes(number) => are_changes(engine, number, answer),
         Ask::Entries(number) => are_entries(engine, number, answer),
         _ => first_page_shows(engine, ask, answer),
     }
@@ -398,6 +390,9 @@ fn answers(
 ) -> Result<bool, AllocError> {
     if let Ask::Places(s, places) = ask {
         return Ok(hands_out(engine, s, places, answer));
+    }
+    if let (Ask::Status(id), Answer::Status(told)) = (ask, answer) {
+        return Ok(engine.status_of(Xid(id)) == told);
     }
     match reply_to(alloc, engine, ask)? {
         Some(reply) => Ok(is_answer(&reply, ask, answer)),

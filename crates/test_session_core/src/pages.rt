@@ -59,7 +59,7 @@ static ABORTED: [(Ask, Answer); 11] = [
     (Ask::Slot(1), Answer::Dead),
     (Ask::Slot(2), Answer::Normal),
     // two inserts and the slot that died
-    (Ask::Changes(0), Answer::Changes(3)),
+    (Ask::Page(0), Answer::Changes(3)),
     (Ask::Read(1, 8), Answer::Body(0)),
 ];
 

@@ -126,7 +126,7 @@ static PLANNED: [(Ask, Answer); 18] = [
     (Ask::ApplyPlan(0, 5, &[]), Answer::Done),
     (Ask::ApplyPlan(0, 5, FRONT), Answer::Done),
     (Ask::Slot(1), Answer::Redirect(3)),
-    (Ask::Changes(0), Answer::Changes(7)),
+    (Ask::Page(0), Answer::Changes(7)),
 ];
 
 #[test]

@@ -1,7 +1,7 @@
 //! Vacuums, step by step, with each answer that they may have, reckoned by hand.
 
 use crate::asks::{Answer, Ask, ONE_PAGE, ask_new};
-use session_core::{Mode, Piece, Refusal, Settings};
+use session_core::{Mode, Piece, Refusal, Settings, Status};
 use std::test::Fail;
 
 /// The ids end with 7: the next one would be 5 away from the first.
@@ -38,11 +38,12 @@ fn one_vacuum_runs_at_a_time(rt: HostRuntime) -> Result<(), Fail> {
     ask_new(rt.alloc(), SETTINGS, &ONE_RUNS_AT_A_TIME)
 }
 
-static AN_AGGRESSIVE_ONE_ENDS: [(Ask, Answer); 41] = [
+static AN_AGGRESSIVE_ONE_ENDS: [(Ask, Answer); 45] = [
     // Id 3, slots 1 and 2.
     (Ask::Begin(0), Answer::Done),
     (Ask::Insert(0, 1, 10), Answer::Done),
     (Ask::Insert(0, 2, 20), Answer::Done),
+    (Ask::Status(3), Answer::Status(Some(Status::InProgress))),
     (Ask::Commit(0), Answer::Committed),
     // Ids 4 and 5, slot 3.
     (Ask::Begin(0), Answer::Done),
@@ -62,6 +63,8 @@ static AN_AGGRESSIVE_ONE_ENDS: [(Ask, Answer); 41] = [
     (Ask::Insert(0, 5, 50), Answer::Refused(Refusal::NeedsFreeze)),
     (Ask::Commit(0), Answer::Committed),
     (Ask::Ids, Answer::Ids(8, 3)),
+    (Ask::Status(3), Answer::Status(Some(Status::Committed))),
+    (Ask::Status(6), Answer::Status(Some(Status::Aborted))),
     (Ask::VacuumBegin(Mode::Aggressive), Answer::Done),
     (Ask::VacuumStep, Answer::Worked(Piece::Heap(0))),
     (Ask::Slot(1), Answer::Dead),
@@ -79,6 +82,7 @@ static AN_AGGRESSIVE_ONE_ENDS: [(Ask, Answer); 41] = [
     // It began when the next id was 8, and no session was open.
     (Ask::VacuumStep, Answer::Ended(8)),
     (Ask::Ids, Answer::Ids(8, 8)),
+    (Ask::Status(3), Answer::Status(None)),
     (Ask::Begin(0), Answer::Done),
     (Ask::Insert(0, 5, 50), Answer::Done),
     (Ask::Slot(1), Answer::Normal),

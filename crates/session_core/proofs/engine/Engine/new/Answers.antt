@@ -3,7 +3,7 @@ use Rattle.vacuum_engine.specs.State.{EngineView}
 use Rattle.vacuum_engine.proofs.NewEngines.{new-engine}
 use Rattle.session_core.specs.Clauses.{IsNewWaiting}
 use Rattle.session_core.specs.State.{with_waits}
-use Rattle.session_core.proofs.Waiting.{new-is_waiting}
+use Rattle.session_core.proofs.WaitingSteps.{new-is_waiting}
 use Rattle.session_core.proofs.engine.Engine.new.Goals as goal
 
 pub returns-in-Ok-clause-new : goal.returns-in-Ok-clause-new

@@ -4,7 +4,9 @@ use Rattle.calls.specs.declared.reply.Reply.TheVariants as reply
 use Rattle.session_steps.specs.Vacuums.{VacuumWorks}
 use Rattle.session_core.specs.State.{WaitingView}
 use Rattle.vacuum_engine.specs.Exact.{DoesStep, ExactVacuumStep}
+use Rattle.session_steps.proofs.Forgetting.{steps-table}
 use Rattle.session_core.proofs.Stepping.{ended}
+use Rattle.session_core.proofs.Caching.{same-keeps}
 use Rattle.session_core.proofs.engine.Engine.step_vacuum.Goals as goal
 use Rattle.session_core.proofs.engine.Engine.step_vacuum.Goals.{in-Some-vacuum_step, in-None}
 
@@ -33,3 +35,10 @@ returns-clause-exact c =
           subst (λ (r : Reply). ExactVacuumStep old r c.match-vacuum_step.self.engine) (sym w.answer-is)
           (subst (λ (e : WaitingView). ExactVacuumStep old (reply.Ended w.end_vacuum.result) e.engine) (sym w.self-is) ends)
     ]
+
+pub invariant_of-self-in-Some-vacuum_step : goal.invariant_of-self-in-Some-vacuum_step
+invariant_of-self-in-Some-vacuum_step c =
+    same-keeps c.self.inside.cache c.self.inside.core c.vacuum_step.new.self (steps-table _ _ _ _ _ _ c.in-Some-vacuum_step.ensures.steps) c.self.invariant
+
+pub invariant_of-self-in-None : goal.invariant_of-self-in-None
+invariant_of-self-in-None c = same-keeps c.self.inside.cache c.self.inside.core c.vacuum_step.new.self (steps-table _ _ _ _ _ _ c.in-None.ensures.steps) c.self.invariant
