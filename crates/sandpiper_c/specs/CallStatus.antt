@@ -9,7 +9,8 @@ use Rattle.calls.specs.declared.settings.SettingsFault.TheVariants as fault
 use Rattle.sandpiper_c.specs.declared.status.CallStatus.{CallStatus}
 use Rattle.sandpiper_c.specs.declared.status.CallStatus.TheVariants as status
 
--- the status of a reply: all that it says but its rows or keys, and what a vacuum did; keys have the status of rows, since one call hands out both
+-- The status of a reply: all that it says but its rows or keys, and what a vacuum did. Keys have the status of rows, since one call
+-- hands out both.
 abbrev pub status_of_reply : Reply → CallStatus
 status_of_reply reply.Done = status.Done
 status_of_reply (reply.Found (Some row)) = status.Found
