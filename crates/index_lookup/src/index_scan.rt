@@ -107,6 +107,7 @@ fn is_at(entry: &Entry, position: &IndexPosition) -> bool
 }
 
 /// The first entry that comes after a place of the order, and where it stood.
+#[inline(always)]
 fn after_position(index: &RootIndex, position: &IndexPosition) -> Option<(Entry, PositionHint)>
     ensures { IsLeast index.now.entries (λ e. ComesAfter e (Some position.now))
         (option_map (λ found. found.0) result) }
@@ -134,6 +135,7 @@ fn past_all(
 }
 
 /// The first entry that is not below the span's low value, and where it stood.
+#[inline(always)]
 fn from_low(index: &RootIndex, span: &IndexRange) -> Option<(Entry, PositionHint)>
     ensures { IsLeast index.now.entries (λ e. ¬ IsBelow span.now.low 0 e)
         (option_map (λ found. found.0) result) }
@@ -142,6 +144,7 @@ fn from_low(index: &RootIndex, span: &IndexRange) -> Option<(Entry, PositionHint
 }
 
 /// The first entry that is not below the span's low value, and comes after its last place, and where it stood.
+#[inline(always)]
 fn entry_from(index: &RootIndex, span: &IndexRange) -> Option<(Entry, PositionHint)>
     ensures { IsLeast index.now.entries (StartsIn span.now) (option_map (λ found. found.0) result) }
 {
@@ -152,6 +155,7 @@ fn entry_from(index: &RootIndex, span: &IndexRange) -> Option<(Entry, PositionHi
 }
 
 /// The first entry of the span, and where it stood.
+#[inline(always)]
 pub(crate) fn entry_in(index: &RootIndex, span: &IndexRange) -> Option<(Entry, PositionHint)>
     ensures { IsLeast index.now.entries (LiesIn span.now) (option_map (λ found. found.0) result) }
 {

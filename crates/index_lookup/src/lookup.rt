@@ -65,6 +65,7 @@ fn seen_along(page: &Page, place: Tid, reader: &Reader<'_>) -> Option<Tid>
 }
 
 /// The place of the first version that the reader sees in the chain of a place. A page that is not in use has no chains.
+#[inline(always)]
 pub(crate) fn seen_at(pages: &Pages, place: Tid, reader: &Reader<'_>) -> Option<Tid>
     ensures { SeenAt reader.now.statuses.now (IsSeenBy reader.now)
         (page_slots_of pages.now) place result }

@@ -73,11 +73,13 @@ impl SessionEngine {
         ensures { AnswersStep self.old (Step.Begin s) (reply_to result) self.new }
     {
         self.may_begin(s)?;
-        let Ok(snapshot) = self.snapshot() else {
-            return Err(Refusal::NoMemory);
-        };
-        self.open(s, SessionIsolation::BySnapshot(snapshot));
-        Ok(Ack::Done)
+        match self.snapshot() {
+            Ok(snapshot) => {
+                self.open(s, SessionIsolation::BySnapshot(snapshot));
+                Ok(Ack::Done)
+            }
+            Err(_) => Err(Refusal::NoMemory),
+        }
     }
 
     /// Opens the session: each of its statements reads what was committed by then. Refusals in order: NoSuchSession, AlreadyOpen. It

@@ -19,13 +19,13 @@ returns-in_err-may_begin c = record {
 taken-now : (st st' : State) (s : ℕ) (snap : Snap) → snap ≡ now_taken st → Opens st st' s (BySnapshot snap) → Opens st st' s (BySnapshot (now_taken st))
 taken-now st st' s snap is opens = subst (λ (t : Snap). Opens st st' s (BySnapshot t)) is opens
 
-pub returns : goal.returns
-returns c =
+pub returns-in-Ok : goal.returns-in-Ok
+returns-in-Ok c =
     let opens = taken-now c.args.self.now c.open.new.self c.args.s c.in-Ok.snapshot c.in-Ok.ensures.ok c.open.ensures in
     record { follows = Follows-begin c.args.self.now _ c.args.s c.in_ok-may_begin.ensures.0 c.in_ok-may_begin.ensures.1 opens; exact = opens }
 
-pub returns-in_default : goal.returns-in_default
-returns-in_default c = record {
+pub returns-in-Err : goal.returns-in-Err
+returns-in-Err c = record {
   follows = Follows-begin_no_memory c.args.self.now c.args.s c.in_ok-may_begin.ensures.0 c.in_ok-may_begin.ensures.1;
   exact = search rules;
 }
