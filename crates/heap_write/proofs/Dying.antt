@@ -210,14 +210,17 @@ still-there (Some (Normal u)) after t dead other at = sym (ap (option_and_then v
 still-there (Some (Redirect k)) after t dead other at = sym (ap (option_and_then version_of) (other (λ e. cc))) ∙ at
 still-there (Some Dead) after t dead other at = absurd (none-some t (sym (dead refl) ∙ at))
 
-pub dies-freed : (w : Window) (turn : ℕ) (slots after : List Slot) (numbers : List ℕ) → FreesSlots slots after numbers → NothingDiesBefore w turn slots → NothingDiesBefore w turn after
-dies-freed w turn slots after numbers frees dies = record {
-  reached = dies.reached;
-  each = λ n t at. dies.each n t (still-there (slot_at slots n) (slot_at after n) t (gone n) (λ alive. frees.others n (λ named. alive)) at);
-}
+pub freed-version : (slots after : List Slot) (numbers : List ℕ) → FreesSlots slots after numbers → (n : ℕ) (t : Version) → version_at after n ≡ Some t → version_at slots n ≡ Some t
+freed-version slots after numbers frees n t at = still-there (slot_at slots n) (slot_at after n) t gone (λ alive. frees.others n (λ named. alive)) at
   where
-    gone : (n : ℕ) → slot_at slots n ≡ Some Dead → version_at after n ≡ None
-    gone n dead = ⊎_elim
+    gone : slot_at slots n ≡ Some Dead → version_at after n ≡ None
+    gone dead = ⊎_elim
         (λ named. ap (option_and_then version_of) (frees.freed n (any-contains n numbers named) dead))
         (λ off. ap (option_and_then version_of) (frees.others n (λ named. absurd (let e : true ≡ false = sym (contains-any n numbers named) ∙ off in cc)) ∙ dead))
         (cases_Bool (list_any (nat_eq n) numbers))
+
+pub dies-freed : (w : Window) (turn : ℕ) (slots after : List Slot) (numbers : List ℕ) → FreesSlots slots after numbers → NothingDiesBefore w turn slots → NothingDiesBefore w turn after
+dies-freed w turn slots after numbers frees dies = record {
+  reached = dies.reached;
+  each = λ n t at. dies.each n t (freed-version slots after numbers frees n t at);
+}

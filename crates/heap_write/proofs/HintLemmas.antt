@@ -1,9 +1,9 @@
 -- What is known of the pages stays true.
-use Rattle.std.proofs.Common.{◌≡◌, ◌≢◌, ℕ, ◌+◌, ◌≤◌, min, Bool, false, ⊎_elim, List, [], ◌∷◌, ◌++◌, length, set, Option, Some, None, sym, ap, subst, refl, ◌∙◌, arith}
+use Rattle.std.proofs.Common.{◌≡◌, ◌≢◌, ℕ, ◌+◌, ◌≤◌, min, Bool, false, inl, inr, ◌⊎◌, ⊎_elim, List, [], ◌∷◌, ◌++◌, length, set, Option, Some, None, sym, ap, subst, refl, ◌∙◌, arith}
 use Rattle.std.proofs.Math.Nat.{min-le_left, min-le_right}
 use Rattle.std.proofs.Math.Seq.{get_or-append_seam}
 use Rattle.std.proofs.lemmas.Bool.{cases_lt, cases_eq}
-use Rattle.std.proofs.lemmas.Option.{same_Some, none-some, slice_get_within, get_or_from_slice_get}
+use Rattle.std.proofs.lemmas.Option.{same_Some, none-some, slice_get_within}
 use Rattle.std.proofs.lemmas.List.{get_or_past, get_or-set_same, get_or-set_other, get_or_append_left, length-set, length_push}
 use Rattle.std.specs.Prelude.{slice_get}
 use Rattle.xid_circle.specs.declared.Tid.{Tid}
@@ -16,123 +16,194 @@ use Rattle.commit_status.specs.declared.status.Status.TheVariants.{Aborted}
 use Rattle.commit_status.specs.Window.{Window, IsWindow, IsAborted, IsUpToNext, turns}
 use Rattle.commit_status.specs.Changes.{Finishes}
 use Rattle.snapshot.specs.Own.{Own, current_xid}
-use Rattle.space_maps.specs.Hints.{turn_on, lowered}
+use Rattle.space_maps.specs.Hints.{PageHint, nothing_known, hint_on, lowered, AddsDoubt, Lowers}
 use Rattle.heap_pages.specs.View.{PagesView}
 use Rattle.prune.specs.Deaths.{NothingDiesBefore}
+use Rattle.prune.specs.Glances.{AreDoubts}
 use Rattle.heap_write.specs.Heap.{HeapView, unused_page, SameIds, PutsPage}
 use Rattle.heap_write.specs.Heap.PutsPage.{in_use, after_all}
 use Rattle.heap_write.specs.Growth.{page_in, SamePages, PutsVersion}
 use Rattle.heap_write.specs.Writes.{TakesIds}
 use Rattle.heap_write.specs.Steps.{HasNoneDead}
-use Rattle.heap_write.specs.Hints.{AreTrueHints, IsLowered, ExpectsRoot, ExpectsWrite}
+use Rattle.heap_write.specs.Hints.{AreTrueHints, IsLowered, AreDoubtedBy, AreStillDoubts, ExpectsRoot, ExpectsWrite}
 use Rattle.heap_write.proofs.Dying.{AgesOn, dies-on, ages-given, ages-finished, ages-same, none-dead, dies-earlier, dies-root, dies-replaced, dies-updated}
+use Rattle.heap_write.proofs.DoubtLemmas.{doubts-on, doubts-root, doubts-replaced, doubts-updated}
 use Rattle.heap_write.proofs.PageLemmas.{page-at}
 use Rattle.heap_write.proofs.Writing.{WritesXmax}
 use Rattle.heap_write.proofs.IdlePages.{idle-at}
 
 -- No version comes, and none is aborted.
 
-pub hints-on : (w v : Window) (pages pages' : List PageView) (hints hints' : List (Option ℕ)) → ((turn : ℕ) → turn ≤ length w.entries → AgesOn w v turn)
-    → ((n : ℕ) → (page_in pages' n).slots ≡ (page_in pages n).slots) → ((n : ℕ) → turn_on hints' n ≡ turn_on hints n) → AreTrueHints w pages hints → AreTrueHints v pages' hints'
+pub hints-on : (w v : Window) (pages pages' : List PageView) (hints hints' : List PageHint) → ((turn : ℕ) → turn ≤ length w.entries → AgesOn w v turn)
+    → ((n : ℕ) → (page_in pages' n).slots ≡ (page_in pages n).slots) → ((n : ℕ) → hint_on hints' n ≡ hint_on hints n) → AreTrueHints w pages hints → AreTrueHints v pages' hints'
 hints-on w v pages pages' hints hints' ages same kept are = record {
   each = λ n turn known.
-      let dies = are.each n turn (sym (kept n) ∙ known) in
+      let dies = are.each n turn (sym (ap (λ (h : PageHint). h.turn) (kept n)) ∙ known) in
       subst (λ slots. NothingDiesBefore v turn slots) (sym (same n)) (dies-on w v turn (page_in pages n).slots (ages turn dies.reached) dies);
+  doubts = λ n.
+      subst (λ (h : PageHint). AreDoubts v (page_in pages' n).slots h.doubts) (sym (kept n))
+      (subst (λ slots. AreDoubts v slots (hint_on hints n).doubts) (sym (same n))
+      (doubts-on w v (page_in pages n).slots (page_in pages n).slots (hint_on hints n).doubts (ages 0 (omega arith)).aborted (λ m t at. at) (are.doubts n)));
 }
 
-pub hints-taken : (w v : Window) (own own' : Own) (x : ℕ) (pages : List PageView) (hints : List (Option ℕ)) → TakesIds w v own own' x → IsWindow v
+pub hints-taken : (w v : Window) (own own' : Own) (x : ℕ) (pages : List PageView) (hints : List PageHint) → TakesIds w v own own' x → IsWindow v
     → AreTrueHints w pages hints → AreTrueHints v pages hints
 hints-taken w v own own' x pages hints takes is =
     hints-on w v pages pages hints hints (λ turn reached. ages-given takes.given w v (current_xid own.ids own.saved) turn reached takes.gives is) (λ n. refl) (λ n. refl)
 
-pub hints-finished : (w v : Window) (ids : List ℕ) (status : Status) (pages : List PageView) (hints : List (Option ℕ)) → status ≢ Aborted → Finishes w v ids status
+pub hints-finished : (w v : Window) (ids : List ℕ) (status : Status) (pages : List PageView) (hints : List PageHint) → status ≢ Aborted → Finishes w v ids status
     → AreTrueHints w pages hints → AreTrueHints v pages hints
 hints-finished w v ids status pages hints live f =
     hints-on w v pages pages hints hints (λ turn reached. ages-finished w v ids status turn live f) (λ n. refl) (λ n. refl)
 
 -- there is more memory
-pub hints-grown : (w v : Window) (pages pages' : PagesView) (hints hints' : List (Option ℕ)) → SameIds w v → SamePages pages pages' → hints' ≡ hints
+pub hints-grown : (w v : Window) (pages pages' : PagesView) (hints hints' : List PageHint) → SameIds w v → SamePages pages pages' → hints' ≡ hints
     → AreTrueHints w pages.pages hints → AreTrueHints v pages'.pages hints'
 hints-grown w v pages pages' hints hints' ids same kept =
     hints-on w v pages.pages pages'.pages hints hints' (λ turn reached. ages-same w v turn ids) (λ n. ap (λ (ps : List PageView). (page_in ps n).slots) same.pages)
-    (λ n. ap (λ (hs : List (Option ℕ)). turn_on hs n) kept)
+    (λ n. ap (λ (hs : List PageHint). hint_on hs n) kept)
 
 -- the ids alone have more
-pub hints-same_ids : (w v : Window) (pages : List PageView) (hints : List (Option ℕ)) → SameIds w v → AreTrueHints w pages hints → AreTrueHints v pages hints
+pub hints-same_ids : (w v : Window) (pages : List PageView) (hints : List PageHint) → SameIds w v → AreTrueHints w pages hints → AreTrueHints v pages hints
 hints-same_ids w v pages hints ids = hints-on w v pages pages hints hints (λ turn reached. ages-same w v turn ids) (λ n. refl) (λ n. refl)
 
--- a page is changed, and nothing on it dies earlier
-pub hints-kept : (w : Window) (pages pages' : List PageView) (hints : List (Option ℕ)) (n : ℕ) (page page' : PageView) → slice_get pages n ≡ Some page → pages' ≡ set pages n page'
-    → ((turn : ℕ) → NothingDiesBefore w turn page.slots → NothingDiesBefore w turn page'.slots) → AreTrueHints w pages hints → AreTrueHints w pages' hints
-hints-kept w pages pages' hints n page page' at is keeps are = record {
+-- a page is changed, nothing on it dies earlier, and nothing else may be dead
+pub hints-kept : (w : Window) (pages pages' : List PageView) (hints : List PageHint) (n : ℕ) (page page' : PageView) → slice_get pages n ≡ Some page → pages' ≡ set pages n page'
+    → ((turn : ℕ) → NothingDiesBefore w turn page.slots → NothingDiesBefore w turn page'.slots)
+    → ((doubts : Option (List ℕ)) → AreDoubts w page.slots doubts → AreDoubts w page'.slots doubts) → AreTrueHints w pages hints → AreTrueHints w pages' hints
+hints-kept w pages pages' hints n page page' at is keeps keeps_doubts are = record {
   each = λ m turn known. ⊎_elim
-      (λ here.
-      let was : page_in pages m ≡ page = ap (page_in pages) here ∙ page-at pages n page at in
-      let now : page_in pages' m ≡ page' =
-      ap (page_in pages') here ∙ (ap (λ ps. page_in ps n) is ∙ get_or-set_same pages n page' unused_page (slice_get_within pages n page at)) in
-      subst (λ (p : PageView). NothingDiesBefore w turn p.slots) (sym now)
-      (keeps turn (subst (λ (p : PageView). NothingDiesBefore w turn p.slots) was (are.each m turn known))))
-      (λ other.
-      let same : page_in pages' m ≡ page_in pages m = ap (λ ps. page_in ps m) is ∙ get_or-set_other pages n m page' unused_page other in
-      subst (λ (p : PageView). NothingDiesBefore w turn p.slots) (sym same) (are.each m turn known))
+      (λ here. subst (λ (p : PageView). NothingDiesBefore w turn p.slots) (sym (now m here))
+      (keeps turn (subst (λ (p : PageView). NothingDiesBefore w turn p.slots) (was m here) (are.each m turn known))))
+      (λ other. subst (λ (p : PageView). NothingDiesBefore w turn p.slots) (sym (same m other)) (are.each m turn known))
+      (cases_eq m n);
+  doubts = λ m. ⊎_elim
+      (λ here. subst (λ (p : PageView). AreDoubts w p.slots (hint_on hints m).doubts) (sym (now m here))
+      (keeps_doubts (hint_on hints m).doubts (subst (λ (p : PageView). AreDoubts w p.slots (hint_on hints m).doubts) (was m here) (are.doubts m))))
+      (λ other. subst (λ (p : PageView). AreDoubts w p.slots (hint_on hints m).doubts) (sym (same m other)) (are.doubts m))
       (cases_eq m n);
 }
+  where
+    was : (m : ℕ) → m ≡ n → page_in pages m ≡ page
+    was m here = ap (page_in pages) here ∙ page-at pages n page at
+
+    now : (m : ℕ) → m ≡ n → page_in pages' m ≡ page'
+    now m here = ap (page_in pages') here ∙ (ap (λ ps. page_in ps n) is ∙ get_or-set_same pages n page' unused_page (slice_get_within pages n page at))
+
+    same : (m : ℕ) → m ≢ n → page_in pages' m ≡ page_in pages m
+    same m other = ap (λ ps. page_in ps m) is ∙ get_or-set_other pages n m page' unused_page other
 
 -- Nothing is known.
 
-pub hints-none : (w : Window) (pages : List PageView) (hints : List (Option ℕ)) → ((n : ℕ) → turn_on hints n ≡ None) → AreTrueHints w pages hints
-hints-none w pages hints none = record { each = λ n turn known. absurd (none-some turn (sym (none n) ∙ known)) }
+pub hints-none : (w : Window) (pages : List PageView) (hints : List PageHint) → ((n : ℕ) → hint_on hints n ≡ nothing_known) → AreTrueHints w pages hints
+hints-none w pages hints none = record {
+  each = λ n turn known. absurd (none-some turn (sym (ap (λ (h : PageHint). h.turn) (none n)) ∙ known));
+  doubts = λ n. subst (λ (h : PageHint). AreDoubts w (page_in pages n).slots h.doubts) (sym (none n)) tt;
+}
 
-pub hints-new : (w : Window) (pages : List PageView) (hints : List (Option ℕ)) → hints ≡ [] → AreTrueHints w pages hints
-hints-new w pages hints is = hints-none w pages hints (λ n. ap (λ (hs : List (Option ℕ)). turn_on hs n) is)
+pub hints-new : (w : Window) (pages : List PageView) (hints : List PageHint) → hints ≡ [] → AreTrueHints w pages hints
+hints-new w pages hints is = hints-none w pages hints (λ n. ap (λ (hs : List PageHint). hint_on hs n) is)
 
 -- One hint.
 
-ended : (hints : List (Option ℕ)) (n : ℕ) → turn_on (set hints n None) n ≡ None
-ended hints n = ⊎_elim (λ within. get_or-set_same hints n None None within)
-    (λ past. get_or_past (set hints n None) n None (let long = length-set hints n None in omega (arith, past, long)))
+-- what is known where a hint was put, beyond the last page nothing
+put-hint : (hints : List PageHint) (n : ℕ) (hint : PageHint) → (hint_on (set hints n hint) n ≡ hint) ⊎ (hint_on (set hints n hint) n ≡ nothing_known)
+put-hint hints n hint = ⊎_elim (λ within. inl (get_or-set_same hints n hint nothing_known within))
+    (λ past. inr (get_or_past (set hints n hint) n nothing_known (let long = length-set hints n hint in omega (arith, past, long))))
     (cases_lt n (length hints))
 
--- what is known where a hint was put
-put-known : (hints : List (Option ℕ)) (n turn : ℕ) (hint : Option ℕ) → turn_on (set hints n hint) n ≡ Some turn → hint ≡ Some turn
-put-known hints n turn hint known = ⊎_elim (λ within. sym (get_or-set_same hints n hint None within) ∙ known)
-    (λ past. absurd (none-some turn (sym (get_or_past (set hints n hint) n None (let long = length-set hints n hint in omega (arith, past, long))) ∙ known)))
-    (cases_lt n (length hints))
+-- a hint is put of a page, which may be changed: what it says is true
+hints-put : (w : Window) (pages pages' : List PageView) (hints hints' : List PageHint) (n : ℕ) (hint : PageHint) → hints' ≡ set hints n hint
+    → ((m : ℕ) → m ≢ n → page_in pages' m ≡ page_in pages m)
+    → ((turn : ℕ) → hint.turn ≡ Some turn → NothingDiesBefore w turn (page_in pages' n).slots) → AreDoubts w (page_in pages' n).slots hint.doubts
+    → AreTrueHints w pages hints → AreTrueHints w pages' hints'
+hints-put w pages pages' hints hints' n hint put same dies doubts are = record {
+  each = λ m turn known. ⊎_elim
+      (λ here. subst (λ k. NothingDiesBefore w turn (page_in pages' k).slots) (sym here)
+      (⊎_elim
+      (λ is. dies turn (sym (ap (λ (h : PageHint). h.turn) (at ∙ is)) ∙ (ap (λ k. (hint_on hints' k).turn) (sym here) ∙ known)))
+      (λ none. absurd (none-some turn (sym (ap (λ (h : PageHint). h.turn) (at ∙ none)) ∙ (ap (λ k. (hint_on hints' k).turn) (sym here) ∙ known))))
+      (put-hint hints n hint)))
+      (λ other. subst (λ (p : PageView). NothingDiesBefore w turn p.slots) (sym (same m other))
+      (are.each m turn (sym (ap (λ (h : PageHint). h.turn) (off m other)) ∙ known)))
+      (cases_eq m n);
+  doubts = λ m. ⊎_elim
+      (λ here. subst (λ k. AreDoubts w (page_in pages' k).slots (hint_on hints' k).doubts) (sym here)
+      (⊎_elim
+      (λ is. subst (λ (h : PageHint). AreDoubts w (page_in pages' n).slots h.doubts) (sym (at ∙ is)) doubts)
+      (λ none. subst (λ (h : PageHint). AreDoubts w (page_in pages' n).slots h.doubts) (sym (at ∙ none)) tt)
+      (put-hint hints n hint)))
+      (λ other. subst (λ (p : PageView). AreDoubts w p.slots (hint_on hints' m).doubts) (sym (same m other))
+      (subst (λ (h : PageHint). AreDoubts w (page_in pages m).slots h.doubts) (sym (off m other)) (are.doubts m)))
+      (cases_eq m n);
+}
+  where
+    at : hint_on hints' n ≡ hint_on (set hints n hint) n
+    at = ap (λ (hs : List PageHint). hint_on hs n) put
+
+    off : (m : ℕ) → m ≢ n → hint_on hints' m ≡ hint_on hints m
+    off m other = ap (λ (hs : List PageHint). hint_on hs m) put ∙ get_or-set_other hints n m hint nothing_known other
+
+set-other : (pages pages' : List PageView) (n m : ℕ) (page : PageView) → pages' ≡ set pages n page → m ≢ n → page_in pages' m ≡ page_in pages m
+set-other pages pages' n m page is other = ap (λ ps. page_in ps m) is ∙ get_or-set_other pages n m page unused_page other
 
 -- a page changes of which nothing is known any more
-pub hints-ended : (w : Window) (pages pages' : List PageView) (hints hints' : List (Option ℕ)) (n : ℕ) (page : PageView) → pages' ≡ set pages n page → hints' ≡ set hints n None
+pub hints-ended : (w : Window) (pages pages' : List PageView) (hints hints' : List PageHint) (n : ℕ) (page : PageView) → pages' ≡ set pages n page → hints' ≡ set hints n nothing_known
     → AreTrueHints w pages hints → AreTrueHints w pages' hints'
-hints-ended w pages pages' hints hints' n page is end are = record {
-  each = λ m turn known. ⊎_elim
-      (λ here. absurd (none-some turn (sym (ended hints n) ∙ (ap (λ (hs : List (Option ℕ)). turn_on hs n) (sym end) ∙ (ap (turn_on hints') (sym here) ∙ known)))))
-      (λ other.
-      let was : turn_on hints m ≡ Some turn = sym (ap (λ (hs : List (Option ℕ)). turn_on hs m) end ∙ get_or-set_other hints n m None None other) ∙ known in
-      let same : page_in pages' m ≡ page_in pages m = ap (λ ps. page_in ps m) is ∙ get_or-set_other pages n m page unused_page other in
-      subst (λ (p : PageView). NothingDiesBefore w turn p.slots) (sym same) (are.each m turn was))
-      (cases_eq m n);
-}
+hints-ended w pages pages' hints hints' n page is end =
+    hints-put w pages pages' hints hints' n nothing_known end (λ m. set-other pages pages' n m page is) (λ turn known. absurd (none-some turn known)) tt
+
+-- or no turn, while nothing else may be dead
+pub hints-turn_ended : (w : Window) (pages pages' : List PageView) (hints hints' : List PageHint) (n : ℕ) (page page' : PageView) → slice_get pages n ≡ Some page → pages' ≡ set pages n page'
+    → hints' ≡ set hints n (record (hint_on hints n) { turn = None }) → ((doubts : Option (List ℕ)) → AreDoubts w page.slots doubts → AreDoubts w page'.slots doubts)
+    → AreTrueHints w pages hints → AreTrueHints w pages' hints'
+hints-turn_ended w pages pages' hints hints' n page page' at is end keeps are =
+    let doubts = (hint_on hints n).doubts in
+    let was : AreDoubts w page.slots doubts = subst (λ (p : PageView). AreDoubts w p.slots doubts) (page-at pages n page at) (are.doubts n) in
+    let now : page_in pages' n ≡ page' = ap (λ ps. page_in ps n) is ∙ get_or-set_same pages n page' unused_page (slice_get_within pages n page at) in
+    hints-put w pages pages' hints hints' n (record (hint_on hints n) { turn = None }) end (λ m. set-other pages pages' n m page' is) (λ turn known. absurd (none-some turn known))
+    (subst (λ (p : PageView). AreDoubts w p.slots doubts) (sym now) (keeps doubts was)) are
 
 -- a turn is noted of a page
-pub hints-noted : (w : Window) (pages : List PageView) (hints hints' : List (Option ℕ)) (n noted : ℕ) (page : PageView) → slice_get pages n ≡ Some page → NothingDiesBefore w noted page.slots
-    → hints' ≡ set hints n (Some noted) → AreTrueHints w pages hints → AreTrueHints w pages hints'
-hints-noted w pages hints hints' n noted page at dies put are = record {
-  each = λ m turn known. ⊎_elim
-      (λ here.
-      let same : noted ≡ turn = same_Some noted turn (put-known hints n turn (Some noted) (ap (λ (hs : List (Option ℕ)). turn_on hs n) (sym put) ∙ (ap (turn_on hints') (sym here) ∙ known))) in
-      let is : page_in pages m ≡ page = ap (page_in pages) here ∙ get_or_from_slice_get pages n page unused_page at in
-      subst (λ (p : PageView). NothingDiesBefore w turn p.slots) (sym is) (subst (λ t. NothingDiesBefore w t page.slots) same dies))
-      (λ other.
-      let was : turn_on hints m ≡ Some turn = sym (ap (λ (hs : List (Option ℕ)). turn_on hs m) put ∙ get_or-set_other hints n m (Some noted) None other) ∙ known in
-      are.each m turn was)
-      (cases_eq m n);
-}
+pub hints-noted : (w : Window) (pages : List PageView) (hints hints' : List PageHint) (n noted : ℕ) (page : PageView) → slice_get pages n ≡ Some page → NothingDiesBefore w noted page.slots
+    → hints' ≡ set hints n (record (hint_on hints n) { turn = Some noted }) → AreTrueHints w pages hints → AreTrueHints w pages hints'
+hints-noted w pages hints hints' n noted page at dies put are =
+    hints-put w pages pages hints hints' n (record (hint_on hints n) { turn = Some noted }) put (λ m other. refl)
+    (λ turn known. subst (λ (p : PageView). NothingDiesBefore w turn p.slots) (sym (page-at pages n page at)) (subst (λ t. NothingDiesBefore w t page.slots) (same_Some noted turn known) dies))
+    (are.doubts n) are
+
+-- doubts are
+pub hints-doubted : (w : Window) (pages : List PageView) (hints hints' : List PageHint) (n : ℕ) (doubts : Option (List ℕ)) (page : PageView) → slice_get pages n ≡ Some page
+    → AreDoubts w page.slots doubts → hints' ≡ set hints n (record (hint_on hints n) { doubts = doubts }) → AreTrueHints w pages hints → AreTrueHints w pages hints'
+hints-doubted w pages hints hints' n doubts page at true put are =
+    hints-put w pages pages hints hints' n (record (hint_on hints n) { doubts = doubts }) put (λ m other. refl) (λ turn known. are.each n turn known)
+    (subst (λ (p : PageView). AreDoubts w p.slots doubts) (sym (page-at pages n page at)) true) are
 
 -- A write by x.
 
-pub expects-ended : (w : Window) (x n : ℕ) (hints hints' : List (Option ℕ)) → hints' ≡ set hints n None → ExpectsWrite w x n hints hints'
-expects-ended w x n hints hints' end = record {
-  here = λ turn known. absurd (none-some turn (sym (ended hints n) ∙ (ap (λ (hs : List (Option ℕ)). turn_on hs n) (sym end) ∙ known)));
-  others = λ m other. ap (λ (hs : List (Option ℕ)). turn_on hs m) end ∙ get_or-set_other hints n m None None other;
+set-hint_other : (hints hints' : List PageHint) (n m : ℕ) (hint : PageHint) → hints' ≡ set hints n hint → m ≢ n → hint_on hints' m ≡ hint_on hints m
+set-hint_other hints hints' n m hint put other = ap (λ (hs : List PageHint). hint_on hs m) put ∙ get_or-set_other hints n m hint nothing_known other
+
+ended : (hints hints' : List PageHint) (n : ℕ) → hints' ≡ set hints n nothing_known → hint_on hints' n ≡ nothing_known
+ended hints hints' n end = ap (λ (hs : List PageHint). hint_on hs n) end ∙ ⊎_elim (λ is. is) (λ is. is) (put-hint hints n nothing_known)
+
+unknown-turn : (hint : PageHint) (turn : ℕ) → hint ≡ nothing_known → hint.turn ≡ Some turn → ⊥
+unknown-turn hint turn none known = none-some turn (sym (ap (λ (h : PageHint). h.turn) none) ∙ known)
+
+pub expects-ended : (w : Window) (x : ℕ) (place : Tid) (hints hints' : List PageHint) → hints' ≡ set hints place.page nothing_known → ExpectsWrite w x place hints hints'
+expects-ended w x place hints hints' end = record {
+  here = λ turn known. absurd (unknown-turn (hint_on hints' place.page) turn (ended hints hints' place.page end) known);
+  doubts = subst (λ (h : PageHint). AreDoubtedBy w x place.slot (hint_on hints place.page).doubts h.doubts) (sym (ended hints hints' place.page end)) tt;
+  others = λ m. set-hint_other hints hints' place.page m nothing_known end;
+}
+
+-- nothing is known of the page
+pub expects-nothing : (w : Window) (x : ℕ) (place : Tid) (hints : List PageHint) → (hint_on hints place.page).turn ≡ None → (hint_on hints place.page).doubts ≡ None
+    → ExpectsWrite w x place hints hints
+expects-nothing w x place hints no_turn no_doubts = record {
+  here = λ turn known. absurd (none-some turn (sym no_turn ∙ known));
+  doubts = subst (λ (after : Option (List ℕ)). AreDoubtedBy w x place.slot (hint_on hints place.page).doubts after) (sym no_doubts) tt;
+  others = λ m other. refl;
 }
 
 lowest : (w : Window) (x turn_of turn : ℕ) (known : Option ℕ) → ¬ IsAborted w x → turn_of ≡ turns w.first x → lowered known turn_of ≡ Some turn → IsLowered w x turn known
@@ -146,21 +217,43 @@ lowest w x turn_of turn (Some was) live is low =
       later = subst (λ t. turn ≤ t) is (subst (λ t. t ≤ turn_of) same (min-le_right was turn_of));
     }
 
-pub expects-lowered : (w : Window) (x n turn_of : ℕ) (hints hints' : List (Option ℕ)) → ¬ IsAborted w x → turn_of ≡ turns w.first x
-    → hints' ≡ set hints n (lowered (turn_on hints n) turn_of) → ExpectsWrite w x n hints hints'
-expects-lowered w x n turn_of hints hints' live is low = record {
-  here = λ turn known.
-      lowest w x turn_of turn (turn_on hints n) live is
-      (put-known hints n turn (lowered (turn_on hints n) turn_of) (ap (λ (hs : List (Option ℕ)). turn_on hs n) (sym low) ∙ known));
-  others = λ m other. ap (λ (hs : List (Option ℕ)). turn_on hs m) low ∙ get_or-set_other hints n m (lowered (turn_on hints n) turn_of) None other;
+by-live : (w : Window) (x slot : ℕ) (known after : Option (List ℕ)) → ¬ IsAborted w x → AddsDoubt known slot after → AreDoubtedBy w x slot known after
+by-live w x slot known None live adds = tt
+by-live w x slot known (Some after) live adds = (live, adds)
+
+pub expects-lowered : (w : Window) (x : ℕ) (place : Tid) (turn_of : ℕ) (hints hints' : List PageHint) → ¬ IsAborted w x → turn_of ≡ turns w.first x
+    → Lowers (hint_on hints place.page) turn_of place.slot (hint_on hints' place.page) → ((m : ℕ) → m ≢ place.page → hint_on hints' m ≡ hint_on hints m) → ExpectsWrite w x place hints hints'
+expects-lowered w x place turn_of hints hints' live is low others = record {
+  here = λ turn known. lowest w x turn_of turn (hint_on hints place.page).turn live is (sym low.turn_is ∙ known);
+  doubts = by-live w x place.slot (hint_on hints place.page).doubts (hint_on hints' place.page).doubts live low.doubts_are;
+  others = others;
 }
 
 -- x makes a root, of what is known of its page.
 
-pub roots-ended : (w : Window) (x n : ℕ) (hints hints' : List (Option ℕ)) → hints' ≡ set hints n None → ExpectsRoot w x n hints hints'
+pub roots-ended : (w : Window) (x n : ℕ) (hints hints' : List PageHint) → hints' ≡ set hints n nothing_known → ExpectsRoot w x n hints hints'
 roots-ended w x n hints hints' end = record {
-  here = λ turn known. absurd (none-some turn (sym (ended hints n) ∙ (ap (λ (hs : List (Option ℕ)). turn_on hs n) (sym end) ∙ known)));
-  others = λ m other. ap (λ (hs : List (Option ℕ)). turn_on hs m) end ∙ get_or-set_other hints n m None None other;
+  here = λ turn known. absurd (unknown-turn (hint_on hints' n) turn (ended hints hints' n end) known);
+  doubts = subst (λ (h : PageHint). AreStillDoubts w x (hint_on hints n).doubts h.doubts) (sym (ended hints hints' n end)) tt;
+  others = λ m. set-hint_other hints hints' n m nothing_known end;
+}
+
+still : (w : Window) (x : ℕ) (known : Option (List ℕ)) → ¬ IsAborted w x → AreStillDoubts w x known known
+still w x None live = tt
+still w x (Some known) live = (live, refl)
+
+pub roots-kept : (w : Window) (x n : ℕ) (hints : List PageHint) → ¬ IsAborted w x → ExpectsRoot w x n hints hints
+roots-kept w x n hints live = record {
+  here = λ turn known. (live, known);
+  doubts = still w x (hint_on hints n).doubts live;
+  others = λ m other. refl;
+}
+
+pub roots-nothing : (w : Window) (x n : ℕ) (hints : List PageHint) → (hint_on hints n).turn ≡ None → (hint_on hints n).doubts ≡ None → ExpectsRoot w x n hints hints
+roots-nothing w x n hints no_turn no_doubts = record {
+  here = λ turn known. absurd (none-some turn (sym no_turn ∙ known));
+  doubts = subst (λ (after : Option (List ℕ)). AreStillDoubts w x (hint_on hints n).doubts after) (sym no_doubts) tt;
+  others = λ m other. refl;
 }
 
 put-here : (pages pages' : PagesView) (n : ℕ) (page : PageView) → PutsPage pages pages' n page → page_in pages'.pages n ≡ page
@@ -181,74 +274,95 @@ put-other pages pages' n m page other (after_all over is marks) = ap (λ ps. pag
     past-off : (ps : List PageView) (p : PageView) (k : ℕ) → length ps ≤ k → k ≢ length ps → length (ps ++ p ∷ []) ≡ length ps + 1 → length (ps ++ p ∷ []) ≤ k
     past-off ps p k past off long = omega arith
 
-hints-written : (w : Window) (x n : ℕ) (pages pages' : List PageView) (page : PageView) (hints hints' : List (Option ℕ)) → page_in pages' n ≡ page
-    → ((m : ℕ) → m ≢ n → page_in pages' m ≡ page_in pages m)
-    → ((turn : ℕ) → ¬ IsAborted w x → turn ≤ turns w.first x → NothingDiesBefore w turn (page_in pages n).slots → NothingDiesBefore w turn page.slots)
-    → ExpectsWrite w x n hints hints' → AreTrueHints w pages hints → AreTrueHints w pages' hints'
-hints-written w x n pages pages' page hints hints' is same write expects are = record {
-  each = λ m turn known. ⊎_elim
-      (λ here.
-      let l = expects.here turn (ap (turn_on hints') (sym here) ∙ known) in
-      let was = dies-earlier w l.was turn (page_in pages n).slots l.earlier (are.each n l.was l.is_known) in
-      subst (λ (p : PageView). NothingDiesBefore w turn p.slots) (sym (ap (page_in pages') here ∙ is)) (write turn l.live l.later was))
-      (λ other.
-      subst (λ (p : PageView). NothingDiesBefore w turn p.slots) (sym (same m other)) (are.each m turn (sym (expects.others m other) ∙ known)))
-      (cases_eq m n);
-}
-
 -- x makes a root
-pub hints-root : (w : Window) (pages pages' : PagesView) (updated : Bool) (x : ℕ) (row : Row) (n : ℕ) (hints hints' : List (Option ℕ)) → PutsVersion pages pages' updated x row n
+pub hints-root : (w : Window) (pages pages' : PagesView) (updated : Bool) (x : ℕ) (row : Row) (n : ℕ) (hints hints' : List PageHint) → PutsVersion pages pages' updated x row n
     → ExpectsRoot w x n hints hints' → AreTrueHints w pages.pages hints → AreTrueHints w pages'.pages hints'
 hints-root w pages pages' updated x row n hints hints' root expects are = record {
   each = λ m turn known. ⊎_elim
       (λ here.
-      let e = expects.here turn (ap (turn_on hints') (sym here) ∙ known) in
-      let dies = dies-root w turn x n (page_in pages.pages n).slots updated row e.0 (are.each n turn e.1) in
-      let is : (page_in pages'.pages m).slots ≡ with_root (page_in pages.pages n).slots updated x n row =
-      ap (λ k. (page_in pages'.pages k).slots) here ∙ (ap (λ (p : PageView). p.slots) (put-here pages pages' n root.page root.puts) ∙ root.slots) in
-      subst (NothingDiesBefore w turn) (sym is) dies)
+      let e = expects.here turn (ap (λ k. (hint_on hints' k).turn) (sym here) ∙ known) in
+      subst (NothingDiesBefore w turn) (sym (is m here)) (dies-root w turn x n (page_in pages.pages n).slots updated row e.0 (are.each n turn e.1)))
       (λ other.
-      subst (λ (p : PageView). NothingDiesBefore w turn p.slots) (sym (put-other pages pages' n m root.page other root.puts)) (are.each m turn (sym (expects.others m other) ∙ known)))
+      subst (λ (p : PageView). NothingDiesBefore w turn p.slots) (sym (put-other pages pages' n m root.page other root.puts))
+      (are.each m turn (sym (ap (λ (h : PageHint). h.turn) (expects.others m other)) ∙ known)))
+      (cases_eq m n);
+  doubts = λ m. ⊎_elim
+      (λ here. subst (λ slots. AreDoubts w slots (hint_on hints' m).doubts) (sym (is m here))
+      (subst (λ k. AreDoubts w (with_root (page_in pages.pages n).slots updated x n row) (hint_on hints' k).doubts) (sym here)
+      (doubts-root w x n (page_in pages.pages n).slots updated row (hint_on hints n).doubts (hint_on hints' n).doubts expects.doubts (are.doubts n))))
+      (λ other.
+      subst (λ (p : PageView). AreDoubts w p.slots (hint_on hints' m).doubts) (sym (put-other pages pages' n m root.page other root.puts))
+      (subst (λ (h : PageHint). AreDoubts w (page_in pages.pages m).slots h.doubts) (sym (expects.others m other)) (are.doubts m)))
       (cases_eq m n);
 }
+  where
+    is : (m : ℕ) → m ≡ n → (page_in pages'.pages m).slots ≡ with_root (page_in pages.pages n).slots updated x n row
+    is m here = ap (λ k. (page_in pages'.pages k).slots) here ∙ (ap (λ (p : PageView). p.slots) (put-here pages pages' n root.page root.puts) ∙ root.slots)
 
 -- x changes the page that was there
-hints-changed : (w : Window) (x n : ℕ) (pages pages' : List PageView) (before after : PageView) (hints hints' : List (Option ℕ)) → slice_get pages n ≡ Some before → pages' ≡ set pages n after
+hints-changed : (w : Window) (x : ℕ) (place : Tid) (pages pages' : List PageView) (before after : PageView) (hints hints' : List PageHint) → slice_get pages place.page ≡ Some before → pages' ≡ set pages place.page after
     → ((turn : ℕ) → ¬ IsAborted w x → turn ≤ turns w.first x → NothingDiesBefore w turn before.slots → NothingDiesBefore w turn after.slots)
-    → ExpectsWrite w x n hints hints' → AreTrueHints w pages hints → AreTrueHints w pages' hints'
-hints-changed w x n pages pages' before after hints hints' at is write =
-    let was : page_in pages n ≡ before = page-at pages n before at in
-    hints-written w x n pages pages' after hints hints'
-    (ap (λ ps. page_in ps n) is ∙ get_or-set_same pages n after unused_page (slice_get_within pages n before at))
-    (λ m other. ap (λ ps. page_in ps m) is ∙ get_or-set_other pages n m after unused_page other)
-    (λ turn live later dies. write turn live later (subst (λ (p : PageView). NothingDiesBefore w turn p.slots) was dies))
+    → ((known doubts : Option (List ℕ)) → AreDoubtedBy w x place.slot known doubts → AreDoubts w before.slots known → AreDoubts w after.slots doubts)
+    → ExpectsWrite w x place hints hints' → AreTrueHints w pages hints → AreTrueHints w pages' hints'
+hints-changed w x place pages pages' before after hints hints' at is write doubt expects are = record {
+  each = λ m turn known. ⊎_elim
+      (λ here.
+      let l = expects.here turn (ap (λ k. (hint_on hints' k).turn) (sym here) ∙ known) in
+      let dies = subst (λ (p : PageView). NothingDiesBefore w l.was p.slots) was (are.each place.page l.was l.is_known) in
+      subst (λ (p : PageView). NothingDiesBefore w turn p.slots) (sym (now m here)) (write turn l.live l.later (dies-earlier w l.was turn before.slots l.earlier dies)))
+      (λ other.
+      subst (λ (p : PageView). NothingDiesBefore w turn p.slots) (sym (set-other pages pages' place.page m after is other))
+      (are.each m turn (sym (ap (λ (h : PageHint). h.turn) (expects.others m other)) ∙ known)))
+      (cases_eq m place.page);
+  doubts = λ m. ⊎_elim
+      (λ here. subst (λ (p : PageView). AreDoubts w p.slots (hint_on hints' m).doubts) (sym (now m here))
+      (subst (λ k. AreDoubts w after.slots (hint_on hints' k).doubts) (sym here)
+      (doubt (hint_on hints place.page).doubts (hint_on hints' place.page).doubts expects.doubts (subst (λ (p : PageView). AreDoubts w p.slots (hint_on hints place.page).doubts) was (are.doubts place.page)))))
+      (λ other.
+      subst (λ (p : PageView). AreDoubts w p.slots (hint_on hints' m).doubts) (sym (set-other pages pages' place.page m after is other))
+      (subst (λ (h : PageHint). AreDoubts w (page_in pages m).slots h.doubts) (sym (expects.others m other)) (are.doubts m)))
+      (cases_eq m place.page);
+}
+  where
+    was : page_in pages place.page ≡ before
+    was = page-at pages place.page before at
+
+    now : (m : ℕ) → m ≡ place.page → page_in pages' m ≡ after
+    now m here = ap (page_in pages') here ∙ (ap (λ ps. page_in ps place.page) is ∙ get_or-set_same pages place.page after unused_page (slice_get_within pages place.page before at))
 
 -- it takes a version away
-pub hints-taken_away : (w : Window) (x : ℕ) (place successor : Tid) (pages pages' : List PageView) (before after : PageView) (hints hints' : List (Option ℕ))
+pub hints-taken_away : (w : Window) (x : ℕ) (place successor : Tid) (pages pages' : List PageView) (before after : PageView) (hints hints' : List PageHint)
     → slice_get pages place.page ≡ Some before → pages' ≡ set pages place.page after → WritesXmax before after place successor x → IsNormalAt before.slots place.slot
-    → ExpectsWrite w x place.page hints hints' → AreTrueHints w pages hints → AreTrueHints w pages' hints'
+    → ExpectsWrite w x place hints hints' → AreTrueHints w pages hints → AreTrueHints w pages' hints'
 hints-taken_away w x place successor pages pages' before after hints hints' at is away normal =
-    hints-changed w x place.page pages pages' before after hints hints' at is
+    hints-changed w x place pages pages' before after hints hints' at is
     (λ turn live later dies. subst (NothingDiesBefore w turn) (sym away.slots)
     (dies-replaced w turn place.slot x successor.page successor.slot false before.slots later normal dies))
+    (λ known doubts by are. subst (λ slots. AreDoubts w slots doubts) (sym away.slots)
+    (doubts-replaced w place.slot x successor.page successor.slot false before.slots known doubts normal by are))
 
 -- or replaces it on the page
-pub hints-replaced : (w : Window) (x : ℕ) (place : Tid) (row : Row) (pages pages' : List PageView) (before after : PageView) (hints hints' : List (Option ℕ))
+pub hints-replaced : (w : Window) (x : ℕ) (place : Tid) (row : Row) (pages pages' : List PageView) (before after : PageView) (hints hints' : List PageHint)
     → slice_get pages place.page ≡ Some before → pages' ≡ set pages place.page after → after.slots ≡ with_updated before.slots place.slot x place.page row
-    → IsNormalAt before.slots place.slot → ExpectsWrite w x place.page hints hints' → AreTrueHints w pages hints → AreTrueHints w pages' hints'
+    → IsNormalAt before.slots place.slot → ExpectsWrite w x place hints hints' → AreTrueHints w pages hints → AreTrueHints w pages' hints'
 hints-replaced w x place row pages pages' before after hints hints' at is slots normal =
-    hints-changed w x place.page pages pages' before after hints hints' at is
+    hints-changed w x place pages pages' before after hints hints' at is
     (λ turn live later dies. subst (NothingDiesBefore w turn) (sym slots) (dies-updated w turn place.slot x place.page before.slots row live later normal dies))
+    (λ known doubts by are. subst (λ after_slots. AreDoubts w after_slots doubts) (sym slots)
+    (doubts-updated w place.slot x place.page before.slots row known doubts normal by are))
 
 -- there are hints on more pages
-pub hints-covered : (w : Window) (pages : List PageView) (hints hints' : List (Option ℕ)) → ((n : ℕ) → turn_on hints' n ≡ turn_on hints n) → AreTrueHints w pages hints
+pub hints-covered : (w : Window) (pages : List PageView) (hints hints' : List PageHint) → ((n : ℕ) → hint_on hints' n ≡ hint_on hints n) → AreTrueHints w pages hints
     → AreTrueHints w pages hints'
-hints-covered w pages hints hints' same are = record { each = λ n turn known. are.each n turn (sym (same n) ∙ known) }
+hints-covered w pages hints hints' same are = record {
+  each = λ n turn known. are.each n turn (sym (ap (λ (h : PageHint). h.turn) (same n)) ∙ known);
+  doubts = λ n. subst (λ (h : PageHint). AreDoubts w (page_in pages n).slots h.doubts) (sym (same n)) (are.doubts n);
+}
 
 -- A look at a page.
 
-pub known-none_dead : (h : HeapView) (hints : List (Option ℕ)) (n horizon known turn : ℕ) (page : PageView) → IsWindow h.statuses → AreTrueHints h.statuses h.pages.pages hints
-    → slice_get h.pages.pages n ≡ Some page → length page.slots ≤ 291 → turn_on hints n ≡ Some known → IsUpToNext h.statuses horizon → turn ≡ turns h.statuses.first horizon → turn ≤ known
+pub known-none_dead : (h : HeapView) (hints : List PageHint) (n horizon known turn : ℕ) (page : PageView) → IsWindow h.statuses → AreTrueHints h.statuses h.pages.pages hints
+    → slice_get h.pages.pages n ≡ Some page → length page.slots ≤ 291 → (hint_on hints n).turn ≡ Some known → IsUpToNext h.statuses horizon → turn ≡ turns h.statuses.first horizon → turn ≤ known
     → HasNoneDead h n horizon
 known-none_dead h hints n horizon known turn page is are at few noted up turn_is early =
     let dies : NothingDiesBefore h.statuses known page.slots = subst (λ (p : PageView). NothingDiesBefore h.statuses known p.slots) (page-at h.pages.pages n page at) (are.each n known noted) in

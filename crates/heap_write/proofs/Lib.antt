@@ -9,6 +9,7 @@ pub mod IdlePages
 pub mod GivenIds
 pub mod Freeing
 pub mod Dying
+pub mod DoubtLemmas
 pub mod HintLemmas
 pub mod Plans
 pub mod Replacing

@@ -255,23 +255,13 @@ pub can-at : (h : HeapView) (n : ℕ) (page : PageView) (actions : List (ℕ × 
     → CanApply (length (page_on h n).slots) actions
 can-at h n page actions at can = subst (λ (p : PageView). CanApply (length p.slots) actions) (sym (page-at h.pages.pages n page at)) can
 
--- what is known of a page once its plan was made, on a table that is seen as h
-pub record Planned (h : HeapView) (n horizon : ℕ) (page : PageView) (actions : List (ℕ × Action)) : Type 0 where
-  pub at : slice_get h.pages.pages n ≡ Some page
-  pub same : page ≡ page_on h n
-  pub plan : IsPlanOn h n horizon actions
-
-pub planned : {v h : HeapView} (n horizon : ℕ) (page : PageView) (actions : List (ℕ × Action)) → v ≡ h → slice_get v.pages.pages n ≡ Some page → IsPlan v.statuses horizon page.slots actions
-    → Planned h n horizon page actions
-planned {v = v} n horizon page actions seen at plan = subst (λ (h : HeapView). Planned h n horizon page actions) seen
-    (record { at = at; same = sym (page-at v.pages.pages n page at); plan = plan-at v n horizon page actions at plan })
-
-pub plan-around : {h : HeapView} (place : Tid) (horizon : ℕ) (page : PageView) (actions : List (ℕ × Action)) (named : Bool) → Planned h place.page horizon page actions
-    → CanApply (length page.slots) actions → (IsTrue named ↔ IsSome (action_of actions place.slot)) → IsFalse named → VersionIsThere h place → IsPlanAround h place actions
-plan-around {h = h} place horizon page actions named p can says unnamed there = record {
-  planned = (h.statuses, horizon, p.plan);
-  can_apply = can-at h place.page page actions p.at can;
-  stays = unnamed-stays h.statuses horizon (page_on h place.page) actions place.slot p.plan (none-unnamed actions place.slot named says unnamed) there;
+-- a plan that does nothing to the version at a place
+pub plan-around : {h : HeapView} (place : Tid) (horizon : ℕ) (actions : List (ℕ × Action)) (named : Bool) → IsPlanOn h place.page horizon actions
+    → CanApply (length (page_on h place.page).slots) actions → (IsTrue named ↔ IsSome (action_of actions place.slot)) → IsFalse named → VersionIsThere h place → IsPlanAround h place actions
+plan-around {h = h} place horizon actions named plan can says unnamed there = record {
+  planned = (h.statuses, horizon, plan);
+  can_apply = can;
+  stays = unnamed-stays h.statuses horizon (page_on h place.page) actions place.slot plan (none-unnamed actions place.slot named says unnamed) there;
 }
 
 pub can-kept : (h h1 : HeapView) (n : ℕ) (actions : List (ℕ × Action)) → Keeps h h1 → CanApply (length (page_on h n).slots) actions → CanApply (length (page_on h1 n).slots) actions

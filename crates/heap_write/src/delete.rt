@@ -41,7 +41,7 @@ impl HeapState {
             place.page,
             |page| delete_version(page, place.page, place.slot, x),
         );
-        expect_write(&mut self.hints, &self.statuses, place.page, x);
+        expect_write(&mut self.hints, &self.statuses, place, x);
         Ok(x)
     }
 }

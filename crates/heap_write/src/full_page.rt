@@ -8,7 +8,7 @@ ghost use Rattle.commit_status.specs.Window.{IsWindow};
 ghost use Rattle.snapshot.specs.Own.{unassigned_levels};
 ghost use Rattle.page_slots.specs.Slots.{room_of};
 ghost use Rattle.tuple_header.specs.Version.{rounded_size_of};
-ghost use Rattle.prune.specs.Actions.{action_of, applied};
+ghost use Rattle.prune.specs.Actions.{applied};
 ghost use Rattle.table_indexes.specs.Indexes.{HasEntries};
 ghost use Rattle.heap_write.specs.Heap.{page_on, Keeps};
 ghost use Rattle.heap_write.specs.Writes.{NewestIsGiven, SameOwn, Replaces, TableIsFull};
@@ -19,23 +19,11 @@ ghost use Rattle.heap_write.specs.Steps.{IsChosen, IsPlanOn, IsPlanAround, IsLef
 use crate::heap::{Answer, HeapState, WriteFault};
 use crate::ids::{needs_freeze, reserve_ids};
 use crate::target::{Target, reserve_place};
-use prune::{PrunePlan, plan, room_after};
+use prune::{PrunePlan, room_after};
 use snapshot::OwnIds;
 use std::alloc::AllocError;
 use tuple_header::{Row, row_size};
 use xid_circle::{Tid, Xid};
-
-/// Whether a plan does something to the slot of this number.
-fn names(plan: &PrunePlan, slot: u16) -> bool
-    ensures { IsTrue result ↔ IsSome (action_of plan.now.actions.items slot) }
-{
-    for action in plan.actions.as_slice() {
-        if action.0 == slot {
-            return true;
-        }
-    }
-    false
-}
 
 impl HeapState {
     /// Replaces the version at a place by one of this row, as [`HeapState::update_on_page`] does, but where the page has no room
@@ -77,18 +65,19 @@ impl HeapState {
         ensures { AnswersUpdate self.old self.new own.old own.new place row.now horizon.0 result }
     {
         self.statuses.fact_window();
-        let page = match self.pages.page(place.page) {
-            Some(page) => page,
-            None => unreachable!(),
-        };
-        let plan = plan(page, &self.statuses, horizon);
+        let mut plan = PrunePlan::new();
+        self.plan_page(&mut plan, place.page, horizon);
         if plan.actions.is_empty() {
             self.note_first_death(place.page, horizon);
             return self.update_unpruned(own, place, row);
         }
-        if names(&plan, place.slot) {
+        if plan.names(place.slot) {
             return self.update_unpruned(own, place, row);
         }
+        let page = match self.pages.page(place.page) {
+            Some(page) => page,
+            None => unreachable!(),
+        };
         if row_size(row) <= room_after(page, &plan) {
             self.update_on_pruned(own, place, row, &plan)
         } else {

@@ -45,7 +45,7 @@ pub struct HeapState {
     pub(crate) alloc: Global,
     pub(crate) pages: Pages,
     pub(crate) statuses: StatusTable,
-    // from which turn on a version on a page may be dead, as far as it is known: it changes no answer
+    // from which turn on a version on a page may be dead, and where, as far as it is known: it changes no answer
     pub(crate) hints: PruneHints,
     pub(crate) indexes: Indexes,
     // where the newest root of each key was made, as far as it is known: it changes no answer
@@ -69,7 +69,7 @@ impl Model for HeapState {
     } };
 
     ghost invariant = { λ h.
-        (h.max_pages ≤ MOST_PAGES) × AreTrueHints h.statuses h.pages.pages h.hints.turns };
+        (h.max_pages ≤ MOST_PAGES) × AreTrueHints h.statuses h.pages.pages h.hints.pages };
 }
 
 impl HeapState {

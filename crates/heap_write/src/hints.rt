@@ -6,7 +6,7 @@ ghost use Rattle.heap_write.specs.Hints.{ExpectsRoot, ExpectsWrite};
 
 use commit_status::{Status, StatusTable};
 use space_maps::PruneHints;
-use xid_circle::Xid;
+use xid_circle::{Tid, Xid};
 
 /// The turn of an id, if it is known and the id was not aborted.
 fn live_turn(statuses: &StatusTable, x: Xid) -> Option<u32>
@@ -19,26 +19,26 @@ fn live_turn(statuses: &StatusTable, x: Xid) -> Option<u32>
     }
 }
 
-/// Lowers what is known of the page of this number, on which x writes: what x deletes may be dead from its turn on, and what
-/// an aborted id makes is dead at once.
-pub(crate) fn expect_write(hints: &mut PruneHints, statuses: &StatusTable, number: u32, x: Xid)
-    ensures { ExpectsWrite statuses.now x.0 number hints.old.turns hints.new.turns }
+/// Lowers what is known of a page, where x deletes the version at this place: that may be dead from x's turn on, and what an aborted
+/// id makes is dead at once.
+pub(crate) fn expect_write(hints: &mut PruneHints, statuses: &StatusTable, place: Tid, x: Xid)
+    ensures { ExpectsWrite statuses.now x.0 place hints.old.pages hints.new.pages }
 {
-    if hints.turn(number).is_none() {
+    if hints.turn(place.page).is_none() && hints.doubts(place.page).is_none() {
         return;
     }
     match live_turn(statuses, x) {
-        Some(turn) => hints.lower(number, turn),
-        None => hints.end(number),
+        Some(turn) => hints.lower(place.page, turn, place.slot),
+        None => hints.end(place.page),
     }
 }
 
 /// Ends what is known of the page of this number, on which x makes a root, where x was aborted: then the root is dead at once. Else
 /// it has no deleter, and nothing may be dead earlier by it.
 pub(crate) fn expect_root(hints: &mut PruneHints, statuses: &StatusTable, number: u32, x: Xid)
-    ensures { ExpectsRoot statuses.now x.0 number hints.old.turns hints.new.turns }
+    ensures { ExpectsRoot statuses.now x.0 number hints.old.pages hints.new.pages }
 {
-    if hints.turn(number).is_none() {
+    if hints.turn(number).is_none() && hints.doubts(number).is_none() {
         return;
     }
     match statuses.status(x) {

@@ -6,9 +6,9 @@
 //! is said in `table_indexes`. Whatever has to grow is grown before the first change, so that nothing is left half done
 //! (`specs/Growth.antt`). What a step looks for by key is found through the index by key; a cursor goes along any.
 //!
-//! Of each page that was looked through it is kept from when on a version on it may be dead, its prune hint: an update of a full page
-//! looks for dead versions only where there may be some. No answer depends on hints, and that they are true is part of the type
-//! (`specs/Hints.antt`).
+//! Of each page that was looked through it is kept from when on a version on it may be dead, and in which slots, its prune hint: an
+//! update of a full page looks for dead versions only when and where there may be some. No answer depends on hints, and that they are
+//! true is part of the type (`specs/Hints.antt`).
 //!
 //! Where a root of each key was made last is noted too, as far as there is memory, and a get looks there first. What is noted may be
 //! anything, and no answer depends on it (`src/places.rt`).

@@ -5,10 +5,11 @@ ghost use Rattle.heap_write.specs.Heap.{page_on};
 ghost use Rattle.heap_write.specs.Writes.{Prunes};
 ghost use Rattle.heap_write.specs.Refusals.{Unpruned};
 ghost use Rattle.prune.specs.Actions.{CanApply};
+ghost use Rattle.prune.specs.Pruning.{IsPlan};
 ghost use Rattle.heap_write.specs.Steps.{HasNoneDead, with_applied};
 
 use crate::heap::HeapState;
-use prune::{Action, PrunePlan, apply_actions, first_death, plan};
+use prune::{Action, PrunePlan, apply_actions, first_death, plan_by_doubts};
 use thiserror::Error;
 use xid_circle::Xid;
 
@@ -74,16 +75,32 @@ impl HeapState {
         requires within { number < length self.old.pages.pages }
         ensures { Prunes self.old self.new number horizon.0 }
     {
-        let page = match self.pages.page(number) {
-            Some(page) => page,
-            None => return,
-        };
-        let plan = plan(page, &self.statuses, horizon);
+        let mut plan = PrunePlan::new();
+        self.plan_page(&mut plan, number, horizon);
         if plan.actions.is_empty() {
             self.note_first_death(number, horizon);
             return;
         }
         self.apply_plan(number, &plan);
+    }
+
+    /// Makes the plan of pruning the page of this number, which is in use, in the place of an earlier one. What is known then of where
+    /// versions may be dead on the page is noted.
+    pub(crate) fn plan_page(&mut self, plan: &mut PrunePlan, number: u32, horizon: Xid)
+        requires within { number < length self.old.pages.pages }
+        ensures same { self.new ≡ self.old }
+        ensures can_apply { CanApply (length (page_on self.old number).slots)
+            plan.new.actions.items }
+        ensures exact { IsPlan self.old.statuses horizon.0 (page_on self.old number).slots
+            plan.new.actions.items }
+    {
+        let page = match self.pages.page(number) {
+            Some(page) => page,
+            None => unreachable!(),
+        };
+        let mut doubts = self.hints.doubts(number);
+        plan_by_doubts(plan, page, &mut doubts, &self.statuses, horizon);
+        self.hints.note_doubts(number, doubts);
     }
 
     /// Does what a plan names on the page of this number, which is in use.
@@ -103,6 +120,6 @@ impl HeapState {
         ensures { self.new ≡ with_applied self.old number actions.now }
     {
         self.pages.edit(number, |page| apply_actions(page, actions));
-        self.hints.end(number);
+        self.hints.end_turn(number);
     }
 }

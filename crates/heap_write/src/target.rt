@@ -42,7 +42,7 @@ fn reserve_page(
     ensures room { OnOk result (0 < pages.new.spare) }
     ensures pages { pages.new.pages ≡ pages.old.pages }
     ensures marks { pages.new.marks ≡ pages.old.marks }
-    ensures hints { hints.new.turns ≡ hints.old.turns }
+    ensures hints { hints.new.pages ≡ hints.old.pages }
 {
     pages.make_room(1)?;
     hints.make_room(1)?;
@@ -66,7 +66,7 @@ pub(crate) fn reserve_place(
     ensures ready { IfOk result
         (λ found. IfSome found (λ target. IsReserved pages.new size target)) }
     ensures needs { OnErr result (IsPlaceFor pages.old.pages limit size Placement.NewPage) }
-    ensures hints { hints.new.turns ≡ hints.old.turns }
+    ensures hints { hints.new.pages ≡ hints.old.pages }
 {
     match pages.place_for(size, limit) {
         Placement::Page(number) => Ok(Some(Target::Page(number))),

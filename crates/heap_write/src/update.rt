@@ -147,7 +147,7 @@ impl HeapState {
         let _slot = self.pages.write(place.page, |page| {
             hot_update(page, place.page, place.slot, x, row)
         });
-        expect_write(&mut self.hints, &self.statuses, place.page, x);
+        expect_write(&mut self.hints, &self.statuses, place, x);
         x
     }
 
@@ -173,7 +173,7 @@ impl HeapState {
             place.page,
             |page| mark_cold_updated(page, place.slot, x, successor),
         );
-        expect_write(&mut self.hints, &self.statuses, place.page, x);
+        expect_write(&mut self.hints, &self.statuses, place, x);
         x
     }
 }

@@ -1,6 +1,6 @@
 -- Numbers that are listed in order, and what is so of all others.
-use Rattle.std.proofs.Common.{◌≡◌, ℕ, ◌+◌, ◌-◌, ◌<◌, ◌≤◌, List, [], ◌∷◌, arith, ⊎_elim, sym, subst}
-use Rattle.std.proofs.lemmas.Bool.{cases_lt}
+use Rattle.std.proofs.Common.{◌≡◌, ◌⊎◌, ℕ, suc, ◌+◌, ◌-◌, ◌<◌, ◌≤◌, List, [], ◌∷◌, length, get_or, inl, inr, arith, ⊎_elim, sym, subst}
+use Rattle.std.proofs.lemmas.Bool.{cases_lt, cases_eq}
 use Rattle.prune.specs.Marks.{ListsAllBut}
 
 -- one number less to come, of which Q is so
@@ -24,3 +24,16 @@ gaps-map Q R low bound (x ∷ rest) f l = (l.0, l.1, (λ n over below. f n (l.2 
 -- there is nothing between neighbours
 pub gaps-none : (Q : ℕ → Type 0) (low : ℕ) → ListsAllBut Q low [] (low + 1)
 gaps-none Q low = λ n over below. absurd (omega arith)
+
+-- a number in between is listed, or Q is so of it
+pub gaps-found : (Q : ℕ → Type 0) (low bound n : ℕ) (xs : List ℕ) → ListsAllBut Q low xs bound → low < n → n < bound
+    → Q n ⊎ ((k : ℕ) × (k < length xs) × (get_or xs k 0 ≡ n))
+gaps-found Q low bound n [] l over below = inl (l n over below)
+gaps-found Q low bound n (x ∷ rest) l over below = ⊎_elim
+    (λ before. inl (l.2 n over before))
+    (λ from. ⊎_elim
+    (λ here. inr (0, omega arith, sym here))
+    (λ past. ⊎_elim (λ q. inl q) (λ found. inr (suc found.0, (let lt = found.1 in omega arith), found.2))
+    (gaps-found Q x bound n rest l.3 (omega (arith, from, past)) below))
+    (cases_eq n x))
+    (cases_lt n x)

@@ -29,7 +29,7 @@ starts-version w slots n h at plain start first k there =
     subst (IsPlain w) same plain
 
 -- a version is the first of its chain
-starts-plain : (w : Window) (slots : List Slot) (n : ℕ) → StartsPlainly w slots n → IsPlainAt w slots n
+pub starts-plain : (w : Window) (slots : List Slot) (n : ℕ) → StartsPlainly w slots n → IsPlainAt w slots n
 starts-plain w slots n plain h at =
     let v = some-version (version_at slots n) h at in
     plain n (first-normal slots n v.0 v.1) h at

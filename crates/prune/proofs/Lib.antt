@@ -26,3 +26,4 @@ pub mod Stays
 pub mod Passed
 pub mod Glancing
 pub mod RoomLemmas
+pub mod Doubting

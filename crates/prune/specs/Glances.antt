@@ -1,8 +1,10 @@
 -- What a glance at a slot tells.
-use Rattle.std.specs.Prelude.{◌≡◌, ℕ, ◌<◌, Bool, false, List, slice_index_or, Some}
+use Rattle.std.specs.Prelude.{◌≡◌, ℕ, ◌<◌, Bool, false, List, slice_index_or, Option, Some, None, Contains}
 use Rattle.page_slots.specs.declared.slot.Slot.{Slot}
-use Rattle.page_slots.specs.Slots.{header_at}
+use Rattle.page_slots.specs.Slots.{version_at, header_at}
+use Rattle.tuple_header.specs.Version.{Version}
 use Rattle.tuple_header.specs.declared.version.Header.{Header}
+use Rattle.tuple_header.specs.declared.version.TheConstants.{MOST_SLOT_NUMBERS}
 use Rattle.hot_chain.specs.Chain.{first_of}
 use Rattle.commit_status.specs.Window.{Window, IsAborted}
 use Rattle.prune.specs.declared.glance.Glance.{Glance}
@@ -26,6 +28,19 @@ is_noted noted n = slice_index_or noted n false
 -- each slot over this one is so, or is noted
 abbrev pub ArePlainOrNotedOver : Window → List Slot → List Bool → ℕ → Type 0
 ArePlainOrNotedOver w slots noted low = (n : ℕ) → low < n → is_noted noted n ≡ false → IsPlainAt w slots n
+
+-- the slot where the chain of this one begins is not noted, unless no slot may have its number
+abbrev pub StartsUnnoted : List Slot → List Bool → ℕ → Type 0
+StartsUnnoted slots noted n = (start : ℕ) → first_of slots n ≡ Some start → start < MOST_SLOT_NUMBERS → is_noted noted start ≡ false
+
+-- each version is plain but in these slots
+abbrev pub ArePlainBut : Window → List Slot → List ℕ → Type 0
+ArePlainBut w slots numbers = (n : ℕ) (t : Version) → version_at slots n ≡ Some t → ¬ Contains numbers n → IsPlain w t.header
+
+-- where it is known in which slots versions may be dead, now or later, all others are plain
+abbrev pub AreDoubts : Window → List Slot → Option (List ℕ) → Type 0
+AreDoubts w slots None = Unit {0}
+AreDoubts w slots (Some numbers) = ArePlainBut w slots numbers
 
 -- the glance is right
 abbrev pub IsGlance : Window → List Slot → ℕ → Glance → Type 0

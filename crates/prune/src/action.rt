@@ -1,5 +1,8 @@
 //! A plan.
 
+ghost use Rattle.std.specs.Prelude.{◌≡◌, ◌↔◌, [], IsSome, IsTrue};
+ghost use Rattle.prune.specs.Actions.{action_of};
+
 use arrayvec::ArrayVec;
 use prune_actions::Action;
 use tuple_header::MOST_SLOT_NUMBERS;
@@ -14,4 +17,30 @@ pub struct PrunePlan {
     pub change: u64,
     /// What is done to which slot, in order of slots. A page has at most 291, so a plan takes no memory.
     pub actions: ArrayVec<(u16, Action), MOST_SLOT_NUMBERS>,
+}
+
+impl PrunePlan {
+    /// A plan of no page, that names nothing.
+    #[inline(always)]
+    pub fn new() -> Self
+        ensures change { result.change ≡ 0 }
+        ensures actions { result.actions.items ≡ [] }
+    {
+        PrunePlan {
+            change: 0,
+            actions: ArrayVec::new(),
+        }
+    }
+
+    /// Whether the plan does something to the slot of this number.
+    pub fn names(&self, slot: u16) -> bool
+        ensures { IsTrue result ↔ IsSome (action_of self.now.actions.items slot) }
+    {
+        for action in self.actions.as_slice() {
+            if action.0 == slot {
+                return true;
+            }
+        }
+        false
+    }
 }

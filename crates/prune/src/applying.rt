@@ -73,7 +73,7 @@ fn prune_by_plan(page: &mut Page, statuses: &StatusTable, horizon: Xid)
 {
     let _limit = page.slots();
     let mut doubtful: Numbers = ArrayVec::new();
-    list_doubtful(&mut doubtful, page, statuses, horizon);
+    list_doubtful(&mut doubtful, page, statuses);
     if !doubtful.is_empty() {
         prune_doubtful(page, doubtful.as_slice(), statuses, horizon);
     }

@@ -213,7 +213,7 @@ pub fn check_actions(
     let named = named_by(actions);
     let mut marks = [PruneVerdict::Orphan; MOST_SLOT_NUMBERS];
     let mut doubtful: Numbers = ArrayVec::new();
-    list_doubtful(&mut doubtful, page, statuses, horizon);
+    list_doubtful(&mut doubtful, page, statuses);
     mark_page(&mut marks, doubtful.as_slice(), page, statuses, horizon);
     have_prefixes(page, &named, statuses, horizon) && are_accounted(page, &marks, &named, statuses)
 }

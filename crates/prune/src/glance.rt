@@ -1,14 +1,17 @@
-//! Which slots of a page need more than a glance before pruning: few on most pages, and only those are gone over again.
+//! Which slots of a page need more than a glance before pruning: few on most pages, and only those are gone over again. Where it is
+//! known which versions may be dead, no other header is looked at.
 
-ghost use Rattle.std.specs.Prelude.{◌≡◌, ◌+◌, ◌<◌, [], IsTrue, length, reverse};
+ghost use Rattle.std.specs.Prelude.{◌≡◌, ◌+◌, ◌<◌, ℕ, [], true, false, IsTrue, Contains, length, reverse};
+ghost use Rattle.tuple_header.specs.declared.version.TheConstants.{MOST_SLOT_NUMBERS};
 ghost use Rattle.commit_status.specs.Window.{IsAborted};
 ghost use Rattle.page_slots.specs.Slots.{SlotIsThere};
-ghost use Rattle.prune.specs.Marks.{ListsAllBut, ListsDoubtful};
-ghost use Rattle.prune.specs.Glances.{IsPlain, IsPlainAt, StartsPlainly, ArePlainOrNotedOver, IsGlance};
+ghost use Rattle.prune.specs.Marks.{ListsAllBut};
+ghost use Rattle.prune.specs.Glances.{IsPlain, IsPlainAt, StartsPlainly, ArePlainOrNotedOver, IsGlance, is_noted, StartsUnnoted, ArePlainBut, AreDoubts};
 
 use arrayvec::ArrayVec;
 use commit_status::StatusTable;
 use page_slots::{Page, SlotHead};
+use space_maps::{Doubts, DOUBT_PLACES, with_doubt};
 use tuple_header::{Header, MOST_SLOT_NUMBERS};
 use xid_circle::Xid;
 
@@ -133,17 +136,119 @@ fn list_backwards(doubtful: &mut Numbers, page: &Page, statuses: &StatusTable)
     }
 }
 
-/// Lists the slots of a page that do not plainly stay: few where pruning finds little, and none where each version is undeleted
-/// and not rolled back. The list is empty before.
-pub(crate) fn list_doubtful(
+/// Notes each of these numbers that a slot may have.
+#[inline(always)]
+fn note_all(noted: &mut Noted, numbers: &[u16; DOUBT_PLACES])
+    ensures { (n : ℕ) → n < MOST_SLOT_NUMBERS → Contains numbers.now n
+        → is_noted noted.new n ≡ true }
+{
+    for number in numbers {
+        if usize::from(*number) < MOST_SLOT_NUMBERS {
+            noted[usize::from(*number)] = true;
+        }
+    }
+}
+
+/// Whether the slot is noted where the chain of this one begins.
+#[inline(always)]
+fn is_start_noted(page: &Page, number: u16, noted: &Noted) -> bool
+    requires { SlotIsThere page.now.slots number }
+    ensures { result ≡ false → StartsUnnoted page.now.slots noted.now number }
+{
+    let start = match page.head(number) {
+        SlotHead::Redirect(target) => target,
+        SlotHead::Version(_) | SlotHead::Empty => number,
+    };
+    usize::from(start) < MOST_SLOT_NUMBERS && noted[usize::from(start)]
+}
+
+/// Lists the slots, from the last to the first, whose chains begin in one of these slots: each version is plain that stands in another.
+/// So no header is looked at. The list is empty before.
+#[inline(always)]
+fn list_known_backwards(
     doubtful: &mut Numbers,
     page: &Page,
+    numbers: &[u16; DOUBT_PLACES],
     statuses: &StatusTable,
-    horizon: Xid,
 )
     requires blank { doubtful.old.items ≡ [] }
-    ensures { ListsDoubtful statuses.now horizon.0 page.now.slots doubtful.new.items }
+    requires known { ArePlainBut statuses.now page.now.slots numbers.now }
+    ensures { ListsAllBut
+        (StartsPlainly statuses.now page.now.slots) 0 (reverse doubtful.new.items)
+        (length page.now.slots + 1) }
+{
+    let mut noted = [false; MOST_SLOT_NUMBERS];
+    note_all(&mut noted, numbers);
+    let mut number = page.slots();
+    while number > 0 {
+        if is_start_noted(page, number, &noted) {
+            doubtful.push(number);
+        }
+        number -= 1;
+    }
+}
+
+/// Lists these slots in order.
+#[inline(never)]
+fn list_known(
+    doubtful: &mut Numbers,
+    page: &Page,
+    numbers: &[u16; DOUBT_PLACES],
+    statuses: &StatusTable,
+)
+    requires blank { doubtful.old.items ≡ [] }
+    requires known { ArePlainBut statuses.now page.now.slots numbers.now }
+    ensures { ListsAllBut (StartsPlainly statuses.now page.now.slots) 0 doubtful.new.items
+        (length page.now.slots + 1) }
+{
+    list_known_backwards(doubtful, page, numbers, statuses);
+    doubtful.as_mut_slice().reverse();
+}
+
+/// Lists the slots of a page that do not plainly stay: few where pruning finds little, and none where each version is undeleted
+/// and not rolled back. The list is empty before.
+pub(crate) fn list_doubtful(doubtful: &mut Numbers, page: &Page, statuses: &StatusTable)
+    requires blank { doubtful.old.items ≡ [] }
+    ensures { ListsAllBut (StartsPlainly statuses.now page.now.slots) 0 doubtful.new.items
+        (length page.now.slots + 1) }
 {
     list_backwards(doubtful, page, statuses);
     doubtful.as_mut_slice().reverse();
+}
+
+/// The same, of a page of which it may be known where versions stand that are not plain: then only these are looked for.
+#[inline(always)]
+pub(crate) fn list_by_doubts(
+    doubtful: &mut Numbers,
+    page: &Page,
+    known: &Doubts,
+    statuses: &StatusTable,
+)
+    requires blank { doubtful.old.items ≡ [] }
+    requires known { AreDoubts statuses.now page.now.slots known.now }
+    ensures { ListsAllBut (StartsPlainly statuses.now page.now.slots) 0 doubtful.new.items
+        (length page.now.slots + 1) }
+{
+    match known {
+        Some(numbers) => list_known(doubtful, page, numbers, statuses),
+        None => list_doubtful(doubtful, page, statuses),
+    }
+}
+
+/// Where the versions stand that are not plain, if they are few enough to be noted. They are among the slots that are listed.
+pub(crate) fn doubts_among(page: &Page, doubtful: &[u16], statuses: &StatusTable) -> Doubts
+    requires { ListsAllBut (StartsPlainly statuses.now page.now.slots) 0 doubtful.now
+        (length page.now.slots + 1) }
+    ensures { AreDoubts statuses.now page.now.slots result }
+{
+    let mut doubts = Some([0; DOUBT_PLACES]);
+    for number in doubtful {
+        if doubts.is_none() {
+            return None;
+        }
+        if !is_plain_at(page, *number, statuses) {
+            doubts = with_doubt(doubts, *number);
+        }
+    }
+    doubts
 }

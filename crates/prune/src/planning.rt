@@ -7,15 +7,17 @@ ghost use Rattle.hot_chain.specs.Chain.{has_aborted};
 ghost use Rattle.sound_page.specs.Links.{NoSharedSlots};
 ghost use Rattle.prune.specs.Checks.{Checks};
 ghost use Rattle.prune.specs.Marks.{mark_at, planned, ListsDoubtful};
+ghost use Rattle.prune.specs.Glances.{AreDoubts};
 ghost use Rattle.tuple_header.specs.declared.version.TheConstants.{MOST_SLOT_NUMBERS};
 
 use crate::action::{Actions, PrunePlan};
-use crate::glance::{Numbers, list_doubtful};
+use crate::glance::{Numbers, doubts_among, list_by_doubts, list_doubtful};
 use crate::marks::{Marks, PruneVerdict, mark_page};
 use arrayvec::ArrayVec;
 use commit_status::StatusTable;
 use page_slots::Page;
 use prune_actions::Action;
+use space_maps::Doubts;
 use tuple_header::MOST_SLOT_NUMBERS;
 use xid_circle::Xid;
 
@@ -85,7 +87,7 @@ pub fn plan(page: &Page, statuses: &StatusTable, horizon: Xid) -> PrunePlan
         actions: ArrayVec::new(),
     };
     let mut doubtful: Numbers = ArrayVec::new();
-    list_doubtful(&mut doubtful, page, statuses, horizon);
+    list_doubtful(&mut doubtful, page, statuses);
     if !doubtful.is_empty() {
         list_actions(
             &mut plan.actions,
@@ -96,4 +98,38 @@ pub fn plan(page: &Page, statuses: &StatusTable, horizon: Xid) -> PrunePlan
         );
     }
     plan
+}
+
+/// Makes such a plan in the place of an earlier one, of a page of which it may be known where versions stand that may be dead, now or
+/// later. If it is, only these are looked at, and else all. What is known then is put in the place of what was.
+pub fn plan_by_doubts(
+    plan: &mut PrunePlan,
+    page: &Page,
+    doubts: &mut Doubts,
+    statuses: &StatusTable,
+    horizon: Xid,
+)
+    requires known { AreDoubts statuses.now page.now.slots doubts.old }
+    ensures known { AreDoubts statuses.now page.now.slots doubts.new }
+    ensures change { plan.new.change ≡ page.now.change }
+    ensures can_apply { CanApply (length page.now.slots) plan.new.actions.items }
+    ensures exact { IsPlan statuses.now horizon.0 page.now.slots plan.new.actions.items }
+    ensures checks { NoSharedSlots (has_aborted statuses.now) page.now.slots
+        → Checks statuses.now horizon.0 page.now plan.new.change plan.new.actions.items }
+{
+    let _limit = page.slots();
+    let mut doubtful: Numbers = ArrayVec::new();
+    list_by_doubts(&mut doubtful, page, doubts, statuses);
+    *doubts = doubts_among(page, doubtful.as_slice(), statuses);
+    plan.change = page.change();
+    plan.actions.clear();
+    if !doubtful.is_empty() {
+        list_actions(
+            &mut plan.actions,
+            doubtful.as_slice(),
+            page,
+            statuses,
+            horizon,
+        );
+    }
 }

@@ -1,53 +1,72 @@
 -- What hints say after one of them changes, one is added, or an epoch ends.
-use Rattle.std.proofs.Common.{◌≡◌, ◌∙◌, ℕ, zero, suc, ◌<◌, ◌≤◌, inl, inr, List, [], ◌∷◌, ◌++◌, map, set, length, Option, None, refl, sym, ap, subst, arith}
+use Rattle.std.proofs.Common.{◌≡◌, ◌∙◌, ℕ, zero, suc, ◌<◌, ◌≤◌, inl, inr, ⊎_elim, ◌⊎◌, List, [], ◌∷◌, ◌++◌, map, set, length, Option, Some, None, refl, sym, ap, subst, arith, slice_index_or}
 use Rattle.std.specs.List.{All}
-use Rattle.std.proofs.lemmas.Bool.{cases_lt, eq-eqb, ne_eqb}
-use Rattle.std.proofs.lemmas.List.{map-set, get_or-map, get_or_past, length-map, map-append}
-use Rattle.space_maps.specs.Hints.{turn_on, turn_in}
+use Rattle.std.proofs.lemmas.Bool.{cases_lt, cases_eq, eq-eqb, ne_eqb}
+use Rattle.std.proofs.lemmas.List.{map-set, get_or-map, get_or_past, get_or-set_same, get_or-set_other, get_or_default, length-map, length-set, map-append}
+use Rattle.space_maps.specs.Hints.{PageHint, nothing_known, hint_on, hint_in, AddsDoubt}
 use Rattle.space_maps.specs.declared.prune_hints.PruneHint.{PruneHint}
 
 -- what a hint says in this epoch, and what all of them do
-abbrev pub says : ℕ → PruneHint → Option ℕ
-says now hint = turn_in now hint.epoch hint.turn
+abbrev pub says : ℕ → PruneHint → PageHint
+says now hint = hint_in now hint.epoch hint.turn hint.doubts
 
-abbrev pub turns_in : ℕ → List PruneHint → List (Option ℕ)
-turns_in now hints = map (says now) hints
+abbrev pub pages_in : ℕ → List PruneHint → List PageHint
+pages_in now hints = map (says now) hints
 
 -- a hint that says nothing
 abbrev pub nothing : ℕ → PruneHint
-nothing epoch = record { epoch = epoch; turn = None }
+nothing epoch = record { epoch = epoch; turn = None; doubts = None }
 
-turn_in-now : (now : ℕ) (turn : Option ℕ) → turn_in now now turn ≡ turn
-turn_in-now now turn = rw (eq-eqb now now refl) refl
+-- a hint of this epoch
+abbrev pub of_now : ℕ → PageHint → PruneHint
+of_now now hint = record { epoch = now; turn = hint.turn; doubts = hint.doubts }
 
-turn_in-later : (now epoch : ℕ) (turn : Option ℕ) → epoch < now → turn_in now epoch turn ≡ None
-turn_in-later now epoch turn before = rw (ne_eqb epoch now (λ e. omega (arith, before, e))) refl
+says-now : (now : ℕ) (turn : Option ℕ) (doubts : Option (List ℕ)) → hint_in now now turn doubts ≡ record { turn = turn; doubts = doubts }
+says-now now turn doubts = rw (eq-eqb now now refl) refl
+
+says-later : (now epoch : ℕ) (turn : Option ℕ) (doubts : Option (List ℕ)) → epoch < now → hint_in now epoch turn doubts ≡ nothing_known
+says-later now epoch turn doubts before = rw (ne_eqb epoch now (λ e. omega (arith, before, e))) refl
 
 -- the hint of a page is replaced by one of this epoch
-pub turns-set : (now : ℕ) (hints : List PruneHint) (n : ℕ) (turn : Option ℕ)
-    → turns_in now (set hints n (record { epoch = now; turn = turn })) ≡ set (turns_in now hints) n turn
-turns-set now hints n turn =
-    map-set (says now) hints n (record { epoch = now; turn = turn }) ∙ ap (set (turns_in now hints) n) (turn_in-now now turn)
+pub pages-set : (now : ℕ) (hints : List PruneHint) (n : ℕ) (turn : Option ℕ) (doubts : Option (List ℕ))
+    → pages_in now (set hints n (record { epoch = now; turn = turn; doubts = doubts })) ≡ set (pages_in now hints) n (record { turn = turn; doubts = doubts })
+pages-set now hints n turn doubts =
+    map-set (says now) hints n (record { epoch = now; turn = turn; doubts = doubts }) ∙ ap (set (pages_in now hints) n) (says-now now turn doubts)
 
-unknown-added : (turns : List (Option ℕ)) (n : ℕ) → turn_on (turns ++ None ∷ []) n ≡ turn_on turns n
+unknown-added : (hints : List PageHint) (n : ℕ) → hint_on (hints ++ nothing_known ∷ []) n ≡ hint_on hints n
 unknown-added [] zero = refl
 unknown-added [] (suc n) = refl
-unknown-added (t ∷ ts) zero = refl
-unknown-added (t ∷ ts) (suc n) = unknown-added ts n
+unknown-added (h ∷ hs) zero = refl
+unknown-added (h ∷ hs) (suc n) = unknown-added hs n
 
 -- one that says nothing is added
-pub turns-push : (now : ℕ) (hints : List PruneHint) (n : ℕ)
-    → turn_on (turns_in now (hints ++ nothing now ∷ [])) n ≡ turn_on (turns_in now hints) n
-turns-push now hints n =
-    ap (λ turns. turn_on turns n) (map-append (says now) hints (nothing now ∷ []) ∙ ap (λ t. turns_in now hints ++ t ∷ []) (turn_in-now now None))
-    ∙ unknown-added (turns_in now hints) n
+pub pages-push : (now : ℕ) (hints : List PruneHint) (n : ℕ)
+    → hint_on (pages_in now (hints ++ nothing now ∷ [])) n ≡ hint_on (pages_in now hints) n
+pages-push now hints n =
+    ap (λ pages. hint_on pages n) (map-append (says now) hints (nothing now ∷ []) ∙ ap (λ t. pages_in now hints ++ t ∷ []) (says-now now None None))
+    ∙ unknown-added (pages_in now hints) n
 
 -- in a later epoch all say nothing
-pub turns-later : (now later : ℕ) (hints : List PruneHint) → now < later → All (λ (hint : PruneHint). hint.epoch ≤ now) hints
-    → (n : ℕ) → turn_on (turns_in later hints) n ≡ None
-turns-later now later hints lt within n =
+pub pages-later : (now later : ℕ) (hints : List PruneHint) → now < later → All (λ (hint : PruneHint). hint.epoch ≤ now) hints
+    → (n : ℕ) → hint_on (pages_in later hints) n ≡ nothing_known
+pages-later now later hints lt within n =
     elim (cases_lt n (length hints)) [
-      | inl below ↦ get_or-map (says later) hints n (nothing 0) None below
-          ∙ turn_in-later later _ _ (let le = within n (nothing 0) below in omega arith)
-      | inr past ↦ get_or_past (turns_in later hints) n None (subst (λ k. k ≤ n) (sym (length-map hints (says later))) past)
+      | inl below ↦ get_or-map (says later) hints n (nothing 0) nothing_known below
+          ∙ says-later later _ _ _ (let le = within n (nothing 0) below in omega arith)
+      | inr past ↦ get_or_past (pages_in later hints) n nothing_known (subst (λ k. k ≤ n) (sym (length-map hints (says later))) past)
     ]
+
+-- a slot is noted where none was, or where it was itself
+pub doubt-put : (known : List ℕ) (place slot : ℕ) → place < length known → (slice_index_or known place 0 ≡ 0) ⊎ (slice_index_or known place 0 ≡ slot)
+    → AddsDoubt (Some known) slot (Some (set known place slot))
+doubt-put known place slot within free n from off = (
+  (λ same. off (place, subst (λ k. place < k) (sym (length-set known place slot)) within, get_or-set_same known place slot n within ∙ sym same)),
+  (λ was. ⊎_elim
+      (λ here.
+      let at : slice_index_or known place 0 ≡ n = get_or_default known place 0 n within ∙ (ap (λ k. slice_index_or known k n) (sym here) ∙ was.2) in
+      ⊎_elim (λ none. let zero_is : n ≡ 0 = sym at ∙ none in absurd (omega (arith, from, zero_is)))
+      (λ it. off (place, subst (λ k. place < k) (sym (length-set known place slot)) within, get_or-set_same known place slot n within ∙ (sym it ∙ at)))
+      free)
+      (λ other. off (was.0, subst (λ k. was.0 < k) (sym (length-set known place slot)) was.1, get_or-set_other known place was.0 slot n other ∙ was.2))
+      (cases_eq was.0 place)),
+)

@@ -1,32 +1,73 @@
-//! What is known of when pruning a page may take something.
+//! What is known of when pruning a page may take something, and from where.
 
-ghost use Rattle.std.specs.Prelude.{◌≡◌, ℕ, ◌+◌, ◌-◌, ◌≤◌, ◌<◌, [], ◌∷◌, ◌++◌, Option, Some, None, length, map, slice_set, vec_len, vec_capacity, OnOk, OnErr};
-ghost use Rattle.space_maps.specs.Hints.{turn_on, lowered, turn_in};
+ghost use Rattle.std.specs.Prelude.{◌≡◌, ◌≢◌, ℕ, ◌+◌, ◌-◌, ◌≤◌, ◌<◌, [], ◌∷◌, ◌++◌, Option, Some, None, length, map, slice_set, vec_len, vec_capacity, OnOk, OnErr};
+ghost use Rattle.space_maps.specs.Hints.{hint_on, hint_in, nothing_known, AddsDoubt, Lowers};
 
 use std::alloc::{AllocError, Global};
 use std::marker::Model;
 use std::mem::size_of;
+
+/// How many slots of a page may be noted as doubtful.
+pub const DOUBT_PLACES: usize = 7;
+
+/// The only slots of a page whose versions may be dead, now or later, where they are known and at most seven: their numbers, and 0
+/// for none.
+pub type Doubts = Option<[u16; DOUBT_PLACES]>;
 
 /// What was noted of a page, and in which epoch: later it says nothing.
 #[derive(Clone, Copy, Debug)]
 struct PruneHint {
     epoch: u64,
     turn: Option<u32>,
+    doubts: Doubts,
 }
 
-const _: () = prove!(size_of::<PruneHint>() == 16);
+const _: () = prove!(size_of::<PruneHint>() == 32);
 
 impl PruneHint {
-    /// What it says in this epoch.
-    fn turn_in(self, epoch: u64) -> Option<u32>
-        ensures { result ≡ turn_in epoch self.epoch self.turn }
+    /// A hint of this epoch that says nothing.
+    fn nothing(epoch: u64) -> PruneHint
+        ensures epoch { result.epoch ≡ epoch }
+        ensures turn { result.turn ≡ None }
+        ensures doubts { result.doubts ≡ None }
     {
-        if self.epoch == epoch { self.turn } else { None }
+        PruneHint {
+            epoch,
+            turn: None,
+            doubts: None,
+        }
+    }
+
+    /// A hint of this epoch that says what this one says in it.
+    fn in_epoch(self, epoch: u64) -> PruneHint
+        ensures epoch { result.epoch ≡ epoch }
+        ensures says { record { turn = result.turn; doubts = result.doubts }
+            ≡ hint_in epoch self.epoch self.turn self.doubts }
+    {
+        if self.epoch == epoch {
+            self
+        } else {
+            PruneHint::nothing(epoch)
+        }
     }
 }
 
-/// For each page the turn from which on a version on it may be dead, or that nothing is known of it. All that is known ends at
-/// once where an epoch does. PostgreSQL keeps one id on each page, as pd_prune_xid; this is kept beside the pages.
+/// These slots and one more, where there are at most seven then.
+pub fn with_doubt(doubts: Doubts, slot: u16) -> Doubts
+    ensures { AddsDoubt doubts slot result }
+{
+    let mut numbers = doubts?;
+    for place in 0..DOUBT_PLACES {
+        if numbers[place] == 0 || numbers[place] == slot {
+            numbers[place] = slot;
+            return Some(numbers);
+        }
+    }
+    None
+}
+
+/// For each page the turn from which on a version on it may be dead, and the slots whose versions may be, as far as they are known. All
+/// that is known ends at once where an epoch does. PostgreSQL keeps one id on each page, as pd_prune_xid; this is kept beside the pages.
 #[derive(Debug, Drop)]
 pub struct PruneHints {
     epoch: u64,
@@ -36,12 +77,12 @@ pub struct PruneHints {
 impl Model for PruneHints {
     ghost use Rattle.std.specs.Prelude.{◌-◌, ◌≤◌, map, vec_len, vec_capacity};
     ghost use Rattle.std.specs.List.{All};
-    ghost use Rattle.space_maps.specs.Hints.{HintsView, turn_in};
+    ghost use Rattle.space_maps.specs.Hints.{HintsView, hint_in};
 
     ghost Value = { HintsView };
 
     ghost view = { λ h. record {
-      turns = map (λ hint. turn_in h.epoch hint.epoch hint.turn) h.hints.items;
+      pages = map (λ hint. hint_in h.epoch hint.epoch hint.turn hint.doubts) h.hints.items;
       spare = vec_capacity h.hints - vec_len h.hints;
     } };
 
@@ -51,7 +92,7 @@ impl Model for PruneHints {
 impl PruneHints {
     /// Hints on no page.
     pub fn new(alloc: Global) -> Self
-        ensures turns { result.turns ≡ [] }
+        ensures pages { result.pages ≡ [] }
     {
         PruneHints {
             epoch: 0,
@@ -61,41 +102,79 @@ impl PruneHints {
 
     /// The turn from which on a version of the page of this number may be dead, if it is known.
     pub fn turn(&self, number: u32) -> Option<u32>
-        ensures { result ≡ turn_on self.now.turns number }
+        ensures { result ≡ (hint_on self.now.pages number).turn }
     {
-        self.hints.get(number as usize)?.turn_in(self.epoch)
+        self.hint(number).turn
+    }
+
+    /// The slots of the page of this number whose versions may be dead, if they are known.
+    pub fn doubts(&self, number: u32) -> Doubts
+        ensures { result ≡ (hint_on self.now.pages number).doubts }
+    {
+        self.hint(number).doubts
     }
 
     /// Notes this turn of a page. A page beyond those that have a hint gets none.
     pub fn note(&mut self, number: u32, turn: u32)
-        ensures turns { self.new.turns ≡ slice_set self.old.turns number (Some turn) }
+        ensures pages { self.new.pages ≡ slice_set self.old.pages number
+            (record (hint_on self.old.pages number) { turn = Some turn }) }
         ensures spare { self.new.spare ≡ self.old.spare }
     {
-        self.put(number, Some(turn));
+        let mut hint = self.hint(number);
+        hint.turn = Some(turn);
+        self.put(number, hint);
     }
 
-    /// Lowers what is known of a page to this turn, where that is earlier. Where nothing is known, nothing is after it.
-    pub fn lower(&mut self, number: u32, turn: u32)
-        ensures turns { self.new.turns
-            ≡ slice_set self.old.turns number (lowered (turn_on self.old.turns number) turn) }
+    /// Notes which slots of a page are doubtful, or that it isn't known.
+    pub fn note_doubts(&mut self, number: u32, doubts: Doubts)
+        ensures pages { self.new.pages ≡ slice_set self.old.pages number
+            (record (hint_on self.old.pages number) { doubts = doubts }) }
         ensures spare { self.new.spare ≡ self.old.spare }
     {
-        let lowest = self.turn(number).map(|known| known.min(turn));
-        self.put(number, lowest);
+        let mut hint = self.hint(number);
+        hint.doubts = doubts;
+        self.put(number, hint);
+    }
+
+    /// Notes that a version in this slot of a page may be dead from this turn on: what is known of the page is lowered to it, where that
+    /// is earlier. Where nothing is known, nothing is after it.
+    pub fn lower(&mut self, number: u32, turn: u32, slot: u16)
+        ensures here { Lowers (hint_on self.old.pages number) turn slot
+            (hint_on self.new.pages number) }
+        ensures others { (m : ℕ) → m ≢ number
+            → hint_on self.new.pages m ≡ hint_on self.old.pages m }
+        ensures spare { self.new.spare ≡ self.old.spare }
+    {
+        let mut hint = self.hint(number);
+        hint.turn = hint.turn.map(|known| known.min(turn));
+        hint.doubts = with_doubt(hint.doubts, slot);
+        self.put(number, hint);
+    }
+
+    /// No turn is known of a page any more.
+    pub fn end_turn(&mut self, number: u32)
+        ensures pages { self.new.pages ≡ slice_set self.old.pages number
+            (record (hint_on self.old.pages number) { turn = None }) }
+        ensures spare { self.new.spare ≡ self.old.spare }
+    {
+        let mut hint = self.hint(number);
+        hint.turn = None;
+        self.put(number, hint);
     }
 
     /// Nothing is known of a page any more.
     pub fn end(&mut self, number: u32)
-        ensures turns { self.new.turns ≡ slice_set self.old.turns number None }
+        ensures pages { self.new.pages ≡ slice_set self.old.pages number nothing_known }
         ensures spare { self.new.spare ≡ self.old.spare }
     {
-        self.put(number, None);
+        let hint = PruneHint::nothing(self.epoch);
+        self.put(number, hint);
     }
 
     /// Nothing is known of any page any more.
     pub fn end_all(&mut self)
-        ensures none { (n : ℕ) → turn_on self.new.turns n ≡ None }
-        ensures count { length self.new.turns ≡ length self.old.turns }
+        ensures none { (n : ℕ) → hint_on self.new.pages n ≡ nothing_known }
+        ensures count { length self.new.pages ≡ length self.old.pages }
         ensures spare { self.new.spare ≡ self.old.spare }
     {
         if self.epoch < u64::MAX {
@@ -110,19 +189,19 @@ impl PruneHints {
         ensures room { OnOk result (count ≤ self.new.spare) }
         ensures refused { OnErr result (self.old.spare < count) }
         ensures spare { self.old.spare ≤ self.new.spare }
-        ensures turns { self.new.turns ≡ self.old.turns }
+        ensures pages { self.new.pages ≡ self.old.pages }
     {
         self.hints.try_reserve(count)
     }
 
     /// Extends the hints to the first `count` pages, within the memory set aside. Nothing is known of the pages that it adds.
     pub fn cover(&mut self, count: usize)
-        ensures each { (n : ℕ) → turn_on self.new.turns n ≡ turn_on self.old.turns n }
-        ensures keeps { length self.old.turns ≤ length self.new.turns }
-        ensures spare { length self.new.turns + self.new.spare
-            ≡ length self.old.turns + self.old.spare }
-        ensures reaches { count ≤ length self.old.turns + self.old.spare
-            → count ≤ length self.new.turns }
+        ensures each { (n : ℕ) → hint_on self.new.pages n ≡ hint_on self.old.pages n }
+        ensures keeps { length self.old.pages ≤ length self.new.pages }
+        ensures spare { length self.new.pages + self.new.spare
+            ≡ length self.old.pages + self.old.spare }
+        ensures reaches { count ≤ length self.old.pages + self.old.spare
+            → count ≤ length self.new.pages }
     {
         let end = count.min(self.hints.capacity());
         if self.hints.len() < end {
@@ -130,41 +209,52 @@ impl PruneHints {
         }
     }
 
+    // What is known of a page, as a hint of this epoch.
+    #[inline(always)]
+    fn hint(&self, number: u32) -> PruneHint
+        ensures says { record { turn = result.turn; doubts = result.doubts }
+            ≡ hint_on self.now.pages number }
+    {
+        match self.hints.get(number as usize) {
+            Some(hint) => hint.in_epoch(self.epoch),
+            None => PruneHint::nothing(self.epoch),
+        }
+    }
+
     // Adds hints that say nothing, until there are so many.
     fn fill_up(&mut self, count: usize)
-        requires more { length self.old.turns ≤ count }
-        requires room { count ≤ length self.old.turns + self.old.spare }
-        ensures each { (n : ℕ) → turn_on self.new.turns n ≡ turn_on self.old.turns n }
-        ensures count { length self.new.turns ≡ count }
-        ensures spare { count + self.new.spare ≡ length self.old.turns + self.old.spare }
+        requires more { length self.old.pages ≤ count }
+        requires room { count ≤ length self.old.pages + self.old.spare }
+        ensures each { (n : ℕ) → hint_on self.new.pages n ≡ hint_on self.old.pages n }
+        ensures count { length self.new.pages ≡ count }
+        ensures spare { count + self.new.spare ≡ length self.old.pages + self.old.spare }
     {
-        let nothing = PruneHint {
-            epoch: self.epoch,
-            turn: None,
-        };
+        let nothing = PruneHint::nothing(self.epoch);
         for _ in self.hints.len()..count {
             self.hints.push_reserved(nothing);
         }
     }
 
-    // Says this of a page, where it has a hint.
-    fn put(&mut self, number: u32, turn: Option<u32>)
-        ensures turns { self.new.turns ≡ slice_set self.old.turns number turn }
+    // Says of a page what this hint says, where the page has one.
+    fn put(&mut self, number: u32, hint: PruneHint)
+        ensures pages { self.new.pages ≡ slice_set self.old.pages number
+            (record { turn = hint.turn; doubts = hint.doubts }) }
         ensures spare { self.new.spare ≡ self.old.spare }
     {
-        let hint = PruneHint {
+        let of_now = PruneHint {
             epoch: self.epoch,
-            turn,
+            turn: hint.turn,
+            doubts: hint.doubts,
         };
         if (number as usize) < self.hints.len() {
-            self.hints[number as usize] = hint;
+            self.hints[number as usize] = of_now;
         }
     }
 
     // The same as a new epoch, where there are no more numbers for one.
     fn end_each(&mut self)
-        ensures none { (n : ℕ) → turn_on self.new.turns n ≡ None }
-        ensures count { length self.new.turns ≡ length self.old.turns }
+        ensures none { (n : ℕ) → hint_on self.new.pages n ≡ nothing_known }
+        ensures count { length self.new.pages ≡ length self.old.pages }
         ensures spare { self.new.spare ≡ self.old.spare }
     {
         let count = self.hints.len();

@@ -28,7 +28,7 @@ impl Step for HintStep {
             HintStep::MakeRoom(count) => hints.make_room(count)?,
             HintStep::Cover(count) => hints.cover(count),
             HintStep::Note(number, turn) => hints.note(number, turn),
-            HintStep::Lower(number, turn) => hints.lower(number, turn),
+            HintStep::Lower(number, turn) => hints.lower(number, turn, 1),
             HintStep::End(number) => hints.end(number),
             HintStep::EndAll => hints.end_all(),
             HintStep::Turn(number, turn) => return Ok(hints.turn(number) == turn),

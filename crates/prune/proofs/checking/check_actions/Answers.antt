@@ -3,6 +3,7 @@ use Rattle.prune.specs.Actions.{AreInOrder}
 use Rattle.prune.specs.Marks.{PlainlyStays, ListsAllBut}
 use Rattle.prune.proofs.Prefixes.{taken}
 use Rattle.prune.proofs.CheckLemmas.{order-more, checked, checks-can_apply}
+use Rattle.prune.proofs.Glancing.{listed-doubtful}
 use Rattle.prune.proofs.Roots.{loose-everywhere}
 use Rattle.prune.proofs.checking.check_actions.Goals as goal
 
@@ -10,7 +11,8 @@ pub mark_page-requires : goal.mark_page-requires
 mark_page-requires c = record {
   blank = λ n. loose-everywhere 292 n;
   doubtful = subst (λ (xs : List ℕ). ListsAllBut (PlainlyStays c.args.statuses.now c.args.horizon.0 c.args.page.now.slots) 0 xs (length c.args.page.now.slots + 1))
-      (sym c.as_slice.ensures.value) c.list_doubtful.ensures;
+      (sym c.as_slice.ensures.value)
+      (listed-doubtful c.args.statuses.now c.args.horizon.0 c.args.page.now.slots c.list_doubtful.new.doubtful.items c.list_doubtful.ensures);
 }
 
 pub named_by-named-requires : goal.named_by-named-requires

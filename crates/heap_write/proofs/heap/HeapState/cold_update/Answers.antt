@@ -46,7 +46,7 @@ pub invariant_of-self : goal.invariant_of-self
 invariant_of-self c =
     let taken = c.take_ids-x in (
       c.self.invariant.0,
-      hints-taken c.self.inside.statuses taken.new.statuses c.args.own.now taken.new.own taken.result.0 c.self.inside.pages.pages c.self.inside.hints.turns taken.ensures.takes taken.ensures.window
+      hints-taken c.self.inside.statuses taken.new.statuses c.args.own.now taken.new.own taken.result.0 c.self.inside.pages.pages c.self.inside.hints.pages taken.ensures.takes taken.ensures.window
           c.self.invariant.1,
     )
 
@@ -61,6 +61,6 @@ invariant_of-self-2 c =
     let normal = stays-there c.args.self.now (record { pages = c.self.inside.pages; statuses = c.take_ids-x.new.statuses; indexes = c.self.inside.indexes; max_pages = c.self.inside.max_pages }) c.put_root-successor.new.self
     place x c.args.row.now successor.page e.0 (ap (λ (h : HeapView). h.pages) c.self.view_is) c.requires.may.there c.put_root-successor.ensures.root at in (
       c.self-2.invariant.0,
-      hints-taken_away c.self-2.inside.statuses x place successor c.self-2.inside.pages.pages c.write.new.self.pages e.0 e.1 c.self-2.inside.hints.turns c.expect_write.new.hints.turns e.2
+      hints-taken_away c.self-2.inside.statuses x place successor c.self-2.inside.pages.pages c.write.new.self.pages e.0 e.1 c.self-2.inside.hints.pages c.expect_write.new.hints.pages e.2
           (ap (λ (p : PagesView). p.pages) e.4) away normal c.expect_write.ensures c.self-2.invariant.1,
     )

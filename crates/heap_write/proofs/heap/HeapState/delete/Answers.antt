@@ -31,7 +31,7 @@ returns-clause-ok c =
 pub invariant_of-self : goal.invariant_of-self
 invariant_of-self c = (
   c.self.invariant.0,
-  hints-same_ids c.self.inside.statuses c.reserve_ids.new.statuses c.self.inside.pages.pages c.self.inside.hints.turns c.reserve_ids.ensures.ids c.self.invariant.1,
+  hints-same_ids c.self.inside.statuses c.reserve_ids.new.statuses c.self.inside.pages.pages c.self.inside.hints.pages c.reserve_ids.ensures.ids c.self.invariant.1,
 )
 
 pub write-requires-clause-ready : goal.write-requires-clause-ready
@@ -49,12 +49,12 @@ invariant_of-self-2 c =
     let reserved = c.reserve_ids in
     let e = c.write.ensures.writes in
     let pages = c.self.inside.pages.pages in
-    let hints = c.self.inside.hints.turns in
+    let hints = c.self.inside.hints.pages in
     let away : WritesXmax e.0 e.1 place place x = search rules in
     let there : VersionIsThere (the_view c.self.inside) place = subst (λ (h : HeapView). VersionIsThere h place) (sym c.self.view_is) c.requires.there in
     let ready = hints-same_ids c.self.inside.statuses reserved.new.statuses pages hints reserved.ensures.ids c.self.invariant.1 in
     let given = hints-taken reserved.new.statuses taken.new.statuses reserved.new.own taken.new.own x pages hints taken.ensures.takes taken.ensures.window ready in (
       c.self.invariant.0,
-      hints-taken_away taken.new.statuses x place place pages c.write.new.self.pages e.0 e.1 hints c.expect_write.new.hints.turns e.2 (ap (λ (p : PagesView). p.pages) e.4) away
+      hints-taken_away taken.new.statuses x place place pages c.write.new.self.pages e.0 e.1 hints c.expect_write.new.hints.pages e.2 (ap (λ (p : PagesView). p.pages) e.4) away
           (there-at (the_view c.self.inside) place e.0 there e.2) c.expect_write.ensures given,
     )

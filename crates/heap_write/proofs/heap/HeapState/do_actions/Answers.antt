@@ -1,19 +1,29 @@
-use Rattle.std.proofs.Common.{rules, ◌≡◌, sym, ap, ◌∙◌, subst}
+use Rattle.std.proofs.Common.{rules, ◌≡◌, length, sym, ap, ◌∙◌, subst}
 use Rattle.page_slots.specs.View.{PageView}
 use Rattle.heap_pages.specs.View.{PagesView, with_page}
-use Rattle.prune.specs.Actions.{applied}
-use Rattle.heap_write.specs.Heap.{HeapView}
+use Rattle.prune.specs.Actions.{CanApply, applied}
+use Rattle.prune.specs.Glances.{AreDoubts}
+use Rattle.heap_write.specs.Heap.{HeapView, page_on}
 use Rattle.heap_write.specs.Steps.{with_applied}
 use Rattle.heap_write.proofs.PageLemmas.{page-at}
-use Rattle.heap_write.proofs.HintLemmas.{hints-ended}
+use Rattle.heap_write.proofs.DoubtLemmas.{doubts-applied}
+use Rattle.heap_write.proofs.HintLemmas.{hints-turn_ended}
 use Rattle.heap_write.proofs.heap.HeapState.do_actions.Goals as goal
 
 pub invariant_of-self : goal.invariant_of-self
 invariant_of-self c =
-    let e = c.edit.ensures.edits in (
+    let w = c.self.inside.statuses in
+    let n = c.args.number in
+    let pages = c.self.inside.pages.pages in
+    let actions = c.args.actions.now in
+    let e = c.edit.ensures.edits in
+    let done : e.1 ≡ applied actions e.0 = search rules in
+    let can : CanApply (length e.0.slots) actions =
+    subst (λ (p : PageView). CanApply (length p.slots) actions) (page-at pages n e.0 e.2)
+    (subst (λ (h : HeapView). CanApply (length (page_on h n).slots) actions) (sym c.self.view_is) c.requires.can_apply) in (
       c.self.invariant.0,
-      hints-ended c.self.inside.statuses c.self.inside.pages.pages c.edit.new.self.pages c.self.inside.hints.turns c.end.new.self.turns c.args.number e.1 (ap (λ (p : PagesView). p.pages) e.4) c.end.ensures.turns
-          c.self.invariant.1,
+      hints-turn_ended w pages c.edit.new.self.pages c.self.inside.hints.pages c.end_turn.new.self.pages n e.0 e.1 e.2 (ap (λ (p : PagesView). p.pages) e.4) c.end_turn.ensures.pages
+          (λ doubts true. subst (λ (p : PageView). AreDoubts w p.slots doubts) (sym done) (doubts-applied w actions e.0 doubts can true)) c.self.invariant.1,
     )
 
 pub returns : goal.returns

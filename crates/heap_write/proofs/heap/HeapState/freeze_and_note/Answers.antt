@@ -11,6 +11,7 @@ use Rattle.heap_write.specs.Growth.{page_in}
 use Rattle.heap_write.specs.Cleaning.{FreezesAndNotes}
 use Rattle.heap_write.specs.contracts.heap.HeapState.{the_view}
 use Rattle.heap_write.proofs.Dying.{dies-frozen}
+use Rattle.heap_write.proofs.DoubtLemmas.{doubts-frozen}
 use Rattle.heap_write.proofs.PageLemmas.{page-at}
 use Rattle.heap_write.proofs.HintLemmas.{hints-kept}
 use Rattle.heap_write.proofs.heap.HeapState.freeze_and_note.Goals as goal
@@ -21,10 +22,11 @@ invariant_of-self c =
     let e = c.edit-found.ensures.edits in
     let m = c.note.ensures in
     let freezes : FreezesPage w c.args.cutoff.0 c.args.number e.0 e.1 = search rules in
-    let frozen = hints-kept w c.self.inside.pages.pages c.edit-found.new.self.pages c.self.inside.hints.turns c.args.number e.0 e.1 e.2 (ap (λ (p : PagesView). p.pages) e.4)
-    (λ turn. dies-frozen w c.args.cutoff.0 c.args.number turn e.0.slots e.1.slots freezes.slots) c.self.invariant.1 in (
+    let frozen = hints-kept w c.self.inside.pages.pages c.edit-found.new.self.pages c.self.inside.hints.pages c.args.number e.0 e.1 e.2 (ap (λ (p : PagesView). p.pages) e.4)
+    (λ turn. dies-frozen w c.args.cutoff.0 c.args.number turn e.0.slots e.1.slots freezes.slots)
+    (λ doubts. doubts-frozen w c.args.cutoff.0 c.args.number e.0.slots e.1.slots doubts freezes.slots) c.self.invariant.1 in (
       c.self.invariant.0,
-      hints-kept w c.edit-found.new.self.pages c.note.new.self.pages c.self.inside.hints.turns c.args.number m.0 _ m.1 (ap (λ (p : PagesView). p.pages) m.2) (λ turn dies. dies) frozen,
+      hints-kept w c.edit-found.new.self.pages c.note.new.self.pages c.self.inside.hints.pages c.args.number m.0 _ m.1 (ap (λ (p : PagesView). p.pages) m.2) (λ turn dies. dies) (λ doubts true. true) frozen,
     )
 
 pub returns : goal.returns

@@ -23,9 +23,9 @@ invariant_of-self c =
     let e = c.edit-found.ensures.edits in
     let m = c.note.ensures in
     let n = c.args.number in
-    let hints = c.end.new.self.turns in
-    let ended = hints-ended w c.self.inside.pages.pages c.edit-found.new.self.pages c.self.inside.hints.turns hints n e.1 (ap (λ (p : PagesView). p.pages) e.4) c.end.ensures.turns c.self.invariant.1 in
-    (c.self.invariant.0, hints-kept w c.edit-found.new.self.pages c.note.new.self.pages hints n m.0 _ m.1 (ap (λ (p : PagesView). p.pages) m.2) (λ turn dies. dies) ended)
+    let hints = c.end.new.self.pages in
+    let ended = hints-ended w c.self.inside.pages.pages c.edit-found.new.self.pages c.self.inside.hints.pages hints n e.1 (ap (λ (p : PagesView). p.pages) e.4) c.end.ensures.pages c.self.invariant.1 in
+    (c.self.invariant.0, hints-kept w c.edit-found.new.self.pages c.note.new.self.pages hints n m.0 _ m.1 (ap (λ (p : PagesView). p.pages) m.2) (λ turn dies. dies) (λ doubts true. true) ended)
 
 pub returns-clause-freezes : goal.returns-clause-freezes
 returns-clause-freezes c =

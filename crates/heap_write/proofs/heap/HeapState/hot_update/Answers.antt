@@ -50,8 +50,8 @@ invariant_of-self c =
     let adds : AddsToPage (record e.0 { flag = false }) e.1 (with_updated e.0.slots place.slot x place.page row)
     (replaced_change e.0.slots place.slot x place.page (free_number e.0.slots) true (next_change e.0.change)) = search rules in
     let there : VersionIsThere (the_view c.self.inside) place = subst (λ (h : HeapView). VersionIsThere h place) (sym c.self.view_is) c.requires.may.there in
-    let given = hints-taken c.self.inside.statuses taken.new.statuses c.args.own.now taken.new.own x c.self.inside.pages.pages c.self.inside.hints.turns taken.ensures.takes taken.ensures.window c.self.invariant.1 in (
+    let given = hints-taken c.self.inside.statuses taken.new.statuses c.args.own.now taken.new.own x c.self.inside.pages.pages c.self.inside.hints.pages taken.ensures.takes taken.ensures.window c.self.invariant.1 in (
       c.self.invariant.0,
-      hints-replaced taken.new.statuses x place row c.self.inside.pages.pages c.write-slot.new.self.pages e.0 e.1 c.self.inside.hints.turns c.expect_write.new.hints.turns e.2 (ap (λ (p : PagesView). p.pages) e.4)
+      hints-replaced taken.new.statuses x place row c.self.inside.pages.pages c.write-slot.new.self.pages e.0 e.1 c.self.inside.hints.pages c.expect_write.new.hints.pages e.2 (ap (λ (p : PagesView). p.pages) e.4)
           adds.slots (there-at (the_view c.self.inside) place e.0 there e.2) c.expect_write.ensures given,
     )

@@ -56,7 +56,7 @@ pub invariant_of-self : goal.invariant_of-self
 invariant_of-self c =
     let placed = c.reserve_place in (
       c.self.invariant.0,
-      hints-grown c.self.inside.statuses c.self.inside.statuses c.self.inside.pages placed.new.pages c.self.inside.hints.turns placed.new.hints.turns (same-ids c.self.inside.statuses) placed.ensures.same
+      hints-grown c.self.inside.statuses c.self.inside.statuses c.self.inside.pages placed.new.pages c.self.inside.hints.pages placed.new.hints.pages (same-ids c.self.inside.statuses) placed.ensures.same
           placed.ensures.hints c.self.invariant.1,
     )
 
@@ -64,6 +64,6 @@ pub invariant_of-self-in-Err : goal.invariant_of-self-in-Err
 invariant_of-self-in-Err c =
     let placed = c.reserve_place in (
       c.self.invariant.0,
-      hints-grown c.self.inside.statuses c.self.inside.statuses c.self.inside.pages placed.new.pages c.self.inside.hints.turns placed.new.hints.turns (same-ids c.self.inside.statuses) placed.ensures.same
+      hints-grown c.self.inside.statuses c.self.inside.statuses c.self.inside.pages placed.new.pages c.self.inside.hints.pages placed.new.hints.pages (same-ids c.self.inside.statuses) placed.ensures.same
           placed.ensures.hints c.self.invariant.1,
     )

@@ -39,7 +39,7 @@ returns-then-is_err-clause-needs c =
 pub invariant_of-self : goal.invariant_of-self
 invariant_of-self c =
     let pages = c.self.inside.pages.pages in
-    let hints = c.self.inside.hints.turns in
+    let hints = c.self.inside.hints.pages in
     elim c.then-is_err.branch [
       | then-is_err-via-then-is_err w ↦ rw w.self-inside-is c.self.invariant
       | then-is_err-via-else-is_err+then-is_err-2 w ↦ rw w.self-inside-is (
@@ -53,6 +53,6 @@ invariant_of-self-2 c =
     let taken = c.take_ids-x in
     let reserved = c.reserve_ids in
     let pages = c.self.inside.pages.pages in
-    let hints = c.self.inside.hints.turns in
+    let hints = c.self.inside.hints.pages in
     let ready = hints-same_ids c.self.inside.statuses reserved.new.statuses pages hints reserved.ensures.ids c.self.invariant.1 in
     (c.self.invariant.0, hints-taken reserved.new.statuses taken.new.statuses reserved.new.own taken.new.own taken.result.0 pages hints taken.ensures.takes taken.ensures.window ready)

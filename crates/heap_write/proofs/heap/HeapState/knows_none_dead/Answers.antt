@@ -13,5 +13,5 @@ returns-in-Some-Some-Some c = λ early.
     let few : length some.page.now.slots ≤ 291 = omega (arith, c.slots-limit.ensures.count, c.slots-limit.ensures.limit) in
     let le : some.turn ≤ some.known = grind (arith, nat_tests) in
     subst (λ (h : HeapView). HasNoneDead h c.args.number c.args.horizon.0) c.self.view_is
-    (known-none_dead (the_view c.self.inside) c.self.inside.hints.turns c.args.number c.args.horizon.0 some.known some.turn some.page.now c.fact_window.ensures c.self.invariant.1
+    (known-none_dead (the_view c.self.inside) c.self.inside.hints.pages c.args.number c.args.horizon.0 some.known some.turn some.page.now c.fact_window.ensures c.self.invariant.1
     (sym c.page.ensures ∙ ap option_copied some.is-0) few (sym c.turn.ensures ∙ some.is-1) some.ensures''.0 some.ensures''.1 le)

@@ -10,7 +10,7 @@ pub invariant_of-self : goal.invariant_of-self
 invariant_of-self c =
     let e = c.note.ensures in (
       c.self.invariant.0,
-      hints-kept c.self.inside.statuses c.self.inside.pages.pages c.note.new.self.pages c.self.inside.hints.turns c.args.number e.0 _ e.1 (ap (λ (p : PagesView). p.pages) e.2) (λ turn dies. dies) c.self.invariant.1,
+      hints-kept c.self.inside.statuses c.self.inside.pages.pages c.note.new.self.pages c.self.inside.hints.pages c.args.number e.0 _ e.1 (ap (λ (p : PagesView). p.pages) e.2) (λ turn dies. dies) (λ doubts true. true) c.self.invariant.1,
     )
 
 pub returns-in_default : goal.returns-in_default

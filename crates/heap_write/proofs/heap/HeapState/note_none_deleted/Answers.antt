@@ -17,6 +17,6 @@ invariant_of-self c =
     let visible = subst (λ (h : HeapView). IsAllVisible h.statuses c.args.horizon.0 (page_on h n).slots) (sym c.self.view_is) c.requires.visible in
     let turn = next-turn w c.next-next.result.0 c.turn_of.result c.unwrap_or-turn.result c.fact_window.ensures c.next-next.ensures.value c.turn_of.ensures c.unwrap_or-turn.ensures in (
       c.self.invariant.0,
-      hints-noted w pages c.self.inside.hints.turns c.note.new.self.turns n c.unwrap_or-turn.result (page_on (the_view c.self.inside) n) (slice_get-get_or pages n unused_page within)
-          (dies-visible w c.args.horizon.0 c.unwrap_or-turn.result _ turn visible) c.note.ensures.turns c.self.invariant.1,
+      hints-noted w pages c.self.inside.hints.pages c.note.new.self.pages n c.unwrap_or-turn.result (page_on (the_view c.self.inside) n) (slice_get-get_or pages n unused_page within)
+          (dies-visible w c.args.horizon.0 c.unwrap_or-turn.result _ turn visible) c.note.ensures.pages c.self.invariant.1,
     )

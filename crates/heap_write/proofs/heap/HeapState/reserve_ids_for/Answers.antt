@@ -10,11 +10,11 @@ returns-clause-keeps c = keeps-viewed (the_view c.self.inside) _ _ c.self.view_i
 pub invariant_of-self : goal.invariant_of-self
 invariant_of-self c = (
   c.self.invariant.0,
-  hints-same_ids c.self.inside.statuses c.reserve_ids.new.statuses c.self.inside.pages.pages c.self.inside.hints.turns c.reserve_ids.ensures.ids c.self.invariant.1,
+  hints-same_ids c.self.inside.statuses c.reserve_ids.new.statuses c.self.inside.pages.pages c.self.inside.hints.pages c.reserve_ids.ensures.ids c.self.invariant.1,
 )
 
 pub invariant_of-self-2 : goal.invariant_of-self-2
 invariant_of-self-2 c = (
   c.self.invariant.0,
-  hints-same_ids c.self.inside.statuses c.reserve_ids.new.statuses c.self.inside.pages.pages c.self.inside.hints.turns c.reserve_ids.ensures.ids c.self.invariant.1,
+  hints-same_ids c.self.inside.statuses c.reserve_ids.new.statuses c.self.inside.pages.pages c.self.inside.hints.pages c.reserve_ids.ensures.ids c.self.invariant.1,
 )

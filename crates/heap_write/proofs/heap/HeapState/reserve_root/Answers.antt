@@ -29,19 +29,19 @@ returns-clause-needs c =
 pub invariant_of-self : goal.invariant_of-self
 invariant_of-self c = (
   c.self.invariant.0,
-  hints-same_ids c.self.inside.statuses c.reserve_ids.new.statuses c.self.inside.pages.pages c.self.inside.hints.turns c.reserve_ids.ensures.ids c.self.invariant.1,
+  hints-same_ids c.self.inside.statuses c.reserve_ids.new.statuses c.self.inside.pages.pages c.self.inside.hints.pages c.reserve_ids.ensures.ids c.self.invariant.1,
 )
 
 pub invariant_of-self-in_err-make_room : goal.invariant_of-self-in_err-make_room
 invariant_of-self-in_err-make_room c = (
   c.self.invariant.0,
-  hints-same_ids c.self.inside.statuses c.reserve_ids.new.statuses c.self.inside.pages.pages c.self.inside.hints.turns c.reserve_ids.ensures.ids c.self.invariant.1,
+  hints-same_ids c.self.inside.statuses c.reserve_ids.new.statuses c.self.inside.pages.pages c.self.inside.hints.pages c.reserve_ids.ensures.ids c.self.invariant.1,
 )
 
 pub invariant_of-self-2 : goal.invariant_of-self-2
 invariant_of-self-2 c =
     let placed = c.reserve_place in (
       c.self.invariant.0,
-      hints-grown c.self.inside.statuses c.reserve_ids.new.statuses c.self.inside.pages placed.new.pages c.self.inside.hints.turns placed.new.hints.turns c.reserve_ids.ensures.ids placed.ensures.same
+      hints-grown c.self.inside.statuses c.reserve_ids.new.statuses c.self.inside.pages placed.new.pages c.self.inside.hints.pages placed.new.hints.pages c.reserve_ids.ensures.ids placed.ensures.same
           placed.ensures.hints c.self.invariant.1,
     )
