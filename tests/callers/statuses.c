@@ -113,13 +113,15 @@ static uint32_t needs_freeze(void) {
     return status;
 }
 
+/* Only a row that is too large has memory asked for its body. */
 static uint32_t no_memory(void) {
     row.key = 2;
-    row.length = 1;
+    row.length = SANDPIPER_BODY + 1;
     asked = 0;
     counts = true;
     uint32_t status = sandpiper_insert(&t, 0, &row);
     counts = false;
+    row.length = 1;
     return status;
 }
 

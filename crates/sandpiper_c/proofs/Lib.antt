@@ -6,3 +6,4 @@ pub mod Finding
 mod ManyLemmas
 mod BytesLemmas
 mod PlacesLemmas
+mod WritesLemmas

@@ -2,6 +2,7 @@
 use Rattle.std.specs.Prelude.{◌≡◌, ◌⊎◌, ℕ, ◌<◌, Option, Some, None}
 use Rattle.tuple_header.specs.declared.row_place.RowPlace.{RowPlace}
 use Rattle.tuple_header.specs.declared.version.Row.{Row}
+use Rattle.tuple_header.specs.declared.version.TheConstants.{MOST_BODY}
 use Rattle.tuple_header.specs.Places.{place_with}
 use Rattle.calls.specs.declared.settings.Settings.{Settings}
 use Rattle.calls.specs.declared.settings.SettingsFault.{SettingsFault}
@@ -15,6 +16,8 @@ use Rattle.session_core.specs.Clauses.{WaitingFollows, WaitingExact, IsNewWaitin
 use Rattle.sandpiper_c.specs.declared.database.Sandpiper.{Sandpiper}
 use Rattle.sandpiper_c.specs.declared.held.Held.{Held}
 use Rattle.sandpiper_c.specs.declared.settings.SandpiperSettings.{SandpiperSettings}
+use Rattle.sandpiper_c.specs.declared.writes.WriteKind.{WriteKind}
+use Rattle.sandpiper_c.specs.declared.writes.WriteKind.TheVariants.{Insert, Update}
 use Rattle.sandpiper_c.specs.declared.status.CallStatus.TheVariants as status
 use Rattle.sandpiper_c.specs.CallStatus.{number_of_status, status_of_reply, status_of_fault}
 use Rattle.sandpiper_c.specs.Rows.{IsText}
@@ -69,10 +72,15 @@ abbrev pub ShowsHeld : Option Held → Step → ℕ → Option Held → (Option 
 ShowsHeld None step code new shows = (code ≡ number_of_status status.NoEngine) × (new ≡ None) × shows None
 ShowsHeld (Some old) step code new shows = (held : Held) × (new ≡ Some held) × TakesShowing old step code held shows
 
--- the same of a step with a row, unless memory for its body was refused, and nothing done
+-- the step of a session that writes a row
+abbrev pub write_of : WriteKind → ℕ → RowToWrite → Step
+write_of Insert session text = step.Insert session text
+write_of Update session text = step.Update session text
+
+-- the same of a step with a row, unless memory for a body of over 1024 bytes was refused, and nothing done
 abbrev pub Writes : Sandpiper → (RowToWrite → Step) → RowPlace → ℕ → Sandpiper → Type 0
 Writes old step row code new = ((text : RowToWrite) × IsText row text × Does old (step text) code new)
-    ⊎ ((0 < row.length) × (code ≡ number_of_status (status.Refused refusal.NoMemory)) × (held_by new ≡ held_by old))
+    ⊎ ((MOST_BODY < row.length) × (code ≡ number_of_status (status.Refused refusal.NoMemory)) × (held_by new ≡ held_by old))
 
 -- what the handle has is as it was
 abbrev pub StaysAsIs : Sandpiper → Sandpiper → Type 0

@@ -2,19 +2,11 @@
 use Rattle.std.specs.Prelude.{◌≡◌, ◌≢◌, ◌⊎◌, ℕ, List, [], ◌∷◌, length, take, slice_get, Some}
 use Rattle.tuple_header.specs.declared.row_place.RowPlace.{RowPlace}
 use Rattle.calls.specs.declared.step.Step.{Step}
-use Rattle.calls.specs.declared.step.Step.TheVariants as step
 use Rattle.calls.specs.Words.{RowToWrite}
 use Rattle.sandpiper_c.specs.declared.database.Sandpiper.{Sandpiper}
-use Rattle.sandpiper_c.specs.declared.many.WriteKind.{WriteKind}
-use Rattle.sandpiper_c.specs.declared.many.WriteKind.TheVariants.{Insert, Update}
 use Rattle.sandpiper_c.specs.declared.status.CallStatus.TheVariants as status
 use Rattle.sandpiper_c.specs.CallStatus.{number_of_status}
 use Rattle.sandpiper_c.specs.Calls.{Writes}
-
--- the step of a session that writes a row
-abbrev pub write_of : WriteKind → ℕ → RowToWrite → Step
-write_of Insert session text = step.Insert session text
-write_of Update session text = step.Update session text
 
 -- the rows are written one after another, and none is refused
 abbrev pub AreWritten : (RowToWrite → Step) → Sandpiper → List RowPlace → Sandpiper → Type 0

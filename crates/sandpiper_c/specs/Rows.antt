@@ -13,3 +13,7 @@ pub record IsText (row : RowPlace) (text : RowToWrite) : Type 0 where
   pub key : text.key ≡ row.key
   pub cols : text.cols ≡ row.cols
   pub body : IsBody row.body row.length text.body
+
+-- it is this one where the length is at most 1024
+abbrev pub text_within : RowPlace → RowToWrite
+text_within row = record { key = row.key; cols = row.cols; body = take row.length row.body }

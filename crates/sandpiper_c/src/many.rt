@@ -1,31 +1,14 @@
 //! The steps that write a row, one after another.
 
 ghost use Rattle.calls.specs.declared.step.Step.TheVariants as step;
-ghost use Rattle.sandpiper_c.specs.Calls.{Writes};
-ghost use Rattle.sandpiper_c.specs.Many.{write_of, WritesMany};
+ghost use Rattle.sandpiper_c.specs.Calls.{write_of};
+ghost use Rattle.sandpiper_c.specs.Many.{WritesMany};
 
 use crate::database::Sandpiper;
 use crate::status::CallStatus;
-use crate::writes::{sandpiper_insert, sandpiper_update};
+use crate::writes::{WriteKind, write};
 use session_core::RowPlace;
 use std::alloc::Global;
-
-/// Which step writes each row.
-#[derive(Clone, Copy)]
-pub enum WriteKind {
-    Insert,
-    Update,
-}
-
-/// Writes one row.
-fn write(alloc: Global, table: &mut Sandpiper, kind: WriteKind, session: u8, row: &RowPlace) -> u32
-    ensures { Writes table.old (write_of kind session) row.now result table.new }
-{
-    match kind {
-        WriteKind::Insert => sandpiper_insert(alloc, table, session, row),
-        WriteKind::Update => sandpiper_update(alloc, table, session, row),
-    }
-}
 
 /// Writes rows one after another, up to the first that is refused. `done` says how many were written.
 fn write_many(

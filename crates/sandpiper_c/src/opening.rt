@@ -12,6 +12,7 @@ use crate::settings::{self, SandpiperSettings};
 use crate::status::CallStatus;
 use session_core::{Engine, Reply, SettingsFault};
 use std::alloc::Global;
+use table_scans::no_row;
 
 /// An engine of these settings, on the heap.
 fn new_held(alloc: Global, settings: &SandpiperSettings) -> Result<Box<Held>, SettingsFault>
@@ -23,6 +24,7 @@ fn new_held(alloc: Global, settings: &SandpiperSettings) -> Result<Box<Held>, Se
     let held = Held {
         engine,
         reply: Reply::Done,
+        row: no_row(),
     };
     match Box::new(alloc, held) {
         Ok(held) => Ok(held),

@@ -17,6 +17,21 @@ pub(crate) fn held_step(held: &mut Held, step: Step) -> u32
     CallStatus::of_reply(&held.reply).number()
 }
 
+/// Does the step on what is held: by a call of its own where it has one that makes no reply.
+#[inline(always)]
+fn held_direct(held: &mut Held, step: Step) -> u32
+    ensures { DoesWithReply held.old step result held.new }
+{
+    let answer = match step {
+        Step::Begin(s) => held.engine.begin(s),
+        Step::Delete(s, key) => held.engine.delete(s, key),
+        Step::Commit(s) => held.engine.commit(s),
+        Step::Abort(s) => held.engine.abort(s),
+        step => return held_step(held, step),
+    };
+    CallStatus::of_answer(answer).number()
+}
+
 /// Does the step, if the handle has an engine.
 #[inline(always)]
 pub(crate) fn do_step(alloc: Global, table: &mut Sandpiper, step: Step) -> u32
@@ -24,7 +39,7 @@ pub(crate) fn do_step(alloc: Global, table: &mut Sandpiper, step: Step) -> u32
 {
     match table.take(alloc) {
         Some(mut held) => {
-            let code = held_step(&mut held, step);
+            let code = held_direct(&mut held, step);
             table.put(held);
             code
         }
@@ -32,28 +47,7 @@ pub(crate) fn do_step(alloc: Global, table: &mut Sandpiper, step: Step) -> u32
     }
 }
 
-/// The session begins.
-fn held_begin(held: &mut Held, session: u8) -> u32
-    ensures { DoesWithReply held.old (step.Begin session) result held.new }
-{
-    CallStatus::of_answer(held.engine.begin(session)).number()
-}
-
-/// It commits.
-fn held_commit(held: &mut Held, session: u8) -> u32
-    ensures { DoesWithReply held.old (step.Commit session) result held.new }
-{
-    CallStatus::of_answer(held.engine.commit(session)).number()
-}
-
-/// It aborts.
-fn held_abort(held: &mut Held, session: u8) -> u32
-    ensures { DoesWithReply held.old (step.Abort session) result held.new }
-{
-    CallStatus::of_answer(held.engine.abort(session)).number()
-}
-
-/// It reads the row of a key, which is written to C's place.
+/// The session reads the row of a key, which is written to C's place.
 fn held_get(held: &mut Held, session: u8, key: u64, row: &mut RowPlace) -> u32
     ensures { TakesShowing held.old (step.Get session key) result held.new
         (λ reply. ShowsRow (row_found_in reply) row.old row.new) }
@@ -66,14 +60,7 @@ fn held_get(held: &mut Held, session: u8, key: u64, row: &mut RowPlace) -> u32
 pub extern "C" fn sandpiper_begin(alloc: Global, table: &mut Sandpiper, session: u8) -> u32
     ensures { Does table.old (step.Begin session) result table.new }
 {
-    match table.take(alloc) {
-        Some(mut held) => {
-            let code = held_begin(&mut held, session);
-            table.put(held);
-            code
-        }
-        None => CallStatus::NoEngine.number(),
-    }
+    do_step(alloc, table, Step::Begin(session))
 }
 
 /// Opens the session: each of its statements reads what was committed by then.
@@ -151,14 +138,7 @@ pub extern "C" fn sandpiper_release(alloc: Global, table: &mut Sandpiper, sessio
 pub extern "C" fn sandpiper_commit(alloc: Global, table: &mut Sandpiper, session: u8) -> u32
     ensures { Does table.old (step.Commit session) result table.new }
 {
-    match table.take(alloc) {
-        Some(mut held) => {
-            let code = held_commit(&mut held, session);
-            table.put(held);
-            code
-        }
-        None => CallStatus::NoEngine.number(),
-    }
+    do_step(alloc, table, Step::Commit(session))
 }
 
 /// Drops what the session wrote, and closes it.
@@ -166,14 +146,7 @@ pub extern "C" fn sandpiper_commit(alloc: Global, table: &mut Sandpiper, session
 pub extern "C" fn sandpiper_abort(alloc: Global, table: &mut Sandpiper, session: u8) -> u32
     ensures { Does table.old (step.Abort session) result table.new }
 {
-    match table.take(alloc) {
-        Some(mut held) => {
-            let code = held_abort(&mut held, session);
-            table.put(held);
-            code
-        }
-        None => CallStatus::NoEngine.number(),
-    }
+    do_step(alloc, table, Step::Abort(session))
 }
 
 /// Takes from a page, counted from 0, what nobody can see any more.

@@ -4,11 +4,12 @@ ghost use Rattle.std.specs.Prelude.{◌≡◌};
 ghost use Rattle.std.specs.Option.{is_some};
 ghost use Rattle.calls.specs.declared.step.Step.{Step};
 ghost use Rattle.session_steps.specs.Replies.{reply_to};
+ghost use Rattle.session_steps.specs.Follows.{worded};
 ghost use Rattle.session_core.specs.Clauses.{WaitingFollows, WaitingExact};
 ghost use Rattle.session_core.specs.Gets.{EngineGets, LooksUp, place_of};
 
 use crate::engine::Engine;
-use calls::Refusal;
+use calls::{Refusal, Row};
 use session_steps::{Ack, SessionEngine};
 use tuple_header::{RowPlace, RowRef};
 
@@ -54,6 +55,49 @@ impl Engine {
         self.disturb(true);
         self.core.fact_set_up();
         let answer = self.core.begin(s);
+        self.note_answer(s, false, answer)
+    }
+
+    /// Writes a row of a key that has none. Refusals in order: NoSuchSession, NotOpen, Failed, CursorOpen, AlreadyThere, Conflict,
+    /// Busy or Deadlock, NeedsFreeze, NoRoom, NoMemory.
+    #[inline(always)]
+    pub fn insert(&mut self, s: u8, row: &Row) -> Result<Ack, Refusal>
+        ensures follows { WaitingFollows self.old (Step.Insert s (worded row.now))
+            (reply_to result) self.new }
+        ensures exact { WaitingExact self.old (Step.Insert s (worded row.now))
+            (reply_to result) self.new }
+    {
+        self.disturb(true);
+        self.core.fact_set_up();
+        let answer = self.core.insert_row(s, row);
+        self.note_answer(s, false, answer)
+    }
+
+    /// Writes another row of a key that has one. Refusals in order: NoSuchSession, NotOpen, Failed, CursorOpen, NotThere, Conflict,
+    /// Busy or Deadlock, NeedsFreeze, NoMemory, NoRoom.
+    #[inline(always)]
+    pub fn update(&mut self, s: u8, row: &Row) -> Result<Ack, Refusal>
+        ensures follows { WaitingFollows self.old (Step.Update s (worded row.now))
+            (reply_to result) self.new }
+        ensures exact { WaitingExact self.old (Step.Update s (worded row.now))
+            (reply_to result) self.new }
+    {
+        self.disturb(true);
+        self.core.fact_set_up();
+        let answer = self.core.update_row(s, row);
+        self.note_answer(s, false, answer)
+    }
+
+    /// Takes the row of a key away. Refusals in order: NoSuchSession, NotOpen, Failed, CursorOpen, NotThere, Conflict,
+    /// Busy or Deadlock, NeedsFreeze, NoMemory.
+    #[inline(always)]
+    pub fn delete(&mut self, s: u8, key: u64) -> Result<Ack, Refusal>
+        ensures follows { WaitingFollows self.old (Step.Delete s key) (reply_to result) self.new }
+        ensures exact { WaitingExact self.old (Step.Delete s key) (reply_to result) self.new }
+    {
+        self.disturb(true);
+        self.core.fact_set_up();
+        let answer = self.core.delete(s, key);
         self.note_answer(s, false, answer)
     }
 

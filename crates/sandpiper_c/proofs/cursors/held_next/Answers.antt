@@ -8,7 +8,7 @@ use Rattle.sandpiper_c.proofs.cursors.held_next.Goals as goal
 
 pub returns : goal.returns
 returns c =
-    let new : Held = record { engine = c.next_rows-answer.new.self; reply = c.args.held.now.reply } in
+    let new : Held = record { engine = c.next_rows-answer.new.self; reply = c.args.held.now.reply; row = c.args.held.now.row } in
     let P : ℕ → ℕ → Type 0 = λ code count. HandsToPlaces c.args.held.now c.args.session c.args.rows.now code c.next_rows-answer.new.places count new in
     let some : 0 < length c.args.rows.now = grind (arith, nat_tests, c.is_empty.ensures, c.if-is_empty.false) in
     subst (λ code. P code c.count_of.result) (sym (c.number-2.ensures ∙ ap number_of_status c.status_of_answer.ensures))

@@ -1,5 +1,6 @@
 use Rattle.std.proofs.Common.{◌≡◌, length, take, inl, inr, refl, sym, ◌∙◌, subst, arith}
-use Rattle.sandpiper_c.specs.Many.{write_of, AreWritten}
+use Rattle.sandpiper_c.specs.Calls.{write_of}
+use Rattle.sandpiper_c.specs.Many.{AreWritten}
 use Rattle.sandpiper_c.proofs.ManyLemmas.{row-at, written-next}
 use Rattle.sandpiper_c.proofs.many.write_many.Goals as goal
 

@@ -1,5 +1,6 @@
 use Rattle.std.proofs.Common.{take}
-use Rattle.sandpiper_c.specs.Many.{write_of, AreWritten}
+use Rattle.sandpiper_c.specs.Calls.{write_of}
+use Rattle.sandpiper_c.specs.Many.{AreWritten}
 use Rattle.sandpiper_c.proofs.many.write_many.Given as goal
 
 abbrev pub invariant-loop-number : goal.invariant-loop-number

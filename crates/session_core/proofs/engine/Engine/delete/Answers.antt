@@ -1,0 +1,16 @@
+use Rattle.std.proofs.Common.{refl}
+use Rattle.calls.specs.declared.step.Step.TheVariants as step
+use Rattle.session_steps.specs.Replies.{reply_to}
+use Rattle.session_core.proofs.DirectLemmas.{direct-follows}
+use Rattle.session_core.proofs.Caching.{answer-keeps}
+use Rattle.session_core.proofs.engine.Engine.delete.Goals as goal
+
+pub returns : goal.returns
+returns c =
+    let e = c.disturb.ensures in
+    let f = direct-follows c.args.self.now (record { engine = record { core = c.self.inside.core; vacuum = c.self.inside.vacuum }; waits = c.self.inside.waits }) c.disturb.new.self c.self.view_is e.core e.vacuum e.waits
+    (step.Delete c.args.s c.args.key) c.args.s (reply_to c.delete-answer.result) c.delete-answer.new.self (reply_to c.note_answer.result) c.note_answer.new.self refl refl refl c.delete-answer.ensures c.note_answer.ensures in
+    record { follows = f.0; exact = f.1 }
+
+pub invariant_of-self : goal.invariant_of-self
+invariant_of-self c = answer-keeps c.self.inside.cache c.self.inside.core c.delete-answer.new.self (step.Delete c.args.s c.args.key) (reply_to c.delete-answer.result) c.fact_set_up.ensures.own_ids c.delete-answer.ensures.exact c.self.invariant
