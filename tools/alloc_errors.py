@@ -8,9 +8,10 @@ refuses
 
 - `AllocError` as an expression, as in `Err(AllocError)`, `=> AllocError` or `return AllocError`: pass on what the call answered,
   by `?` or by `Err(error) => return Err(error)`;
-- the NoMemory of an enum as an expression, unless it answers a call that failed: in the arm of an `Err(..)`, in a `map_err(..)`,
-  in a block behind `is_err()` or behind the `else` of a `let Ok(..)`, in an `impl From<AllocError>`, or as one NoMemory turned
-  into another's. (`no_memory` of crates/script/src/io_log.rt makes one for its callers, which call it where a call failed.)
+- the NoMemory of an enum as an expression, or the RefusedGrowth of `script_text`, unless it answers a call that failed: in the arm
+  of an `Err(..)`, in a `map_err(..)`, in a block behind `is_err()` or behind the `else` of a `let Ok(..)`, in an
+  `impl From<AllocError>`, or as one NoMemory turned into another's. (`no_memory` of crates/script/src/io_log.rt makes one for its
+  callers, which call it where a call failed.)
 - `mem::forget`, `ManuallyDrop`, `leak` and `into_raw`, by which memory is never given back. (`Block` of
   crates/sandpiper_c/src/block.rt takes a box apart, and makes it again.)
 - a `reserve` or `try_reserve` of a fixed number over 99999, or of the largest of a type: no memory has so much, so it is refused.
@@ -26,7 +27,9 @@ import sys
 
 GHOST = re.compile(r"\s*(ghost|requires|ensures)\b")
 BY_HAND = re.compile(r"(\(|=>|=|\breturn|\{|^)\s*(\w+::)*AllocError\s*(\(\s*\))?\s*(\)|,|;|\}|$)")
-VALUE = re.compile(r"\b[A-Z]\w*::NoMemory\b(?!\s*\)*\s*(=>|\|))")
+VALUE = re.compile(
+    r"\b[A-Z]\w*::NoMemory\b(?!\s*\)*\s*(=>|\|))|\bREFUSED\b(?!:)|(?<!struct )(?<!: RefusedGrowth = )\bRefusedGrowth \{"
+)
 FAILED = re.compile(r"\bErr\((_|\w+|[\w:]+::NoMemory)\)(\s+if\b[^>]*)?\s*=>|\bNoMemory\b\)*\s*=>|map_err\(|\.is_err\(\)|\blet\s+.*\bOk\(.*\belse\b")
 KEPT = re.compile(r"\bmem::(\{[^}]*\b)?forget\b|\bManuallyDrop\b|\bleak\(|\binto_raw\(")
 KEEPS = "crates/sandpiper_c/src/block.rt"

@@ -1,8 +1,9 @@
 //! The engine and the plain program side by side.
 
-ghost use Rattle.std.specs.Prelude.{◌≡◌, ◌<◌, ◌≤◌, ◌↔◌, IsTrue, IfOk, length};
+ghost use Rattle.std.specs.Prelude.{◌≡◌, ◌<◌, ◌≤◌, ◌↔◌, IsTrue, IfOk, IfErr, length};
 ghost use Rattle.std.specs.Prelude.{option_copied};
 ghost use Rattle.side_by_side.specs.Rooms.{PageIsFull, AreFull};
+ghost use Rattle.side_by_side.specs.declared.pair.Difference.TheVariants.{NoView};
 ghost use Rattle.tuple_header.specs.declared.version.TheConstants.{MOST_BODY};
 ghost use Rattle.xid_circle.specs.Circle.{IsNormal, distance_of};
 
@@ -722,7 +723,9 @@ impl Pair {
 
     /// The views that were compared so far, if there was any.
     pub fn views(&self) -> Result<Views, Difference>
-        ensures { IfOk result (λ compared. compared ≡ self.now.views × (0 < compared.views)) }
+        ensures some { IfOk result
+            (λ compared. compared ≡ self.now.views × (0 < compared.views)) }
+        ensures none { IfErr result (λ why. why ≡ NoView × (self.now.views.views ≡ 0)) }
     {
         if self.views.views == 0 {
             return Err(Difference::NoView);
