@@ -11,7 +11,7 @@ ghost use Rattle.prune.specs.Glances.{IsPlain, IsPlainAt, StartsPlainly, ArePlai
 use arrayvec::ArrayVec;
 use commit_status::StatusTable;
 use page_slots::{Page, SlotHead};
-use space_maps::{Doubts, DOUBT_PLACES, with_doubt};
+use space_maps::{DOUBT_PLACES, Doubts, with_doubt};
 use tuple_header::{Header, MOST_SLOT_NUMBERS};
 use xid_circle::Xid;
 
