@@ -23,7 +23,7 @@ cost() {
 cost get 350 "a get by key"
 cost empty 850 "a begin and a commit with nothing between"
 cost insert 1800 "an insert"
-cost hot 3100 "a HOT update on a page with room, but in a hole alone"
+cost hot 3200 "a HOT update on a page with room, but in a hole alone"
 cost delete 1050 "a delete"
 cost scan 49500 "100 rows of a cursor by key"
 cost full 2750 "an update on a full page from which nothing can go"
