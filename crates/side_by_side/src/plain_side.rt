@@ -1,6 +1,6 @@
 //! What the plain program answers, in the engine's words.
 
-ghost use Rattle.std.specs.Prelude.{◌≡◌, ◌≢◌, Some, None, Err};
+ghost use Rattle.std.specs.Prelude.{◌≡◌, ◌≢◌, Some, None, Err, IfOk};
 
 use crate::written::table_row;
 use plain_cursor::Handed;
@@ -58,6 +58,10 @@ fn reply_handed(answered: Result<Handed, Refusal>) -> Option<Reply> {
 }
 
 fn reply_written(answered: Result<(), Refused>) -> Option<Reply>
+    ensures done { IfOk answered (λ _. result ≡ Some Reply.Done) }
+    ensures told { (why : Refusal) → answered ≡ Err (Refused.By why) → why ≢ Refusal.NoMemory
+        → result ≡ Some (Reply.Refused why) }
+    ensures memory { answered ≡ Err (Refused.By Refusal.NoMemory) → result ≡ None }
     ensures deadlock { answered ≡ Err Refused.Deadlock
         → result ≡ Some (Reply.Refused Refusal.Deadlock) }
 {
