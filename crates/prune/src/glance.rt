@@ -152,13 +152,9 @@ fn note_all(noted: &mut Noted, numbers: &[u16; DOUBT_PLACES])
 /// Whether the slot is noted where the chain of this one begins.
 #[inline(always)]
 fn is_start_noted(page: &Page, number: u16, noted: &Noted) -> bool
-    requires { SlotIsThere page.now.slots number }
     ensures { result ≡ false → StartsUnnoted page.now.slots noted.now number }
 {
-    let start = match page.head(number) {
-        SlotHead::Redirect(target) => target,
-        SlotHead::Version(_) | SlotHead::Empty => number,
-    };
+    let start = page.redirect(number).unwrap_or(number);
     usize::from(start) < MOST_SLOT_NUMBERS && noted[usize::from(start)]
 }
 
