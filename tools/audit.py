@@ -22,9 +22,9 @@ import threading
 import time
 
 HEAD = re.compile(r"^(\s*)(?:pub(?:\([a-z]+\))?\s+)?(?:const\s+|unsafe\s+)*(?:extern\s+\"C\"\s+)?fn\s+(\w+)")
-# an error in a proof file, with the lines that go on with it; and one that only misses a name of the old body
+# an error in a proof file, with the lines that go on with it; and one that only misses a name of the old body, or follows from such
 ERROR = re.compile(r"^\./proofs/(\S+)/(?:Answers|Invariants|Proof)\.antt:\d+:\d+: error: (.*(?:\n[ \t]+.*)*)", re.M)
-MISSES_A_NAME = re.compile(r"has no (field )?`|can be named|is no name that rattle asks for")
+MISSES_A_NAME = re.compile(r"has no (field )?`|can be named|is no name that rattle asks for|was not (admitted|checked)")
 # a goal that is false of the new body, whatever its proof file names
 IS_FALSE = re.compile(r"^note: src/.*it is not proved that.*allow values at which this goal is false", re.M)
 # what `rt check` says of a function that was not reached, since one that it calls has no proof
@@ -164,8 +164,8 @@ def try_round(crate, top, name, made, texts):
     return said
 
 
-def audit(top, name, only):
-    """The edits of a crate that were not refused, and a line on all of them."""
+def audit(top, name, only, note):
+    """The edits of a crate that were not refused, and a line on all of them. What is found of each is noted at once."""
     crate = f"{top}/crates/{name}"
     files = sorted(glob.glob(f"{crate}/must-fail/*.edit") + glob.glob(f"{crate}/audit/*.edit"))
     files = [file for file in files if not only or only in os.path.basename(file)]
@@ -195,6 +195,7 @@ def audit(top, name, only):
             verdict = verdict_of(edit, made, said, names)
             if verdict:
                 verdicts[edit["name"]] = verdict
+                note(f"{name}/{edit['name']}: {verdict}")
         left = [edit for edit in todo if edit["name"] not in verdicts]
         # Where a round gave no verdict on an edit, that edit is tried alone.
         held = [edit for edit in left if edit in made]
@@ -207,16 +208,21 @@ def audit(top, name, only):
     return bad, line + (f" by form alone: {', '.join(forms)}" if forms else "")
 
 
-def work(room, number, names, lock, only, bad):
+def left_out(folder, names):
+    """What a copy does without: of what runs made, it keeps the proved libraries."""
+    return [name for name in names if name == ".git" or os.path.basename(folder) == "out" and name != "rlib"]
+
+
+def work(room, number, names, lock, only, bad, note):
     """Audits crates in a copy of the repository of its own, until none is left."""
     top = f"{room}/{number}"
-    shutil.copytree(".", top, symlinks=True, ignore=shutil.ignore_patterns(".git", "out"))
+    shutil.copytree(".", top, symlinks=True, ignore=left_out)
     while True:
         with lock:
             if not names:
                 return
             name = names.pop(0)
-        missed, line = audit(top, name, only)
+        missed, line = audit(top, name, only, note)
         with lock:
             bad += missed
             if line:
@@ -227,13 +233,20 @@ def main():
     parser = argparse.ArgumentParser(description=__doc__, formatter_class=argparse.RawDescriptionHelpFormatter)
     parser.add_argument("--jobs", type=int, default=1, help="how many crates are tried side by side")
     parser.add_argument("--only", help="try the edits whose names have this in them")
+    parser.add_argument("--notes", help="a file to which each edit's verdict is added as it comes")
     parser.add_argument("names", nargs="*", help="crates; all that have edits, if none is named")
     words = parser.parse_args()
     names = words.names or [line.split(":")[0].split()[0] for line in text_of("crates.txt").split("\n") if ":" in line]
     began, bad, lock = time.time(), [], threading.Lock()
+
+    def note(line):
+        if words.notes:
+            with open(words.notes, "a", encoding="utf-8") as file:
+                file.write(line + "\n")
+
     print("| crate | edits | refused | checks | processor seconds |\n|---|---:|---:|---:|---:|", flush=True)
     with tempfile.TemporaryDirectory(prefix="audit-") as room:
-        threads = [threading.Thread(target=work, args=(room, n, names, lock, words.only, bad)) for n in range(words.jobs)]
+        threads = [threading.Thread(target=work, args=(room, n, names, lock, words.only, bad, note)) for n in range(words.jobs)]
         for thread in threads:
             thread.start()
         for thread in threads:
