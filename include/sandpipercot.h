@@ -9,21 +9,23 @@
  *
  * THREADS. A handle takes one call at a time. Threads may share it where each call is made under one lock of the caller's, as a mutex.
  * No call waits: after SANDPIPER_BUSY let go of the lock, and try again or abort. No call may be made from a signal handler, from the
- * forked child of a process with threads, or from within malloc, realloc or free. Two handles are independent. So is a ticket of all else,
- * once it is taken: it takes one call at a time too, while other threads read other tickets, and step or close the table that it came from.
+ * forked child of a process with threads, or from within malloc, realloc or free. Two handles are independent. So is a ticket of all
+ * else, once it is taken: it takes one call at a time too, while other threads read other tickets, and step or close the table that it
+ * came from.
  *
  * WAITS. After SANDPIPER_BUSY it is noted that the session waits for the other, until its own next step, whatever that answers, or until
  * the other is committed, aborted or returned to a savepoint. Where a wait would close a ring, the answer is SANDPIPER_DEADLOCK.
  *
  * MEMORY comes from the program's malloc, realloc and free. Where that is refused, the call says SANDPIPER_NO_MEMORY and has changed
- * nothing; it may be repeated. sandpiper_get, _rollback_to, _release, _commit, _abort, _prune, _close, _next, _close_cursor,
- * _slot_at, _page_at, _page_bytes, _check_page, _state, _version, _keep_places, _vacuum_begin, _vacuum_step, _vacuum_cancel and
- * _close_ticket ask for none.
+ * nothing; it may be repeated. (Of _insert_many and _update_many the rows before stay written; and where memory for the places of keys
+ * is refused, fewer are noted, and the call goes on.) sandpiper_begin_read_committed, _get, _rollback_to, _release, _commit, _abort,
+ * _prune, _close, _next, _close_cursor, _slot_at, _page_at, _page_bytes, _check_page, _state, _version, _keep_places, _vacuum_begin,
+ * _vacuum_step, _vacuum_cancel and _close_ticket ask for none.
  * Nor do _open_heap, _open_by_key, _open_index and _open_keys, unless the session reads by statement and more than 8 ids are in progress.
  *
  * STATUSES. Each call returns one of those below. From 16 on something was refused. Whatever the status is, also where nobody reads
  * it, the table is whole and usable. A refused call leaves all rows as they were. After SANDPIPER_CONFLICT and SANDPIPER_DEADLOCK the
- * session's transaction has failed, and an update may have pruned a page, which no session can tell.
+ * session's transaction has failed. An update that answers SANDPIPER_NO_ROOM may have pruned a page, which no session can tell.
  */
 #ifndef SANDPIPERCOT_H
 #define SANDPIPERCOT_H
@@ -220,7 +222,8 @@ struct sandpiper_action {
  * page's, and what it takes is the front of chains, each version of which pruning would take now, or versions of transactions that were
  * aborted and to which nothing leads. A front's root leads to the first version that is left, or is dead where none is; all others become
  * unused. A plan may take less than sandpiper_prune does, or nothing. */
-uint32_t sandpiper_apply_plan(struct sandpiper *table, uint32_t page, uint64_t change, const struct sandpiper_action *actions, size_t count);
+uint32_t sandpiper_apply_plan(struct sandpiper *table, uint32_t page, uint64_t change, const struct sandpiper_action *actions,
+                              size_t count);
 
 /* A part of a vacuum's work. */
 enum sandpiper_piece_kind {
@@ -267,7 +270,7 @@ struct sandpiper_page {
     uint32_t slots;  /* how many slots it has: 0 to 291 */
 };
 
-/* The head of a page, counted from 0: FOUND, or NO_ROW where the page is not in use. */
+/* The head of a page, counted from 0: FOUND, or NO_ROW where the page is not in use, or there is no table. */
 uint32_t sandpiper_page_at(struct sandpiper *table, uint32_t page, struct sandpiper_page *head);
 
 /* What is in a slot of a page, for who wants to see versions and chains. */
@@ -287,14 +290,14 @@ struct sandpiper_slot {
     uint64_t key;
 };
 
-/* Slot number 1, 2, .. of a page, counted from 0: FOUND or NO_ROW. */
+/* Slot number 1, 2, .. of a page, counted from 0: FOUND, or NO_ROW where there is no such slot, or no table. */
 uint32_t sandpiper_slot_at(struct sandpiper *table, uint32_t page, uint16_t number, struct sandpiper_slot *slot);
 
 /* The bytes of a page are in PostgreSQL's layout (docs/format.md), so that a tool can look into one as pageinspect does. */
 #define SANDPIPER_PAGE_BYTES 8192
 
-/* Writes the bytes of a page, counted from 0, to the first 8192 of `length`: FOUND; NO_ROW where the page is not in use; NO_PLACE where
- * `length` is less. */
+/* Writes the bytes of a page, counted from 0, to the first 8192 of `length`: FOUND; NO_ROW where the page is not in use, or there is no
+ * table; NO_PLACE where `length` is less. */
 uint32_t sandpiper_page_bytes(struct sandpiper *table, uint32_t page, uint8_t *bytes, size_t length);
 
 /* What is wrong with bytes, as those of a page: the first that holds, in this order. Of slots the lowest is named. */
