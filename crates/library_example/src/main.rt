@@ -1,12 +1,12 @@
-//! Uses the engine from code: two sessions that write one key, a scan and a pruning. `crates/session_core/CALLING.md` walks through it.
+//! Uses the engine from code: two sessions that write one key, a scan, a deletion and a pruning. `crates/session_core/CALLING.md` walks through it.
 #![tactic(auto)]
 
 ghost use Rattle.std.specs.Prelude.{◌≡◌, Some, IfSome};
 ghost use Rattle.history.specs.World.{World, OpenSession, view};
 ghost use Rattle.session_steps.specs.Agrees.{Agrees};
 
-use session_core::{Engine, Refusal, Reply, Row, RowIn, Settings, Step};
-use std::alloc::Global;
+use arrayvec::ArrayVec;
+use session_core::{Ack, Engine, Refusal, Reply, Row, Settings, Step};
 use std::io;
 use std::process::ExitCode;
 
@@ -21,11 +21,11 @@ const SETTINGS: Settings = Settings {
 };
 
 /// A row of one value.
-fn row(alloc: Global, key: u64, value: i64) -> RowIn {
-    RowIn {
+fn row(key: u64, value: i64) -> Row {
+    Row {
         key,
         cols: [value, 0, 0, 0],
-        body: Vec::new(alloc),
+        body: ArrayVec::new(),
     }
 }
 
@@ -41,8 +41,17 @@ fn row_in_view(engine: &Engine, session: u8, key: u64) -> Option<Row>
     }
 }
 
-/// Does a step, and prints its reply.
-fn tell(rt: &impl Print, engine: &mut Engine, what: &str, step: Step) -> io::Result<()> {
+/// Prints what a call answered.
+fn tell(rt: &impl Print, what: &str, answer: Result<Ack, Refusal>) -> io::Result<()> {
+    match answer {
+        Ok(_) => println!(rt; "{what}: done"),
+        Err(Refusal::Busy(other)) => println!(rt; "{what}: busy, by session {other}"),
+        Err(refusal) => println!(rt; "{what}: {refusal:?}"),
+    }
+}
+
+/// Does a step that has no call of its own, and prints its reply.
+fn tell_step(rt: &impl Print, engine: &mut Engine, what: &str, step: Step) -> io::Result<()> {
     match engine.step(step) {
         Reply::Rows(rows) => {
             for row in &rows {
@@ -50,64 +59,40 @@ fn tell(rt: &impl Print, engine: &mut Engine, what: &str, step: Step) -> io::Res
             }
             Ok(())
         }
-        Reply::Refused(Refusal::Busy(other)) => println!(rt; "{what}: busy, by session {other}"),
         Reply::Refused(refusal) => println!(rt; "{what}: {refusal:?}"),
         _ => println!(rt; "{what}: done"),
     }
 }
 
-fn tour(rt: &impl Print, alloc: Global, engine: &mut Engine) -> io::Result<()> {
-    tell(rt, engine, "0 begins", Step::Begin(0))?;
-    tell(
-        rt,
-        engine,
-        "0 inserts key 1",
-        Step::Insert(0, row(alloc, 1, 10)),
-    )?;
-    tell(
-        rt,
-        engine,
-        "0 inserts key 2",
-        Step::Insert(0, row(alloc, 2, 20)),
-    )?;
-    tell(rt, engine, "0 commits", Step::Commit(0))?;
-    tell(rt, engine, "1 begins", Step::Begin(1))?;
-    tell(rt, engine, "2 begins", Step::Begin(2))?;
-    tell(
-        rt,
-        engine,
-        "1 updates key 1",
-        Step::Update(1, row(alloc, 1, 11)),
-    )?;
-    tell(
-        rt,
-        engine,
-        "2 updates key 1",
-        Step::Update(2, row(alloc, 1, 12)),
-    )?;
-    tell(rt, engine, "1 commits", Step::Commit(1))?;
-    tell(
-        rt,
-        engine,
-        "2 updates key 1",
-        Step::Update(2, row(alloc, 1, 12)),
-    )?;
+fn tour(rt: &impl Print, engine: &mut Engine) -> io::Result<()> {
+    tell(rt, "0 begins", engine.begin(0))?;
+    tell(rt, "0 inserts key 1", engine.insert(0, &row(1, 10)))?;
+    tell(rt, "0 inserts key 2", engine.insert(0, &row(2, 20)))?;
+    tell(rt, "0 commits", engine.commit(0))?;
+    tell(rt, "1 begins", engine.begin(1))?;
+    tell(rt, "2 begins", engine.begin(2))?;
+    tell(rt, "1 updates key 1", engine.update(1, &row(1, 11)))?;
+    tell(rt, "2 updates key 1", engine.update(2, &row(1, 12)))?;
+    tell(rt, "1 commits", engine.commit(1))?;
+    tell(rt, "2 updates key 1", engine.update(2, &row(1, 12)))?;
     if let Some(row) = row_in_view(engine, 2, 1) {
         println!(rt; "2 still sees {}", row.cols[0])?;
     }
-    tell(rt, engine, "2 aborts", Step::Abort(2))?;
-    tell(rt, engine, "3 begins", Step::Begin(3))?;
-    tell(rt, engine, "3 opens a scan", Step::OpenHeap(3))?;
-    tell(rt, engine, "3 scans", Step::Next(3, 10))?;
-    tell(rt, engine, "3 commits", Step::Commit(3))?;
-    tell(rt, engine, "page 0 is pruned", Step::Prune(0))
+    tell(rt, "2 aborts", engine.abort(2))?;
+    tell(rt, "3 begins", engine.begin(3))?;
+    tell_step(rt, engine, "3 opens a scan", Step::OpenHeap(3))?;
+    tell_step(rt, engine, "3 scans", Step::Next(3, 10))?;
+    tell_step(rt, engine, "3 ends its scan", Step::Close(3))?;
+    tell(rt, "3 deletes key 2", engine.delete(3, 2))?;
+    tell(rt, "3 commits", engine.commit(3))?;
+    tell_step(rt, engine, "page 0 is pruned", Step::Prune(0))
 }
 
 fn main(rt: HostRuntime) -> ExitCode {
     let Ok(mut engine) = Engine::new(rt.alloc(), SETTINGS) else {
         return ExitCode::from(1);
     };
-    match tour(&rt, rt.alloc(), &mut engine) {
+    match tour(&rt, &mut engine) {
         Ok(()) => ExitCode::SUCCESS,
         Err(_) => ExitCode::from(1),
     }
