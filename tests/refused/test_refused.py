@@ -1,4 +1,4 @@
-"""Refuses each piece of memory that the program asks for, in turn, in a script with every kind of step, and in one for threads.
+"""Refuses each piece of memory that the program asks for, in turn: in a script with every kind of step, in one for threads, and of a page.
 
     test_refused.py HEAPSH          the small scripts wholly, and 40 pieces of a large one; some 20 seconds
     test_refused.py HEAPSH --all    each piece of the large one too
@@ -8,7 +8,8 @@ before the step, and the step is asked for again. What it and all lines behind i
 Where the shell itself is refused, it ends with status 3 and `no memory`, after a beginning of the answers.
 
 Each time the entries are looked at as well: each leads to a version of its key, by a redirect or at once, or to a dead slot; and where
-it was there before the step, it leads to the same version, to a redirect that came in its place, or to a dead slot.
+it was there before the step, it leads to the same version, to a redirect that came in its place, or to a dead slot. So they are looked at
+too after each line of the small script and of each worked script, with memory.
 """
 import os
 import re
@@ -16,12 +17,13 @@ import subprocess
 import sys
 import tempfile
 import time
-from typing import Dict, Iterator, List, NamedTuple, Optional, Tuple
+from typing import Dict, Iterable, Iterator, List, NamedTuple, Optional, Tuple
 
 HERE = os.path.dirname(os.path.abspath(__file__))
-sys.path.insert(0, os.path.join(os.path.dirname(HERE), "cuts"))
+sys.path[:0] = [os.path.join(os.path.dirname(HERE), folder) for folder in ("cuts", "pages")]
 
-from test_cuts import whole_answers  # noqa: E402
+import page_format  # noqa: E402
+from test_cuts import whole_answers, worked_scripts  # noqa: E402
 
 NO_MEMORY = "error 16 NoMemory\n"
 LEAST, MOST = -(2**63), 2**63 - 1
@@ -44,12 +46,15 @@ class Shell:
         subprocess.run([compiler, *flags, f"{HERE}/refusing.c", "-o", self.library], check=True)
 
     def run(self, word: str, lines: List[str], refused: int = -1) -> End:
+        return self.run_on(word, "".join(f"{line}\n" for line in lines).encode(), refused)
+
+    def run_on(self, word: str, data: bytes, refused: int = -1) -> End:
         with open(self.counted, "wb") as file:
             file.write(bytes(8))
         told = {"LD_PRELOAD": self.library, "REFUSED": str(refused), "COUNTED": self.counted}
         # of a file each read is whole, so that the program asks for the same pieces each time
         with tempfile.TemporaryFile() as given:
-            given.write("".join(f"{line}\n" for line in lines).encode())
+            given.write(data)
             given.seek(0)
             env = {**os.environ, **told}
             ran = subprocess.run([self.heapsh, word], stdin=given, capture_output=True, env=env, check=False, timeout=60)
@@ -58,17 +63,21 @@ class Shell:
     def pieces(self, word: str, lines: List[str]) -> Tuple[int, End]:
         """How many pieces of memory are asked for where none is refused, and how that ends."""
         end = self.run(word, lines)
+        return self.asked_for(), end
+
+    def asked_for(self) -> int:
+        """How many pieces of memory the last run has asked for."""
         with open(self.counted, "rb") as file:
-            return int.from_bytes(file.read(), sys.byteorder), end
+            return int.from_bytes(file.read(), sys.byteorder)
 
 
-def looks(pages: int) -> List[str]:
+def looks(pages: int, reader: int = READER) -> List[str]:
     """Lines that show what the engine holds, and its rows by the heap and by each index, and change nothing."""
-    lines = ["ids", *(f"page {page}" for page in range(pages)), *(f"entries {index}" for index in range(INDEXES)), f"beginrc {READER}"]
-    lines += [f"openheap {READER}", *[f"next {READER} 0"] * pages, f"close {READER}"]
+    lines = ["ids", *(f"page {page}" for page in range(pages)), *(f"entries {index}" for index in range(INDEXES)), f"beginrc {reader}"]
+    lines += [f"openheap {reader}", *[f"next {reader} 0"] * pages, f"close {reader}"]
     for index in range(INDEXES):
-        lines += [f"openindex {READER} {index} {LEAST} {MOST}", f"next {READER} 65535", f"close {READER}"]
-    return [*lines, f"abort {READER}"]
+        lines += [f"openindex {reader} {index} {LEAST} {MOST}", f"next {reader} 65535", f"close {reader}"]
+    return [*lines, f"abort {reader}"]
 
 
 class Seen(NamedTuple):
@@ -204,7 +213,8 @@ def savepoints(session: int, count: int) -> Iterator[str]:
 
 
 def cursors(session: int) -> Iterator[str]:
-    for opening in (f"openheap {session}", f"openindex {session} 0 0 {MOST}", f"openindex {session} 1 {LEAST} {MOST}"):
+    openings = [f"openheap {session}", f"openindex {session} 0 0 {MOST}", f"openindex {session} 1 {LEAST} {MOST}"]
+    for opening in [*openings, f"openkeys {session} 0 {MOST}"]:
         yield from (opening, f"next {session} 2", f"next {session} 0", f"next {session} 300", f"close {session}")
     yield from (f"takepage {session} 0", f"takepage {session} 1", f"takepage {session} 0")
 
@@ -239,16 +249,39 @@ def all_steps(rows: int, sessions: int) -> List[str]:
     return [*lines, "commit 5", "next 2 0", "abort 2", "prune 1", "commit 1", "abort 4", "abort 3", *vacuum("aggressive")]
 
 
+def for_worker(worker: int, turn: int) -> Iterator[str]:
+    """Each kind of step of a session, by a worker who has rows of its own; all have key 1."""
+    first = 100 * worker + 10 * turn + 2
+    yield f"beginrc {worker}" if turn % 2 else f"begin {worker}"
+    yield from (row(worker, "insert", key, turn, "61") for key in (1, first, first + 1, first + 2, first + 3))
+    yield from (f"savepoint {worker}", row(worker, "update", first, 7), f"delete {worker} {first + 1}", f"rollbackto {worker}")
+    yield from (row(worker, "update", first + 2, 8), f"delete {worker} {first + 3}", f"release {worker}", f"get {worker} {first}")
+    for opening in ("openheap {0}", f"openindex {{0}} 0 0 {MOST}", f"openkeys {{0}} 0 {MOST}"):
+        yield from (opening.format(worker), f"next {worker} 0", f"close {worker}")
+    yield f"takepage {worker} 0"
+    yield f"abort {worker}" if turn == 1 else f"commit {worker}"
+
+
+def of_no_session(turn: int) -> List[str]:
+    """The steps that are no session's."""
+    steps = ["prune 0", "apply 0 0 u1", "vacuum begin aggressive", "vacuum step", "vacuum cancel"]
+    return [*steps, "vacuum begin normal", *["vacuum step"] * 4, f"createindex {turn}"]
+
+
 def for_threads(workers: int) -> List[str]:
-    """A script for threads: each worker has a session of its own, and all write key 1."""
+    """A script for threads: each worker has a session of its own, and the first has the steps that are no session's besides."""
     lines = ["heap 64 100000 0 3 4 1000"]
     for turn in range(3):
         for worker in range(workers):
-            steps = [f"begin {worker}", *(row(worker, "insert", 100 * worker + 10 * turn + at + 2, at, "61") for at in range(4))]
-            steps += [f"savepoint {worker}", f"openheap {worker}", f"next {worker} 0", f"close {worker}", f"release {worker}"]
-            steps += [f"takepage {worker} 0"]
-            lines += [f"@{worker} {step}" for step in [*steps, f"commit {worker}"]]
+            lines += [f"@{worker} {step}" for step in for_worker(worker, turn)]
+        lines += [f"@0 {step}" for step in of_no_session(turn)]
     return lines
+
+
+def worker_of(step: str) -> int:
+    """The worker whose step it is, as `for_threads` gives them out."""
+    word, first = step.split()[:2]
+    return 0 if word in ("prune", "apply", "vacuum", "createindex") else int(first)
 
 
 def entries_of(journal: str) -> List[Tuple[str, str]]:
@@ -261,7 +294,7 @@ def check_journal(shell: Shell, lines: List[str], entries: List[Tuple[str, str]]
     workers = sorted({line.split()[0] for line in lines[1:]})
     for worker in workers:
         mine = [line.split(" ", 1)[1] for line in lines[1:] if line.split()[0] == worker]
-        assert [step for step, _ in entries if step.split()[1] == worker[1:]] == mine, f"the lines of worker {worker}"
+        assert [step for step, _ in entries if f"@{worker_of(step)}" == worker] == mine, f"the lines of worker {worker}"
     kept = [entry for entry in entries if entry[1] != NO_MEMORY]
     end = shell.run("run", [lines[0], *(step for step, _ in kept)])
     assert end.status == 0 and end.output == "".join(answer for _, answer in kept), "a run answers otherwise"
@@ -287,6 +320,42 @@ def refuse_threads(shell: Shell, lines: List[str]) -> str:
     return f"threads: {count} pieces, of {len(lines)} lines: {ended} end the shell, and {refused} steps are refused"
 
 
+def refuse_page(shell: Shell, page: bytes) -> str:
+    """Refuses each piece that the look into a page asks for: the shell ends for want of memory, after a beginning of what it tells."""
+    whole = shell.run_on("inspect", page)
+    count = shell.asked_for()
+    assert whole.status == 0 and count > 0, f"with memory: {whole}"
+    ended = 0
+    for piece in range(count):
+        end = shell.run_on("inspect", page, piece)
+        is_ended = end.status == 3 and end.errors == "no memory\n" and whole.output.startswith(end.output)
+        assert is_ended or end == whole, f"piece {piece}: {end}"
+        ended += is_ended
+    return f"inspect: {count} pieces, of which {ended} end the shell"
+
+
+def look_after_each_line(shell: Shell, lines: Iterable[str]) -> int:
+    """Looks at the entries after each line of a script, which is answered as it is without, and says how often it has looked."""
+    heading, *steps = lines
+    pages, used = int(heading.split()[1]), {word for step in steps for word in step.split()[1:2]}
+    reader = next(session for session in range(READER, -1, -1) if str(session) not in used)
+    look = looks(pages, reader)
+    end = shell.run("run", [heading, *look, *(line for step in steps for line in (step, *look))])
+    assert end.status == 0, f"with looks: {end.errors}"
+    answers, at, before = whole_answers(end.output), len(look), None
+    seen = seen_in(answers[:at], pages)
+    indexed, kept = heading.split()[6], []
+    for step in steps:
+        kept.append(answers[at])
+        before, seen = seen, seen_in(answers[at + 1 :][: len(look)], pages)
+        at += 1 + len(look)
+        check_entries(seen, indexed)
+        check_targets(before, seen)
+    assert at == len(answers)
+    assert "".join(kept) == shell.run("run", [heading, *steps]).output, "looks change an answer"
+    return len(steps)
+
+
 def main() -> None:
     heapsh, whole, began = os.path.abspath(sys.argv[1]), "--all" in sys.argv[2:], time.monotonic()
     with tempfile.TemporaryDirectory() as room:
@@ -299,6 +368,10 @@ def main() -> None:
             print(f"test_refused.py: {run.told(len(pieces))}")
         for workers in (1, 2):
             print(f"test_refused.py: {refuse_threads(shell, for_threads(workers))}")
+        print(f"test_refused.py: {refuse_page(shell, page_format.SIX_SLOTS)}")
+        scripts = [script.text.decode().splitlines() for script in worked_scripts() if script.bad_line is None]
+        looked = [look_after_each_line(shell, lines) for lines in (all_steps(12, 12), *scripts)]
+        print(f"test_refused.py: the entries are right after each of {sum(looked)} lines of {len(looked)} scripts")
     print(f"test_refused.py: all as it has to be, in {time.monotonic() - began:.0f} seconds")
 
 
