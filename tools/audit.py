@@ -4,8 +4,9 @@
 Run at the top of the repository, with `rt` on the path; without names, every crate that has edits. The edits are those of
 crates/NAME/must-fail/ and crates/NAME/audit/. They are tried on copies, some sixteen in one check: a round changes each function
 at most once, and judges each edit by the line that `rt check` prints for the function that it changes. An edit is refused where
-that function itself is not proved. One that changes no single function (a definition, a constant), and one whose function was
-only not reached ("it calls .."), is tried alone. Prints the edits that were not refused, and exits 1 if there are any.
+that function itself is not proved. One whose function was only not reached ("it calls ..") is tried again with others of that kind, and
+in the end alone, as is one that changes no single function (a definition, a constant). Prints the edits that were not refused, and
+exits 1 if there are any.
 
 "By form alone" says that a hand-written answer names a part of the old body and nothing else failed, and that no goal was found to be
 false, so that the contract may not have been tried: such an edit is to be written closer to the body.
@@ -27,6 +28,8 @@ ERROR = re.compile(r"^\./proofs/(\S+)/(?:Answers|Invariants|Proof)\.antt:\d+:\d+
 MISSES_A_NAME = re.compile(r"has no (field )?`|can be named|is no name that rattle asks for|was not (admitted|checked)")
 # a goal that is false of the new body, whatever its proof file names
 IS_FALSE = re.compile(r"^note: src/.*it is not proved that.*allow values at which this goal is false", re.M)
+# how often an edit is tried with others
+MOST_TRIES = 4
 # what `rt check` says of a function that was not reached, since one that it calls has no proof
 NOT_REACHED = ("no proof: it calls", "no proof: the borrow checker's part in its proof is not made yet: a call of")
 
@@ -84,6 +87,31 @@ def function_at(crate, path, old, names):
     return set()
 
 
+def reached_in(crate):
+    """The names of the crate's functions, each with those that it may call, read off the texts: one of another type may count too."""
+    calls = {}
+    for path in glob.glob(f"{crate}/src/**/*.rt", recursive=True):
+        within = None
+        for line in text_of(path).split("\n"):
+            head = HEAD.match(line)
+            within = calls.setdefault(head[2], set()) if head else within
+            if within is not None and not head:
+                within |= set(re.findall(r"\b(\w+)\(", line))
+    reached = {name: found & set(calls) for name, found in calls.items()}
+    while True:
+        more = {name: found.union(*(reached[it] for it in found)) for name, found in reached.items()}
+        if more == reached:
+            return reached
+        reached = more
+
+
+def in_each_others_way(these, those, reached):
+    """Whether functions of the one set may call functions of the other, or are the same."""
+    ones, others = [{it.rpartition("::")[2] for it in them} for them in (these, those)]
+    meets = lambda some, more: any(more & ({it} | reached.get(it, set())) for it in some)
+    return meets(ones, others) or meets(others, ones)
+
+
 class Said:
     """What a check said: of each function, the errors of reading, and which functions fail by form alone."""
 
@@ -124,12 +152,14 @@ def changed(crate, edits):
     return texts, made
 
 
-def next_round(todo):
-    """The edits that are tried together next: each changes another function, or is alone."""
-    this, used = [], set()
+def next_round(todo, reached):
+    """The edits that are tried together next: none changes a function that another may call, or each is alone."""
+    this, used, tries = [], set(), min(edit["tries"] for edit in todo)
     for edit in todo:
+        if edit["tries"] > tries:
+            continue
         alone = edit["of"] is None
-        if not this or (not alone and this[0]["of"] is not None and not edit["of"] & used):
+        if not this or (not alone and this[0]["of"] is not None and not in_each_others_way(edit["of"], used, reached)):
             this.append(edit)
             used |= edit["of"] or set()
             if alone:
@@ -164,8 +194,9 @@ def try_round(crate, top, name, made, texts):
     return said
 
 
-def audit(top, name, only, note):
-    """The edits of a crate that were not refused, and a line on all of them. What is found of each is noted at once."""
+def audit(top, name, only, known, note):
+    """The edits of a crate that were not refused, and a line on all of them. What is found of each is noted at once, and what
+    is known from earlier is not tried again."""
     crate = f"{top}/crates/{name}"
     files = sorted(glob.glob(f"{crate}/must-fail/*.edit") + glob.glob(f"{crate}/audit/*.edit"))
     files = [file for file in files if not only or only in os.path.basename(file)]
@@ -174,16 +205,16 @@ def audit(top, name, only, note):
     plain = Said(top, name)
     if plain.status:
         return [f"{name} is not proved as it is"], None
-    names, checks, spent, clock = plain.functions, 0, 0.0, 0.0
+    names, reached, checks, spent, clock = plain.functions, reached_in(crate), 0, 0.0, 0.0
     edits = []
     for file in files:
         pairs = pairs_of(file)
         found = [function_at(crate, path, old, names) for path, old, _ in pairs]
         of = set.union(*found) if found and all(found) else None
-        edits.append({"name": os.path.basename(file)[:-5], "pairs": pairs, "of": of})
-    todo, verdicts = edits, {}
+        edits.append({"name": os.path.basename(file)[:-5], "pairs": pairs, "of": of, "tries": 0})
+    todo, verdicts = [edit for edit in edits if f"{name}/{edit['name']}" not in known], {}
     while todo:
-        this = next_round(todo)
+        this = next_round(todo, reached)
         texts, made = changed(crate, this)
         if not made:
             verdicts[this[0]["name"]] = "BAD: a text is not there once"
@@ -197,23 +228,24 @@ def audit(top, name, only, note):
                 verdicts[edit["name"]] = verdict
                 note(f"{name}/{edit['name']}: {verdict}")
         left = [edit for edit in todo if edit["name"] not in verdicts]
-        # Where a round gave no verdict on an edit, that edit is tried alone.
-        held = [edit for edit in left if edit in made]
-        for edit in held:
-            edit["of"] = None
-        todo = [edit for edit in left if edit not in held] + held
+        # What a round gave no verdict on is tried again once all else was tried as often, without the edits that were in its way.
+        for edit in made:
+            edit["tries"] += 1
+            if edit["tries"] > MOST_TRIES or said.unread:
+                edit["of"] = None
+        todo = left
     bad = [f"{name}/{edit}: {verdict}" for edit, verdict in sorted(verdicts.items()) if not verdict.startswith("refused")]
     forms = sorted(edit for edit, verdict in verdicts.items() if verdict == "refused by form alone")
-    line = f"| `{name}` | {len(files)} | {len(verdicts) - len(bad)} | {checks} | {spent:.0f} |"
+    line = f"| `{name}` | {len(verdicts)} | {len(verdicts) - len(bad)} | {checks} | {spent:.0f} |"
     return bad, line + (f" by form alone: {', '.join(forms)}" if forms else "")
 
 
 def left_out(folder, names):
-    """What a copy does without: of what runs made, it keeps the proved libraries."""
-    return [name for name in names if name == ".git" or os.path.basename(folder) == "out" and name != "rlib"]
+    """What a copy does without: of what runs made, it keeps the proved libraries and what checks kept."""
+    return [name for name in names if name == ".git" or os.path.basename(folder) == "out" and name not in ("rlib", "incremental")]
 
 
-def work(room, number, names, lock, only, bad, note):
+def work(room, number, names, lock, only, bad, known, note):
     """Audits crates in a copy of the repository of its own, until none is left."""
     top = f"{room}/{number}"
     shutil.copytree(".", top, symlinks=True, ignore=left_out)
@@ -222,7 +254,7 @@ def work(room, number, names, lock, only, bad, note):
             if not names:
                 return
             name = names.pop(0)
-        missed, line = audit(top, name, only, note)
+        missed, line = audit(top, name, only, known, note)
         with lock:
             bad += missed
             if line:
@@ -233,11 +265,15 @@ def main():
     parser = argparse.ArgumentParser(description=__doc__, formatter_class=argparse.RawDescriptionHelpFormatter)
     parser.add_argument("--jobs", type=int, default=1, help="how many crates are tried side by side")
     parser.add_argument("--only", help="try the edits whose names have this in them")
-    parser.add_argument("--notes", help="a file to which each edit's verdict is added as it comes")
+    parser.add_argument("--notes", help="a file to which each edit's verdict is added as it comes; what it has is not tried again")
     parser.add_argument("names", nargs="*", help="crates; all that have edits, if none is named")
     words = parser.parse_args()
     names = words.names or [line.split(":")[0].split()[0] for line in text_of("crates.txt").split("\n") if ":" in line]
     began, bad, lock = time.time(), [], threading.Lock()
+
+    known = set()
+    if words.notes and os.path.exists(words.notes):
+        known = {line.split(": ")[0] for line in text_of(words.notes).split("\n") if ": refused" in line}
 
     def note(line):
         if words.notes:
@@ -246,7 +282,7 @@ def main():
 
     print("| crate | edits | refused | checks | processor seconds |\n|---|---:|---:|---:|---:|", flush=True)
     with tempfile.TemporaryDirectory(prefix="audit-") as room:
-        threads = [threading.Thread(target=work, args=(room, n, names, lock, words.only, bad, note)) for n in range(words.jobs)]
+        threads = [threading.Thread(target=work, args=(room, n, names, lock, words.only, bad, known, note)) for n in range(words.jobs)]
         for thread in threads:
             thread.start()
         for thread in threads:
