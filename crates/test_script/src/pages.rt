@@ -144,10 +144,11 @@ fn one_row(rt: HostRuntime) -> Result<(), Fail> {
     Ok(())
 }
 
-// How many times 1024 bytes a reader gives before it fails and something else comes: of what is not read to its end nothing is told.
+// The first call that fails and something else comes, of a reader of a byte a call: of what is not read to its end nothing is told.
 fn first_wrong_read(alloc: Global, page: &[u8]) -> Option<usize> {
-    for n in 0..9usize {
-        let mut reader = slow(page, n.wrapping_mul(1024));
+    // the last call asks whether the page ends
+    for n in 0..8193usize {
+        let mut reader = slow(page, n);
         if !tells_so(alloc, &mut reader, usize::MAX, Err(ShellFault::Input), b"") {
             return Some(n);
         }
