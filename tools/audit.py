@@ -218,7 +218,8 @@ def audit(top, name, only, known, note):
         texts, made = changed(crate, this)
         if not made:
             verdicts[this[0]["name"]] = "BAD: a text is not there once"
-            todo = todo[1:]
+            note(f"{name}/{this[0]['name']}: {verdicts[this[0]['name']]}")
+            todo = [edit for edit in todo if edit is not this[0]]
             continue
         said = try_round(crate, top, name, made, texts)
         spent, clock, checks = spent + said.spent, clock + said.clock, checks + 1
@@ -291,4 +292,5 @@ def main():
     sys.exit(1 if bad else 0)
 
 
-main()
+if __name__ == "__main__":
+    main()

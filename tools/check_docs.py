@@ -11,7 +11,8 @@ Reads README.md, CONTRIBUTING.md and the pages of docs/, bench/, examples/ and c
   heading nor the lines below that name;
 - a line has 140 columns or more, or a sentence more than 30 words (tools/sentences.py);
 - a figure is not what the repository has: lines of definitions, layers, sizes, edits, calls (tools/figures.py);
-- a refusal or a status has another number, name or meaning somewhere than in the table of docs/rules.md (tools/refusals.py).
+- a refusal or a status has another number, name or meaning somewhere than in the table of docs/rules.md (tools/refusals.py);
+- a text that an edit of must-fail/ or audit/ replaces is not in its file once.
 
 With a path to the program, it also compares its answers with those on the examples' pages, as examples/check.py does.
 Run it at the top of the repository. It prints what is wrong, one place a line, and ends with status 1 where anything is.
@@ -22,6 +23,7 @@ import re
 import subprocess
 import sys
 
+import audit
 import figures
 import refusals
 import sentences
@@ -305,6 +307,14 @@ def faults(names, page):
                     yield number, f"`{word}` {wrong}"
 
 
+def stale_edits():
+    """Each edit that cannot be made any more, as another line of a page that is wrong."""
+    for edit in sorted(glob.glob("crates/*/must-fail/*.edit") + glob.glob("crates/*/audit/*.edit")):
+        _, made = audit.changed("/".join(edit.split("/")[:2]), [{"pairs": audit.pairs_of(edit)}])
+        if not made:
+            yield edit, 1, "a text that it replaces is not in its file once"
+
+
 def pages():
     folders = ("docs", "bench", "bench/c", "examples", "crates/*")
     return ["README.md", "CONTRIBUTING.md"] + [path for folder in folders for path in sorted(glob.glob(f"{folder}/*.md"))]
@@ -315,6 +325,7 @@ def main():
     wrong = [(page, *fault) for page in filter(os.path.exists, pages()) for fault in sorted(set(faults(names, page)))]
     wrong += figures.wrong()
     wrong += refusals.wrong()
+    wrong += stale_edits()
     for page, number, what in wrong:
         print(f"{page}:{number}: {what}")
     count = len(wrong)

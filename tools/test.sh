@@ -12,7 +12,14 @@ not_tried test.sh
 python3 tools/names.py
 python3 tools/alloc_errors.py
 python3 tools/check_docs.py
-rt ci
+said=$(mktemp)
+trap 'rm -f "$said"' EXIT
+rt ci | tee "$said"
+# An edit that the prover can't read fails nothing there, and shows nothing of a contract.
+if grep --quiet "BAD EDIT" "$said"; then
+    echo "test.sh: rt ci tells of a bad edit above" >&2
+    exit 1
+fi
 python3 tools/check_docs.py crates/heapsh/out/heapsh
 python3 tests/cuts/test_cuts.py crates/heapsh/out/heapsh
 python3 tests/refused/test_refused.py crates/heapsh/out/heapsh
