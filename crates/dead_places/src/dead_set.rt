@@ -90,13 +90,6 @@ impl DeadSet {
         place_at(self.tids.as_slice(), number)
     }
 
-    /// The least of the places, if there is one.
-    pub fn least(&self) -> Option<Tid>
-        ensures { result ≡ slice_get self.now 0 }
-    {
-        place_at(self.tids.as_slice(), 0)
-    }
-
     /// The greatest of the places, if there is one.
     pub fn greatest(&self) -> Option<Tid>
         ensures { result ≡ slice_get self.now (length self.now - 1) }

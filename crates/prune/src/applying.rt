@@ -79,7 +79,7 @@ fn prune_by_plan(page: &mut Page, statuses: &StatusTable, horizon: Xid)
     }
 }
 
-/// Prunes a page at this horizon. Where no version is dead, which [`has_dead`](crate::has_dead) tells at less cost,
+/// Prunes a page at this horizon. Where no version is dead, which [`first_death`](crate::first_death) tells at less cost,
 /// nothing changes. It takes no memory.
 pub fn prune(page: &mut Page, statuses: &StatusTable, horizon: Xid)
     ensures by_plan { IsPrunedPage statuses.now horizon.0 page.old page.new }

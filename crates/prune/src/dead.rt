@@ -158,11 +158,3 @@ pub fn first_death(page: &Page, statuses: &StatusTable, horizon: Xid) -> Option<
     }
     Some(outlook.turn)
 }
-
-/// Whether any slot of a page holds a dead version at this horizon. Where none does, pruning changes nothing, so no
-/// chain has to be walked. It takes no memory.
-pub fn has_dead(page: &Page, statuses: &StatusTable, horizon: Xid) -> bool
-    ensures { IsTrue result ↔ HasDead statuses.now horizon.0 page.now.slots }
-{
-    first_death(page, statuses, horizon).is_none()
-}

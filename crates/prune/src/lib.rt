@@ -7,7 +7,7 @@
 //!
 //! [`plan`] says what is to be done without changing the page, [`check_plan`] whether a plan may be applied, whoever made
 //! it, and when, [`apply`] does what it names and nothing else, and [`prune`] is the first and the last of these. Where no
-//! version on the page is dead, there is nothing to do: [`has_dead`] tells, and [`first_death`] from which turn on one may be.
+//! version on the page is dead there is nothing to do: [`first_death`] tells whether one is, and else when one may be.
 //! All of them go over the headers once (`glance.rt`), and walk only the chains that may hold a dead version (`marks.rt`). Where it is
 //! known in which slots versions may be dead, now or later, [`plan_by_doubts`] looks at these alone. What
 //! room the page has once a plan is applied, [`room_after`] tells before.
@@ -30,7 +30,7 @@ mod room;
 pub use action::PrunePlan;
 pub use applying::{apply, apply_actions, prune};
 pub use checking::{check_actions, check_plan};
-pub use dead::{first_death, has_dead};
+pub use dead::first_death;
 pub use planning::{plan, plan_by_doubts};
 pub use prune_actions::Action;
 pub use room::room_after;

@@ -96,13 +96,6 @@ impl<R, W> IoLog<R, W> {
         self.output
     }
 
-    /// How many calls in a row, up to the last, were interrupted.
-    pub fn interrupts(&self) -> u64
-        ensures { result ≡ self.now.interrupted }
-    {
-        self.interrupted
-    }
-
     /// Whether a growth was refused.
     pub fn memory(&self) -> bool
         ensures { result ≡ self.now.memory }

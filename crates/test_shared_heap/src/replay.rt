@@ -1,9 +1,9 @@
 //! One thread does the steps of a journal again.
 
 use crate::rows::{SETTINGS, are_same};
-use session_core::{Refusal, Reply, RunFault, Step, run};
+use session_core::{Engine, Refusal, Reply, RunFault};
 use shared_heap::Book;
-use std::alloc::{AllocError, Global};
+use std::alloc::Global;
 
 /// How the entries of a journal were answered.
 #[derive(Clone, Copy, Default)]
@@ -13,40 +13,40 @@ pub(crate) struct Entries {
     pub(crate) others: usize,
 }
 
-/// The steps of a journal.
-fn steps_of(alloc: Global, book: &Book) -> Result<Vec<Step>, AllocError> {
-    let mut steps = Vec::new(alloc);
-    for entry in book.journal() {
-        steps.push(entry.0.copy(alloc)?)?;
-    }
-    Ok(steps)
-}
-
-/// How the entries were answered, if each was answered as the replies say.
-fn entries_by(book: &Book, replies: &[Reply]) -> Option<Entries> {
-    if replies.len() != book.journal().len() {
-        return None;
-    }
-    let mut entries = Entries::default();
-    for (entry, reply) in book.journal().iter().zip(replies.iter()) {
-        if !are_same(&entry.1, reply) {
-            return None;
-        }
+impl Entries {
+    fn count(&mut self, reply: &Reply) {
         let count = match reply {
-            Reply::Refused(Refusal::Busy(_)) => &mut entries.busy,
-            Reply::Refused(Refusal::Deadlock) => &mut entries.deadlocks,
-            _ => &mut entries.others,
+            Reply::Refused(Refusal::Busy(_)) => &mut self.busy,
+            Reply::Refused(Refusal::Deadlock) => &mut self.deadlocks,
+            _ => &mut self.others,
         };
         *count = count.saturating_add(1);
     }
-    Some(entries)
 }
 
-/// How the entries of the journal were answered, if one thread that does its steps gets the same replies.
+/// Whether two engines have the same ids, and as many pages, entries and open sessions.
+fn are_alike(engine: &Engine, other: &Engine) -> bool {
+    engine.ids() == other.ids()
+        && engine.pages() == other.pages()
+        && engine.most_entries() == other.most_entries()
+        && engine.open_sessions() == other.open_sessions()
+}
+
+/// How the entries of the journal were answered, if one thread that does its steps gets the same replies, and ends as the book's
+/// engine did.
 pub(crate) fn replay(alloc: Global, book: &Book) -> Result<Option<Entries>, RunFault> {
-    let Ok(steps) = steps_of(alloc, book) else {
+    let Ok(mut engine) = Engine::new(alloc, SETTINGS) else {
         return Err(RunFault::NoMemory);
     };
-    let replies = run(alloc, SETTINGS, steps.as_slice())?;
-    Ok(entries_by(book, replies.as_slice()))
+    let mut entries = Entries::default();
+    for (step, reply) in book.journal() {
+        let Ok(step) = step.copy(alloc) else {
+            return Err(RunFault::NoMemory);
+        };
+        if !are_same(reply, &engine.step(step)) {
+            return Ok(None);
+        }
+        entries.count(reply);
+    }
+    Ok(are_alike(&engine, book.engine()).then_some(entries))
 }
