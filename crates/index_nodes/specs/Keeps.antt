@@ -6,7 +6,8 @@ use Rattle.index_nodes.specs.declared.node.TheConstants.{MOST_PARTS}
 use Rattle.index_nodes.specs.Lists.{IsFirst, IsLast}
 use Rattle.index_nodes.specs.Bounds.{AreOn}
 
--- of a leaf with these entries, in a list with room for so many: those that it has apart are its first and its last, and all lead to its pages
+-- of a leaf with these entries, in a list with room for so many: those that it has apart are its first and its last, and all lead
+-- to its pages
 pub record IsLeaf (first last : Entry) (entries : List Entry) (room : ℕ) (pages : PageBounds) : Type 0 where
   pub few : length entries ≤ MOST_PARTS
   pub reserved : MOST_PARTS ≤ room

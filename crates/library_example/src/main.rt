@@ -1,4 +1,5 @@
-//! Uses the engine from code: two sessions that write one key, a scan, a deletion and a pruning. `crates/session_core/CALLING.md` walks through it.
+//! Uses the engine from code: two sessions that write one key, a scan, a deletion and a pruning. `crates/session_core/CALLING.md`
+//! walks through it.
 #![tactic(auto)]
 
 ghost use Rattle.std.specs.Prelude.{◌≡◌, Some, IfSome};

@@ -1,4 +1,5 @@
--- A session opens a cursor over keys alone, and is handed keys by it: those of the rows that a cursor along the index by key would hand out.
+-- A session opens a cursor over keys alone, and is handed keys by it: those of the rows that a cursor along the index by key
+-- would hand out.
 use Rattle.std.proofs.Common.{◌≡◌, ℕ, ◌<◌, ◌≤◌, max, List, length, Option, Some, None, false, refl, sym, ◌∙◌, subst}
 use Rattle.std.specs.Prelude.{ℤ, ◌<ℤ◌, ◌≤ℤ◌, Vec}
 use Rattle.std.specs.declared.alloc.Global.{Global}

@@ -37,9 +37,9 @@ fn share_pages(
 }
 
 impl Engine {
-    /// The pages from `from` up to, and without, `to` as they are now, the statuses of the ids, and the horizon: what plans of their pruning
-    /// need. It is no step, and changes nothing; whatever is written later, the pages stay as they were. Refusals: NoSuchPage, where
-    /// `from` is over `to`, or `to` over the number of pages; NoMemory.
+    /// The pages from `from` up to, and without, `to` as they are now, the statuses of the ids, and the horizon: what plans of
+    /// their pruning need. It is no step, and changes nothing; whatever is written later, the pages stay as they were. Refusals:
+    /// NoSuchPage, where `from` is over `to`, or `to` over the number of pages; NoMemory.
     pub fn page_views(&mut self, alloc: Global, from: u32, to: u32) -> Result<PageViews, Refusal>
         ensures same { self.new ≡ self.old }
         ensures views { MatchResult result (AreViews self.old.engine.core from to)
@@ -57,9 +57,9 @@ impl Engine {
         Ok(PageViews::of(pages, statuses, self.core.horizon()))
     }
 
-    /// The page of this number with what a statement of the session sees of it, for [`table_scans::resolve`] to give the rows at any time. It
-    /// is no step, and changes nothing; whatever is written later, the ticket stays as it was. Refusals in order: NoSuchSession,
-    /// NotOpen, Failed, NoSuchPage, NoMemory.
+    /// The page of this number with what a statement of the session sees of it, for [`table_scans::resolve`] to give the rows at
+    /// any time. It is no step, and changes nothing; whatever is written later, the ticket stays as it was. Refusals in order:
+    /// NoSuchSession, NotOpen, Failed, NoSuchPage, NoMemory.
     pub fn take_page(&mut self, session: u8, page: u32) -> Result<Ticket, Refusal>
         ensures same { self.new ≡ self.old }
         ensures taken { MatchResult result (TakesTicket self.old.engine.core session page)

@@ -31,8 +31,8 @@ pub record WritesReply (reply : Reply) (places : List RowPlace) (answer : Result
   pub answers : answer ≡ count_in reply
   pub written : after ≡ places_after reply places
 
--- Beside what the history says of the reply: some rows or keys are handed out, up to so many, and a cursor at its end and a refusal leave all as it
--- was. No memory is asked for.
+-- Beside what the history says of the reply: some rows or keys are handed out, up to so many, and a cursor at its end and a
+-- refusal leave all as it was. No memory is asked for.
 abbrev pub ExactNextRows : State → ℕ → ℕ → Reply → State → Type 0
 ExactNextRows old s most (reply.Rows rows) new = (0 < length rows.items) × HandsOutUpTo old new s most rows.items
 ExactNextRows old s most (reply.Keys keys) new = (0 < length keys.items) × HandsOutByKeys old new s most keys.items

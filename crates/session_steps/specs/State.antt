@@ -174,7 +174,8 @@ abbrev pub refused_state : State → ℕ → Refusal → State
 refused_state st s refusal.Conflict = with_failed st s
 refused_state st s refusal = st
 
--- whether a step is answered above the sessions: each of a vacuum's, which is kept there; and the making of an index, which none may run beside
+-- whether a step is answered above the sessions: each of a vacuum's, which is kept there; and the making of an index, which none
+-- may run beside
 abbrev pub is_answered_above : Step → Bool
 is_answered_above (step.CreateIndex c) = true
 is_answered_above step = is_vacuum_step step

@@ -65,10 +65,11 @@ impl SessionEngine {
         *reply = self.next(s, n);
     }
 
-    /// Writes the next rows of the session's cursor to the first places, and answers how many there are: none exactly where nothing
-    /// is left, and the cursor stays open then. Of an index they are as many as there are places, or all that are left. Of the heap
-    /// they are those of the next page on which the session sees any, from where the cursor is, up to so many; what the page has
-    /// left over is handed out by the next call. Of a cursor over keys the key alone is written, and all else in its place stays. Refusals in order: NoSuchSession, NotOpen, Failed, NoCursor. It takes no memory.
+    /// Writes the next rows of the session's cursor to the first places, and answers how many there are: none exactly where
+    /// nothing is left, and the cursor stays open then. Of an index they are as many as there are places, or all that are left.
+    /// Of the heap they are those of the next page on which the session sees any, from where the cursor is, up to so many; what
+    /// the page has left over is handed out by the next call. Of a cursor over keys the key alone is written, and all else in its
+    /// place stays. Refusals in order: NoSuchSession, NotOpen, Failed, NoCursor. It takes no memory.
     pub fn next_rows(&mut self, s: u8, places: &mut [RowPlace]) -> Result<usize, Refusal>
         requires { 0 < length places.old }
         ensures { AnswersNextRows self.old s places.old result places.new self.new }

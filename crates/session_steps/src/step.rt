@@ -13,12 +13,12 @@ use crate::outcome::put_reply;
 use calls::{Refusal, Reply, Row, Step};
 
 impl SessionEngine {
-    /// Does one step, and puts its reply in the place of an earlier one: whatever world of the history the engine agrees with, the
-    /// history allows the reply, and the engine agrees with the next world. A step that is refused names the first reason that
-    /// holds, in the order of the table in docs/rules.md, or NoMemory, as is said below that table. A vacuum's step and
-    /// the making of an index, which are done above the sessions, change nothing, and leave the earlier reply. A reply has room for a row, over a kilobyte; who
-    /// does many steps needs one alone. The earlier one is dropped only when the new one is there, so the rows of two answers of
-    /// a cursor may be in memory at once.
+    /// Does one step, and puts its reply in the place of an earlier one: whatever world of the history the engine agrees with,
+    /// the history allows the reply, and the engine agrees with the next world. A step that is refused names the first reason
+    /// that holds, in the order of the table in docs/rules.md, or NoMemory, as is said below that table. A vacuum's step and the
+    /// making of an index, which are done above the sessions, change nothing, and leave the earlier reply. A reply has room for a
+    /// row, over a kilobyte; who does many steps needs one alone. The earlier one is dropped only when the new one is there, so
+    /// the rows of two answers of a cursor may be in memory at once.
     pub fn step_into(&mut self, step: Step, reply: &mut Reply)
         ensures answers { is_answered_above step ≡ false
             → AnswersStep self.old step reply.new self.new }

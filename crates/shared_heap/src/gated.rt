@@ -161,8 +161,8 @@ fn in_threads<J: Request + Send + Sync, R: Threads + Wait + Sync, G: Gate + Sync
     latch.into_inner()
 }
 
-/// Begins the threads of the first eight workers. Where one can't be made, the others leave what they have not begun: one of them could wait
-/// for a line that nobody does.
+/// Begins the threads of the first eight workers. Where one can't be made, the others leave what they have not begun: one of them
+/// could wait for a line that nobody does.
 fn spread<'x, J: Request + Send + Sync, R: Threads + Wait + Sync, G: Gate + Sync>(
     rt: &'x R,
     shared: &'x SharedWork<J>,

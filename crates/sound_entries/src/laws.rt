@@ -22,7 +22,8 @@ pub fn touched_by_index()
     ensures { TouchedByIndex }
 {}
 
-/// Where the entries are sound and no excused version is seen, the row that is found is that of a version on the heap, and none where there is none.
+/// Where the entries are sound and no excused version is seen, the row that is found is that of a version on the heap, and none
+/// where there is none.
 pub fn found_is_on_heap()
     ensures { FoundIsOnHeap }
 {}
@@ -32,7 +33,8 @@ pub fn the_row_is_found()
     ensures { TheRowIsFound }
 {}
 
-/// Where the entries are sound and no excused version is seen, the place that is found is that of a version on the heap, and none where there is none.
+/// Where the entries are sound and no excused version is seen, the place that is found is that of a version on the heap, and none
+/// where there is none.
 pub fn place_is_on_heap()
     ensures { PlaceIsOnHeap }
 {}

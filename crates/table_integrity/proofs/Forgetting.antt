@@ -1,4 +1,5 @@
--- Forgetting old ids leaves a table sound whose versions need none of them; and an index is exact from the cutoff on, where it was from an earlier id.
+-- Forgetting old ids leaves a table sound whose versions need none of them; and an index is exact from the cutoff on, where it
+-- was from an earlier id.
 use Rattle.std.proofs.Common.{◌≡◌, ◌≢◌, ◌⊎◌, ℕ, zero, suc, ◌<◌, ◌≤◌, false, List, [], length, Option, Some, None, arith, inl, inr, ⊎_elim, refl, sym, ap, ◌∙◌, subst}
 use Rattle.std.specs.Prelude.{IsSome, unwrap_or}
 use Rattle.std.proofs.lemmas.Bool.{cases_Bool, cases_lt}

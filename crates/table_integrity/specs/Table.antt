@@ -16,7 +16,8 @@ pub record SoundTable (h : HeapView) (horizon : ℕ) : Type 0 where
   -- the entries of each index in use lead to the roots of chains of their values and keys, but for what is excused there
   pub indexes : (n : ℕ) → IsInUse h.indexes n → SoundEntries (value_in n) (since_at h.indexes n) h.statuses (slots_of h) (entries_in h.indexes n)
 
--- a step leaves it so, with the same indexes in use, exact from the same ids on, and what an entry leads to stays, or becomes a redirect or dead
+-- a step leaves it so, with the same indexes in use, exact from the same ids on, and what an entry leads to stays, or becomes a
+-- redirect or dead
 pub record StaysSoundTable (h h' : HeapView) (horizon : ℕ) : Type 0 where
   pub sound : SoundTable h' horizon
   pub in_use : (n : ℕ) → IsInUse h.indexes n ↔ IsInUse h'.indexes n

@@ -338,9 +338,9 @@ impl Run {
         Ok(())
     }
 
-    // An early id deletes a version that a later one made. Session 0, by statement, takes its id by a write of another key. Session 2 takes the
-    // next, and holds the horizon back to it. Session 1 updates the row and commits; then session 0 does. So the version between is
-    // dead, the one before it is not yet, and a pruning takes both. No session is open before and after.
+    // An early id deletes a version that a later one made. Session 0, by statement, takes its id by a write of another key.
+    // Session 2 takes the next, and holds the horizon back to it. Session 1 updates the row and commits; then session 0 does. So
+    // the version between is dead, the one before it is not yet, and a pruning takes both. No session is open before and after.
     fn write_under_early_id(
         &mut self,
         alloc: Global,
