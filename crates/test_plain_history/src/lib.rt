@@ -6,8 +6,6 @@
 #[cfg(test)]
 mod cursors;
 #[cfg(test)]
-mod laws;
-#[cfg(test)]
 mod making;
 #[cfg(test)]
 mod savepoints;

@@ -2,7 +2,6 @@
 
 use crate::asks::{Answer, Ask, ONE_PAGE, ask_new};
 use session_core::{Refusal, Settings};
-use session_steps::laws::{horizon_is_earliest, tickets_hold_the_view, views_by_index};
 use std::test::Fail;
 
 const SETTINGS: Settings = Settings {
@@ -179,12 +178,4 @@ static UPDATED: [(Ask, Answer); 7] = [
 #[test]
 fn the_index_leads_to_roots(rt: HostRuntime) -> Result<(), Fail> {
     ask_new(rt.alloc(), SETTINGS, &UPDATED)
-}
-
-// A law does nothing, and can be called at any time.
-#[test]
-fn laws_do_nothing() {
-    views_by_index();
-    horizon_is_earliest();
-    tickets_hold_the_view();
 }

@@ -2,7 +2,7 @@
 
 use crate::steps::{Step, run};
 use dead_places::DeadSet;
-use root_index::{Entry, PositionHint, Progress, RootIndex, members_determine};
+use root_index::{Entry, PositionHint, Progress, RootIndex};
 use std::alloc::{AllocError, Global};
 use std::test::Fail;
 use xid_circle::Tid;
@@ -426,10 +426,4 @@ static PROMISED: [IndexStep; 9] = [
 #[test]
 fn promised_entries_take_no_memory(rt: HostRuntime) -> Result<(), Fail> {
     run(rt.alloc(), RootIndex::new(rt.alloc()), &PROMISED)
-}
-
-#[test]
-fn laws(rt: HostRuntime) {
-    RootIndex::new(rt.alloc()).fact_ascending();
-    members_determine();
 }

@@ -6,7 +6,6 @@ use crate::statuses::finish;
 use crate::steps::{Step, run};
 use commit_status::{Status, StatusTable};
 use status_cache::StatusCache;
-use status_cache::laws::{finishing_keeps_cache, giving_keeps_cache, truncating_keeps_cache};
 use std::alloc::{AllocError, Global};
 use std::test::Fail;
 use xid_circle::Xid;
@@ -66,11 +65,4 @@ static ASKINGS: [Asking; 4] = [
 #[test]
 fn the_first_of_1025_ids_leaves(rt: HostRuntime) -> Result<(), Fail> {
     run(rt.alloc(), table_with(rt.alloc(), 1026), &ASKINGS)
-}
-
-#[test]
-fn laws_of_held_statuses() {
-    giving_keeps_cache();
-    finishing_keeps_cache();
-    truncating_keeps_cache();
 }

@@ -1,6 +1,6 @@
 //! Ids on the circle, which go round.
 
-use xid_circle::{Tid, Xid, distance, next, order_of_giving, precedes};
+use xid_circle::{Tid, Xid, distance, next, precedes};
 
 /// Whether the first of two normal ids precedes the second.
 fn is_before(a: Xid, b: Xid) -> Option<bool> {
@@ -52,11 +52,6 @@ fn ids_go_round(rt: HostRuntime) {
     for (a, told) in &NEXT {
         assert!(rt; after(*a) == *told, "{a:?}");
     }
-}
-
-#[test]
-fn laws() {
-    order_of_giving();
 }
 
 #[test]

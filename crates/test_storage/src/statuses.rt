@@ -3,7 +3,6 @@
 ghost use Rattle.xid_circle.specs.Circle.{IsNormal};
 
 use crate::steps::{Step, run};
-use commit_status::laws::{places_are_turns, tops_are_topmost};
 use commit_status::{GiveFault, Status, StatusTable};
 use std::alloc::{AllocError, Global};
 use std::test::Fail;
@@ -185,12 +184,4 @@ static TOPS: [TableStep; 13] = [
 #[test]
 fn tops(rt: HostRuntime) -> Result<(), Fail> {
     run(rt.alloc(), window(rt.alloc(), Xid(3), 1000), &TOPS)
-}
-
-#[test]
-fn laws(rt: HostRuntime) {
-    let statuses = window(rt.alloc(), Xid(4294967294), 1000);
-    statuses.fact_window();
-    places_are_turns();
-    tops_are_topmost();
 }

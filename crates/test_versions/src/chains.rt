@@ -1,7 +1,6 @@
 //! Chains on pages that no engine makes, each reckoned by hand.
 
 use crate::stage::{PageStep, run_page};
-use hot_chain::chain_is_one;
 use std::test::Fail;
 
 static REDIRECT_TO_ITSELF: [PageStep; 5] = [
@@ -61,9 +60,4 @@ fn chains_and_their_roots(rt: HostRuntime) -> Result<(), Fail> {
     run_page(rt.alloc(), 3, &TWO_THAT_POINT_AT_EACH_OTHER)?;
     run_page(rt.alloc(), 3, &TWO_UNSEEN_THAT_POINT_AT_EACH_OTHER)?;
     run_page(rt.alloc(), 3, &REDIRECT_TO_A_CHAIN)
-}
-
-#[test]
-fn laws() {
-    chain_is_one();
 }

@@ -11,13 +11,6 @@ use heap_pages::{MOST_PAGES, Pages};
 use index_lookup::{TableView, WriteCheck, check_write, place_from, place_of, row_from, row_of};
 use page_slots::Page;
 use root_index::{Entry, PositionHint, RootIndex};
-use sound_entries::laws::{
-    aborting_keeps_entries, adding_keeps_entries, committing_keeps_entries, entries_go_sound,
-    found_by_index, found_is_on_heap, giving_keeps_entries, later_horizon_keeps_entries,
-    led_by_entry, led_by_two_steps, newer_commit_is_on_heap, no_entries_are_sound,
-    other_writer_is_on_heap, pages_grow_sound, place_is_on_heap, pruning_keeps_entries,
-    taking_keeps_entries, the_row_is_found, touched_by_index, updating_keeps_entries,
-};
 use std::alloc::{AllocError, Global};
 use tuple_header::{Row, RowRef};
 use visibility::Reader;
@@ -250,28 +243,4 @@ fn an_entry_of_a_page_that_is_not_in_use_leads_nowhere(rt: HostRuntime) -> Resul
     let pages = Pages::new(rt.alloc());
     assert_eq!(rt; first_other(rt.alloc(), &pages, &BY_KEY, &NO_PAGES)?, None);
     Ok(())
-}
-
-#[test]
-fn laws() {
-    led_by_entry();
-    found_by_index();
-    touched_by_index();
-    found_is_on_heap();
-    the_row_is_found();
-    place_is_on_heap();
-    newer_commit_is_on_heap();
-    other_writer_is_on_heap();
-    no_entries_are_sound();
-    adding_keeps_entries();
-    taking_keeps_entries();
-    updating_keeps_entries();
-    pruning_keeps_entries();
-    pages_grow_sound();
-    entries_go_sound();
-    giving_keeps_entries();
-    committing_keeps_entries();
-    aborting_keeps_entries();
-    later_horizon_keeps_entries();
-    led_by_two_steps();
 }

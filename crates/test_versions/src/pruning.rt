@@ -3,12 +3,6 @@
 use crate::stage::{PageStep, run_page};
 use commit_status::Status;
 use prune::Action;
-use prune::laws::{
-    checked_is_never_seen, checked_raises, checks_at_either_end, nothing_dead_stays,
-    pruning_has_one_outcome, pruning_is_done_once, pruning_is_never_seen, removing_is_never_seen,
-    sound_stays_sound,
-};
-use sound_page::{empty_page_is_sound, open_readers_are_readers, sound_is_unshared};
 use std::test::Fail;
 
 /// Of versions of which each replaced the one before the first goes, and then the second.
@@ -183,24 +177,4 @@ static APPLIED_ONCE: [PageStep; 8] = [
 #[test]
 fn a_plan_is_applied_once(rt: HostRuntime) -> Result<(), Fail> {
     run_page(rt.alloc(), 3, &APPLIED_ONCE)
-}
-
-#[test]
-fn laws() {
-    checked_is_never_seen();
-    checked_raises();
-    checks_at_either_end();
-    nothing_dead_stays();
-    pruning_has_one_outcome();
-    pruning_is_done_once();
-    pruning_is_never_seen();
-    removing_is_never_seen();
-    sound_stays_sound();
-}
-
-#[test]
-fn laws_of_sound_pages() {
-    empty_page_is_sound();
-    open_readers_are_readers();
-    sound_is_unshared();
 }

@@ -4,10 +4,6 @@ use crate::ids::nobody;
 use crate::sessions::{SessionStep, run_session};
 use commit_status::Status;
 use snapshot::earlier;
-use snapshot::laws::{
-    earliest_is_first, finished_is_seen, later_is_unseen, open_is_unseen, past_is_seen,
-    sees_by_top, taken_is_in_window,
-};
 use std::test::Fail;
 use xid_circle::Xid;
 
@@ -72,16 +68,4 @@ fn children_that_are_listed(rt: HostRuntime) -> Result<(), Fail> {
 #[test]
 fn the_earlier_of_two_ids(rt: HostRuntime) {
     assert_eq!(rt; earlier(Xid(3), Xid(4294967295)), Xid(4294967295));
-}
-
-#[test]
-fn laws(rt: HostRuntime) {
-    nobody(rt.alloc()).fact_prefixes();
-    open_is_unseen();
-    later_is_unseen();
-    finished_is_seen();
-    past_is_seen();
-    sees_by_top();
-    taken_is_in_window();
-    earliest_is_first();
 }

@@ -8,11 +8,7 @@ use status_cache::{StatusCache, visible_cached};
 use std::alloc::Global;
 use std::test::Fail;
 use tuple_header::{Tuple, fault_of};
-use visibility::laws::{
-    dead_is_unseen, finishing_unseen_ids_changes_no_verdict, giving_changes_no_verdict,
-    listing_nobody_counts_committed,
-};
-use visibility::{Fate, Reader, fate, fate_of, hints_change_no_verdict, set_hints};
+use visibility::{Fate, Reader, fate, fate_of, set_hints};
 
 /// A version with such a header, if that has no fault.
 fn version_of(life: Life) -> Option<Tuple> {
@@ -115,13 +111,4 @@ static VERDICTS: [PageStep; 23] = [
 #[test]
 fn verdicts_fates_and_hints(rt: HostRuntime) -> Result<(), Fail> {
     run_page(rt.alloc(), 3, &VERDICTS)
-}
-
-#[test]
-fn laws() {
-    finishing_unseen_ids_changes_no_verdict();
-    giving_changes_no_verdict();
-    dead_is_unseen();
-    listing_nobody_counts_committed();
-    hints_change_no_verdict();
 }

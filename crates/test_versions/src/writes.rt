@@ -4,11 +4,6 @@ use crate::stage::{PageStep, run_page};
 use commit_status::Status;
 use std::test::Fail;
 use tuple_header::{Header, fault_of};
-use tuple_writes::laws::{
-    aborting_keeps_sound, adding_keeps_sound, committing_keeps_sound, giving_keeps_sound,
-    hot_updating_keeps_sound, later_horizon_keeps_sound, setting_xmax_is_counted,
-    setting_xmax_keeps_sound,
-};
 use tuple_writes::{heap_only, replace_header, root};
 use xid_circle::{Tid, Xid};
 
@@ -158,16 +153,4 @@ fn headers_of_versions(rt: HostRuntime) {
     assert_eq!(rt; new_root(false), header_of(5, 0, 0x0006, 0x0800));
     assert_eq!(rt; new_root(true), header_of(5, 0, 0x0006, 0x2800));
     assert_eq!(rt; new_heap_only(), header_of(5, 0, 0x8006, 0x2800));
-}
-
-#[test]
-fn laws() {
-    adding_keeps_sound();
-    setting_xmax_keeps_sound();
-    hot_updating_keeps_sound();
-    setting_xmax_is_counted();
-    giving_keeps_sound();
-    committing_keeps_sound();
-    aborting_keeps_sound();
-    later_horizon_keeps_sound();
 }
