@@ -24,8 +24,4 @@ python3 tools/check_docs.py crates/heapsh/out/heapsh
 python3 tests/cuts/test_cuts.py crates/heapsh/out/heapsh
 python3 tests/refused/test_refused.py crates/heapsh/out/heapsh
 python3 tests/orders/test_orders.py crates/heapsh/out/heapsh
-# Where all was proved in this run, the library for C is built over that, and nothing below it is proved again.
-if grep --quiet "every proof and must-fail edit was done in this run" "$said"; then
-    python3 tools/keep_libraries.py
-fi
 tools/test_callers.sh
