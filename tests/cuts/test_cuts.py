@@ -5,7 +5,7 @@
 
 Of a cut script the lines before the cut are answered as they are in the whole one. A cut inside line N makes that the bad line N. A cut
 page is no page. Short scripts are also cut as the lines of one worker, for `heapsh threads`: there nothing is written where a line is bad.
-The answers of the whole are those beside the rows of crates/test_scripts, and those on the pages of the examples.
+The answers of the whole are those beside the lines of the worked scripts (tests/scripts), and those on the pages of the examples.
 """
 import glob
 import os
@@ -17,21 +17,16 @@ import time
 from typing import IO, Iterable, Iterator, List, NamedTuple, Optional, Tuple
 
 ROOT = os.path.dirname(os.path.dirname(os.path.dirname(os.path.abspath(__file__))))
-sys.path[:0] = [os.path.join(ROOT, "examples"), os.path.join(ROOT, "tests", "pages")]
+sys.path[:0] = [os.path.join(ROOT, folder) for folder in ("examples", "tests/pages", "tests/scripts")]
 
 import check  # noqa: E402
 import page_format  # noqa: E402
+import worked  # noqa: E402
 
 # how far from the ends of its line a cut is made, but with --all
 NEAR = 64
 # how many bytes a script has at most that is cut as a worker's
 SHORT = 250
-STRING = r'"((?:[^"\\]|\\.|\\\n)*)"'
-# a row, which leaves out what it has as `PLAIN` has it
-ROW = re.compile(
-    rf"name: {STRING},\s*script: b{STRING},(?:\s*body: (\d+),)?(?:\s*other: (\d+),)?\s*answers: b{STRING},"
-    rf"(?:\s*status: (\d+),)?(?:\s*words: {STRING},)?"
-)
 
 
 class Script(NamedTuple):
@@ -47,11 +42,6 @@ class End(NamedTuple):
     errors: str
 
 
-def unquoted(literal: str) -> str:
-    """What a string of Rust's says."""
-    return re.sub(r"\\\n\s*", "", literal).replace("\\n", "\n")
-
-
 def whole_answers(text: str) -> List[str]:
     """Answers, each with the lines that its first line announces."""
     lines, answers, at = text.splitlines(keepends=True), [], 0
@@ -64,17 +54,8 @@ def whole_answers(text: str) -> List[str]:
 
 
 def worked_scripts() -> Iterator[Script]:
-    for path in sorted(glob.glob(f"{ROOT}/crates/test_scripts/src/*.rt")):
-        with open(path, encoding="utf-8") as file:
-            source = file.read()
-        rows = ROW.findall(source)
-        assert len(rows) == source.count(' name: "'), f"{path} has a row that is read otherwise"
-        for name, script, body, other, answers, _, words in rows:
-            text = unquoted(script).replace("~", "61" * int(body or 0)).replace("^", "62" * int(other or 0))
-            bad = re.match(r"bad line (\d+)", words)
-            # `PLAIN` itself is no script
-            if name:
-                yield Script(name, text.encode(), whole_answers(unquoted(answers)), int(bad[1]) if bad else None)
+    for case in worked.cases():
+        yield Script(case.name, case.text, case.answers, worked.bad_line(case.words))
 
 
 def examples() -> Iterator[Script]:

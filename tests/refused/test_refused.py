@@ -20,10 +20,11 @@ import time
 from typing import Dict, Iterable, Iterator, List, NamedTuple, Optional, Tuple
 
 HERE = os.path.dirname(os.path.abspath(__file__))
-sys.path[:0] = [os.path.join(os.path.dirname(HERE), folder) for folder in ("cuts", "pages")]
+sys.path[:0] = [os.path.join(os.path.dirname(HERE), folder) for folder in ("cuts", "pages", "scripts")]
 
 import page_format  # noqa: E402
-from test_cuts import whole_answers, worked_scripts  # noqa: E402
+import worked  # noqa: E402
+from test_cuts import whole_answers  # noqa: E402
 
 NO_MEMORY = "error 16 NoMemory\n"
 LEAST, MOST = -(2**63), 2**63 - 1
@@ -369,7 +370,7 @@ def main() -> None:
         for workers in (1, 2):
             print(f"test_refused.py: {refuse_threads(shell, for_threads(workers))}")
         print(f"test_refused.py: {refuse_page(shell, page_format.SIX_SLOTS)}")
-        scripts = [script.text.decode().splitlines() for script in worked_scripts() if script.bad_line is None]
+        scripts = [case.text.decode().splitlines() for case in worked.cases() if case.status == 0]
         looked = [look_after_each_line(shell, lines) for lines in (all_steps(12, 12), *scripts)]
         print(f"test_refused.py: the entries are right after each of {sum(looked)} lines of {len(looked)} scripts")
     print(f"test_refused.py: all as it has to be, in {time.monotonic() - began:.0f} seconds")
