@@ -1,7 +1,8 @@
 #!/usr/bin/env bash
 # tools/test.sh: all that is tried of this repository: names, clauses and documents; the gate (every proof, each must-fail edit, each
-# test, and the programs as two compilers make them); the examples' answers, scripts and pages that are cut, memory that is refused, and
-# a vacuum's steps in any order with those of sessions; and the C library from C, C++, Rust and Python.
+# test, and the programs as two compilers make them); the answers of examples and scripts, reads and writes that fail, scripts and pages
+# that are cut, memory that is refused, and a vacuum's steps in any order with those of sessions; and the C library from C, C++, Rust and
+# Python.
 # It says first of all what is missing.
 set -euo pipefail
 cd "$(dirname "$0")/.."
@@ -21,6 +22,7 @@ if grep --quiet "BAD EDIT" "$said"; then
     exit 1
 fi
 python3 tools/check_docs.py crates/heapsh/out/heapsh
+python3 tests/scripts/test_scripts.py crates/heapsh/out/heapsh
 python3 tests/cuts/test_cuts.py crates/heapsh/out/heapsh
 python3 tests/refused/test_refused.py crates/heapsh/out/heapsh
 python3 tests/orders/test_orders.py crates/heapsh/out/heapsh
