@@ -12,6 +12,7 @@ Reads README.md, CONTRIBUTING.md and the pages of docs/, bench/, examples/ and c
 - a line has 140 columns or more, or a sentence more than 30 words (tools/sentences.py);
 - a figure is not what the repository has: lines of definitions, layers, sizes, edits, calls (tools/figures.py);
 - a refusal or a status has another number, name or meaning somewhere than in the table of docs/rules.md (tools/refusals.py);
+- a fault has other words than in the table of docs/rules.md or docs/script.md, or the program another exit status (tools/fault_words.py);
 - a text that an edit of must-fail/ or audit/ replaces is not in its file once.
 
 With a path to the program, it also compares its answers with those on the examples' pages, as examples/check.py does.
@@ -24,6 +25,7 @@ import subprocess
 import sys
 
 import audit
+import fault_words
 import figures
 import refusals
 import sentences
@@ -325,6 +327,7 @@ def main():
     wrong = [(page, *fault) for page in filter(os.path.exists, pages()) for fault in sorted(set(faults(names, page)))]
     wrong += figures.wrong()
     wrong += refusals.wrong()
+    wrong += fault_words.wrong()
     wrong += stale_edits()
     for page, number, what in wrong:
         print(f"{page}:{number}: {what}")
