@@ -2,7 +2,7 @@
 """Tries many wrong edits of a crate in few checks: tools/audit.py [--jobs N] [--only WORD] [NAME ..]
 
 Run at the top of the repository, with `rt` on the path; without names, every crate that has edits. The edits are those of
-crates/NAME/must-fail/ and crates/NAME/audit/. They are tried on copies, some sixteen in one check: a round changes each function
+must-fail/, by-function/ and audit/ of crates/NAME. They are tried on copies, some sixteen in one check: a round changes each function
 at most once, and judges each edit by the line that `rt check` prints for the function that it changes. An edit is refused where
 that function itself is not proved. One whose function was only not reached ("it calls ..") is tried again with others of that kind, and
 in the end alone, as is one that changes no single function (a definition, a constant). Prints the edits that were not refused, and
@@ -28,6 +28,9 @@ ERROR = re.compile(r"^\./proofs/(\S+)/(?:Answers|Invariants|Proof)\.antt:\d+:\d+
 MISSES_A_NAME = re.compile(r"has no (field )?`|can be named|is no name that rattle asks for|was not (admitted|checked)")
 # a goal that is false of the new body, whatever its proof file names
 IS_FALSE = re.compile(r"^note: src/.*it is not proved that.*allow values at which this goal is false", re.M)
+CHECK = ("rt", "check", "--jobs", "1")
+# where edits stand: the gate tries the first by a check of the crate, the second by one of a function
+FOLDERS = ("must-fail", "by-function", "audit")
 # how often an edit is tried with others
 MOST_TRIES = 4
 # what `rt check` says of a function that was not reached, since one that it calls has no proof
@@ -51,6 +54,11 @@ def pairs_of(edit):
         elif line.startswith("new:"):
             pairs.append((path, old, line[4:].removeprefix(" ")))
     return pairs
+
+
+def edits_of(crate, *folders):
+    """The files of a crate's edits, or of those that stand in these folders."""
+    return sorted(file for folder in folders or FOLDERS for file in glob.glob(f"{crate}/{folder}/*.edit"))
 
 
 def type_above(lines, at):
@@ -113,13 +121,12 @@ def in_each_others_way(these, those, reached):
 
 
 class Said:
-    """What a check said: of each function, the errors of reading, and which functions fail by form alone."""
+    """What a check in a folder said: of each function, the errors of reading, and which functions fail by form alone."""
 
-    def __init__(self, top, name):
+    def __init__(self, words, folder, name):
         before = time.time()
-        words = ["rt", "check", "--jobs", "1"]
         with tempfile.TemporaryFile("w+", encoding="utf-8", errors="replace") as out:
-            started = subprocess.Popen(words, cwd=f"{top}/crates/{name}", stdin=subprocess.DEVNULL, stdout=out, stderr=subprocess.STDOUT)
+            started = subprocess.Popen(words, cwd=folder, stdin=subprocess.DEVNULL, stdout=out, stderr=subprocess.STDOUT)
             _, status, used = os.wait4(started.pid, 0)
             out.seek(0)
             said = out.read()
@@ -182,12 +189,12 @@ def verdict_of(edit, made, said, names):
     return "NOT REFUSED"
 
 
-def try_round(crate, top, name, made, texts):
+def try_round(crate, name, texts):
     was = {path: text_of(f"{crate}/{path}") for path in texts}
     for path, text in texts.items():
         with open(f"{crate}/{path}", "w", encoding="utf-8") as file:
             file.write(text)
-    said = Said(top, name)
+    said = Said(CHECK, crate, name)
     for path, text in was.items():
         with open(f"{crate}/{path}", "w", encoding="utf-8") as file:
             file.write(text)
@@ -198,11 +205,11 @@ def audit(top, name, only, known, note):
     """The edits of a crate that were not refused, and a line on all of them. What is found of each is noted at once, and what
     is known from earlier is not tried again."""
     crate = f"{top}/crates/{name}"
-    files = sorted(glob.glob(f"{crate}/must-fail/*.edit") + glob.glob(f"{crate}/audit/*.edit"))
+    files = edits_of(crate)
     files = [file for file in files if not only or only in os.path.basename(file)]
     if not files:
         return [], None
-    plain = Said(top, name)
+    plain = Said(CHECK, crate, name)
     if plain.status:
         return [f"{name} is not proved as it is"], None
     names, reached, checks, spent, clock = plain.functions, reached_in(crate), 0, 0.0, 0.0
@@ -221,7 +228,7 @@ def audit(top, name, only, known, note):
             note(f"{name}/{this[0]['name']}: {verdicts[this[0]['name']]}")
             todo = [edit for edit in todo if edit is not this[0]]
             continue
-        said = try_round(crate, top, name, made, texts)
+        said = try_round(crate, name, texts)
         spent, clock, checks = spent + said.spent, clock + said.clock, checks + 1
         for edit in made:
             verdict = verdict_of(edit, made, said, names)

@@ -1,10 +1,14 @@
 #!/usr/bin/env bash
-# tools/build_c.sh PREFIX: proves the C library, builds it, and installs it under PREFIX: include/sandpipercot.h,
+# tools/build_c.sh PREFIX [--over-gate]: proves the C library, builds it, and installs it under PREFIX: include/sandpipercot.h,
 # lib/libsandpipercot.a, .so and .so.0, lib/pkgconfig/sandpipercot.pc, and in lib/python the Python module and a wheel of it.
+# With --over-gate what `rt ci` has just proved is not proved again, where it is left (tools/over_gate.py).
 # RT_JOBS says how many jobs rt is to use; CC names the C compiler, if it is not cc.
 set -euo pipefail
 
-[ $# -eq 1 ] || { echo "usage: tools/build_c.sh PREFIX" >&2; exit 2; }
+if [ $# -ne 1 ] && [ "$*" != "${1:-} --over-gate" ]; then
+    echo "usage: tools/build_c.sh PREFIX [--over-gate]" >&2
+    exit 2
+fi
 root=$(cd "$(dirname "$0")/.." && pwd)
 mkdir -p "$1"
 prefix=$(cd "$1" && pwd)
@@ -16,7 +20,15 @@ kit=$(dirname "$(dirname "$(readlink -f "$(command -v rt)")")")
 heap=$kit/c/liblibc_c.a
 [ -f "$heap" ] || { echo "build_c.sh: $heap is missing: it comes with the toolchain" >&2; exit 2; }
 
-(cd "$root/crates/sandpiper_c" && rt lib ${RT_JOBS:+--jobs "$RT_JOBS"})
+prove() { (cd "$root/crates/sandpiper_c" && rt lib ${RT_JOBS:+--jobs "$RT_JOBS"}); }
+if [ $# -eq 2 ]; then
+    status=0
+    python3 "$root/tools/over_gate.py" archive || status=$?
+    [ $status -ne 3 ] || { status=0; prove; }
+    [ $status -eq 0 ] || exit $status
+else
+    prove
+fi
 
 work=$(mktemp -d)
 trap 'rm -rf "$work"' EXIT

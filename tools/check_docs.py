@@ -13,7 +13,7 @@ Reads README.md, CONTRIBUTING.md and the pages of docs/, bench/, examples/ and c
 - a figure is not what the repository has: lines of definitions, layers, sizes, edits, calls (tools/figures.py);
 - a refusal or a status has another number, name or meaning somewhere than in the table of docs/rules.md (tools/refusals.py);
 - a fault has other words than in the table of docs/rules.md or docs/script.md, or the program another exit status (tools/fault_words.py);
-- a text that an edit of must-fail/ or audit/ replaces is not in its file once.
+- a text that an edit replaces is not in its file once (tools/audit.py says where edits stand).
 
 With a path to the program, it also compares its answers with those on the examples' pages, as examples/check.py does.
 Run it at the top of the repository. It prints what is wrong, one place a line, and ends with status 1 where anything is.
@@ -270,9 +270,9 @@ def promises(names, text):
             if not any(name in names.of.get((crate, module), ()) for crate in crates):
                 yield number, f"`{module}.{name}` is in none of {', '.join(crates)}"
         for edit, mark in re.findall(r"`(\w+)`( \(a\))?", cells_of[3]):
-            folder = "audit" if mark else "must-fail"
-            if not any(f"crates/{crate}/{folder}/{edit}.edit" in names.paths for crate in crates):
-                yield number, f"`{edit}` is in {folder}/ of none of {', '.join(crates)}"
+            folders = ["audit"] if mark else ["must-fail", "by-function"]
+            if not any(f"crates/{crate}/{folder}/{edit}.edit" in names.paths for crate in crates for folder in folders):
+                yield number, f"`{edit}` is in {' or '.join(folders)} of none of {', '.join(crates)}"
 
 
 def faults(names, page):
@@ -311,7 +311,7 @@ def faults(names, page):
 
 def stale_edits():
     """Each edit that cannot be made any more, as another line of a page that is wrong."""
-    for edit in sorted(glob.glob("crates/*/must-fail/*.edit") + glob.glob("crates/*/audit/*.edit")):
+    for edit in audit.edits_of("crates/*"):
         _, made = audit.changed("/".join(edit.split("/")[:2]), [{"pairs": audit.pairs_of(edit)}])
         if not made:
             yield edit, 1, "a text that it replaces is not in its file once"

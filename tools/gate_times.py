@@ -43,7 +43,8 @@ def processes(root):
         except OSError:
             continue
         crate = words[words.index("--crate-name") + 1]
-        kind = "edits" if "rt-edit" in folder or any("rt-edit" in word for word in words) else "tests" if "--test" in words else "proof"
+        is_edit = any(part in word for part in ("rt-edit", "by-function") for word in [folder, *words])
+        kind = "edits" if is_edit else "tests" if "--test" in words else "proof"
         yield (number, fields[19]), (crate.removesuffix("_tests"), kind), sum(map(int, fields[11:15])) / TICK
 
 

@@ -1,8 +1,8 @@
 #!/usr/bin/env bash
 # tools/test.sh: all that is tried of this repository: names, clauses and documents; the gate (every proof, each must-fail edit, each
 # test, and the programs as two compilers make them); the answers of examples and scripts, reads and writes that fail, scripts and pages
-# that are cut, memory that is refused, and a vacuum's steps in any order with those of sessions; and the C library from C, C++, Rust and
-# Python.
+# that are cut, memory that is refused, and a vacuum's steps in any order with those of sessions; edits that are tried by a function; and
+# the C library from C, C++, Rust and Python.
 # It says first of all what is missing.
 set -euo pipefail
 cd "$(dirname "$0")/.."
@@ -13,8 +13,9 @@ not_tried test.sh
 python3 tools/names.py
 python3 tools/alloc_errors.py
 python3 tools/check_docs.py
-said=$(mktemp)
-trap 'rm -f "$said"' EXIT
+room=$(mktemp -d)
+trap 'rm -rf "$room"' EXIT
+said=$room/said
 rt ci | tee "$said"
 # An edit that the prover can't read fails nothing there, and shows nothing of a contract.
 if grep --quiet "BAD EDIT" "$said"; then
@@ -26,4 +27,6 @@ python3 tests/scripts/test_scripts.py crates/heapsh/out/heapsh
 python3 tests/cuts/test_cuts.py crates/heapsh/out/heapsh
 python3 tests/refused/test_refused.py crates/heapsh/out/heapsh
 python3 tests/orders/test_orders.py crates/heapsh/out/heapsh
-tools/test_callers.sh
+tools/build_c.sh "$room/prefix" --over-gate
+python3 tools/over_gate.py edits
+tools/test_callers.sh "$room/prefix"
