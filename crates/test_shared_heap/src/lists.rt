@@ -2,14 +2,27 @@
 
 use crate::replay::replay;
 use crate::rows::{SETTINGS, row};
-use session_core::Step;
-use shared_heap::{Gate, Line, run_gated, run_threads};
+use session_core::{RunFault, Step};
+use shared_heap::{Book, Gate, Line, run_gated, run_threads};
 use std::alloc::{AllocError, Global};
+use std::sync::Wait;
 use std::sync::atomic::{AtomicU64, Ordering};
 use std::test::Fail;
+use std::thread::Threads;
 
 pub(crate) fn line(wait: bool, step: Step) -> Line {
     Line { wait, step }
+}
+
+/// What the workers with these lists have done, each behind a gate. It promises nothing: what `run_gated` does would be carried along by
+/// the proof of each test.
+pub(crate) fn book_of<G: Gate + Sync, R: Threads + Wait + Sync>(
+    rt: &R,
+    alloc: Global,
+    lists: Vec<Vec<Line>>,
+    gate: &G,
+) -> Result<Book, RunFault> {
+    run_gated(rt, alloc, SETTINGS, lists, gate)
 }
 
 /// A session inserts a key of its own, and one that all insert, waiting; it reads all rows, and is rolled back.
@@ -76,7 +89,7 @@ fn workers_pass_together(rt: HostRuntime) -> Result<(), Fail> {
         lines.push(line(false, Step::Begin(s)))?;
         lists.push(lines)?;
     }
-    let book = run_gated(&rt, alloc, SETTINGS, lists, &gate)?;
+    let book = book_of(&rt, alloc, lists, &gate)?;
     assert_eq!(rt; book.journal().len(), 2);
     assert_eq!(rt; gate.gave_up.load(Ordering::SeqCst), 0);
     Ok(())

@@ -1,13 +1,15 @@
 //! Rings of waits: whoever would close one is told Deadlock, and the others go on once it has aborted.
 
-use crate::lists::line;
-use crate::replay::replay;
-use crate::rows::{SETTINGS, row};
+use crate::lists::{book_of, line};
+use crate::replay::{Entries, replay};
+use crate::rows::row;
 use session_core::Step;
-use shared_heap::{Gate, Line, run_gated};
+use shared_heap::{Gate, Line};
 use std::alloc::{AllocError, Global};
+use std::sync::Wait;
 use std::sync::atomic::{AtomicU64, Ordering};
 use std::test::Fail;
+use std::thread::Threads;
 
 /// Holds each worker, after its second entry, until all have come so far.
 #[derive(Drop)]
@@ -58,18 +60,26 @@ fn list_of(alloc: Global, s: u8, sessions: u8) -> Result<Vec<Line>, AllocError> 
     Ok(lines)
 }
 
+/// How the entries of so many workers were answered that would wait in a ring.
+fn entries_of_ring<R: Threads + Wait + Sync>(
+    rt: &R,
+    alloc: Global,
+    workers: u8,
+) -> Result<Option<Entries>, Fail> {
+    let gate = SecondEntry::new(u64::from(workers));
+    let mut lists = Vec::new(alloc);
+    for s in 0..workers {
+        lists.push(list_of(alloc, s, workers)?)?;
+    }
+    let book = book_of(rt, alloc, lists, &gate)?;
+    Ok(replay(alloc, &book)?)
+}
+
 // One of the workers is told Deadlock, and no more; each does its four lines.
 #[test]
 fn one_worker_closes_the_ring(rt: HostRuntime) -> Result<(), Fail> {
-    let alloc = rt.alloc();
     for workers in [2u8, 3] {
-        let gate = SecondEntry::new(u64::from(workers));
-        let mut lists = Vec::new(alloc);
-        for s in 0..workers {
-            lists.push(list_of(alloc, s, workers)?)?;
-        }
-        let book = run_gated(&rt, alloc, SETTINGS, lists, &gate)?;
-        match replay(alloc, &book)? {
+        match entries_of_ring(&rt, rt.alloc(), workers)? {
             Some(entries) => {
                 assert_eq!(rt; entries.deadlocks, 1);
                 assert_eq!(rt; entries.others.saturating_add(1), usize::from(workers) * 4);
