@@ -4,9 +4,9 @@
 These are the worked scripts (worked.py), scripts that loops make (made_scripts.py), and the ends of what is allowed with what lies beyond
 (lines.txt, tables.py): lines, first lines, words of the command line, scripts for threads (workers.txt) and pages for `inspect`.
 
-Of one script, one for threads and one page each read fails in turn, and each write, by failing.c: what was written by then stays, and a
-fault ends it. Reads and writes that carry little, or are interrupted, change nothing. Lines that are asked one by one are each answered
-before the next one is there (prompts.txt).
+Of one script, one for threads and one page a read fails after each number of bytes, and so does a write, by failing.c: what was written
+by then stays, and a fault ends it. Reads and writes that carry little, or are interrupted, change nothing. Lines that are asked one by
+one are each answered before the next one is there (prompts.txt).
 """
 import functools
 import itertools
@@ -168,7 +168,7 @@ def pages() -> Iterator[Run]:
 
 
 def that_fail() -> List[Run]:
-    """The runs of which each read fails, and each write: of a script, of one for threads, and of a page."""
+    """The runs of which reads fail, and writes: of a script, of one for threads, and of a page."""
     script = next(case for case in worked.cases() if case.name == FAILING)
     return [run_of(script), run_of(one_worker()[0], "threads"), one_row()]
 
@@ -189,11 +189,14 @@ def answered_by(run: Run, count: int) -> str:
 
 
 def failing_reads() -> Iterator[Run]:
-    """Behind the last byte too, where a read asks whether it was the last."""
+    """After each number of bytes, and after all of them, where a read asks whether there are more.
+
+    Of a page a read carries 64 bytes up to there: by single ones these 8193 runs would take two minutes of a processor."""
     for run in that_fail():
+        piece = 64 if run.words == ("inspect",) else 1
         for count in range(len(run.given) + 1):
             end = End(2, answered_by(run, count), "input fault\n")
-            calls = told(Calls(1, 0, count), BY_BYTES)
+            calls = told(Calls(piece, 0, count), BY_BYTES)
             yield run._replace(name=f"{run.name}, a read fails after {count} bytes", ends=(end,), calls=calls)
 
 
