@@ -59,7 +59,7 @@ def time_of(name: str) -> float:
 
 
 def is_left(name: str) -> bool:
-    """Whether `rt ci` has left this library, of the sources as they stand. One with a stamp is of `rt lib`, which knows what it is worth."""
+    """Whether `rt ci` has left this library, of the sources as they stand. One with a stamp is `rt lib`'s, which knows what it is worth."""
     made = f"{library(name)}/format"
     is_stamped = os.path.exists(f"{os.path.dirname(library(name))}/stamp")
     return os.path.exists(made) and not is_stamped and os.path.getmtime(made) > time_of(name)
@@ -133,7 +133,7 @@ def edits() -> int:
     with ThreadPoolExecutor(len(os.sched_getaffinity(0))) as pool:
         faults = list(pool.map(fault_of, tried))
     let_through = [f"{edit.crate}/{edit.name}: {fault}" for edit, fault in zip(tried, faults) if fault]
-    print("\n".join([*let_through, f"over_gate.py: {len(tried) - len(let_through)} of {len(tried)} edits are refused, each by its function"]))
+    print("\n".join([*let_through, f"over_gate.py: of {len(tried)} edits {len(tried) - len(let_through)} are refused by their functions"]))
     return 1 if let_through or not tried else 0
 
 

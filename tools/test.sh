@@ -16,6 +16,10 @@ python3 tools/check_docs.py
 room=$(mktemp -d)
 trap 'rm -rf "$room"' EXIT
 said=$room/said
+# A proof by several jobs reads what is below it once for each of them, so crates are proved side by side by one job each. Where there are
+# more processors than memory for a crate each, that is left to rt.
+processors=$(nproc)
+[ "$processors" -gt 4 ] || export RT_JOBS=${RT_JOBS:-$processors}
 rt ci | tee "$said"
 # An edit that the prover can't read fails nothing there, and shows nothing of a contract.
 if grep --quiet "BAD EDIT" "$said"; then
