@@ -1,10 +1,10 @@
 #!/usr/bin/env python3
 """Says what a run of the gate costs: tools/gate_times.py [COMMAND ..]
 
-Runs the command (`rt ci --anew` if none is given) at the top of the repository, looks at the processor time of each of the prover's
+Runs the command (`tools/test.sh` if none is given) at the top of the repository, looks at the processor time of each of the prover's
 processes twice a second, and prints a table in processor minutes: each crate's proof (with its build), its tests and its edits (the
-second proof that they begin with counts there), and what the whole run took by its own count. Needs Linux's /proc. Ends with the
-command's status.
+second proof that those of must-fail/ begin with counts there), and what the whole run took by its own count. Where a kit's `rt ci` keeps
+what has passed, `rt ci --anew` is to be given. Needs Linux's /proc. Ends with the command's status.
 """
 import os
 import re
@@ -49,7 +49,7 @@ def processes(root):
 
 
 def main():
-    command = sys.argv[1:] or ["rt", "ci", "--anew"]
+    command = sys.argv[1:] or ["tools/test.sh"]
     began, seen, over = time.time(), {}, threading.Event()
 
     def watch():
