@@ -55,7 +55,7 @@ def library(name: str) -> str:
 def time_of(name: str) -> float:
     """When the last of a library's sources was written."""
     files = [file for part in PARTS for file in glob.glob(f"{ROOT}/crates/{name}/{part}/**", recursive=True)]
-    return max(os.path.getmtime(file) for file in [*files, f"{ROOT}/crates.txt"])
+    return max(os.path.getmtime(file) for file in [*filter(os.path.isfile, files), f"{ROOT}/crates.txt"])
 
 
 def is_left(name: str) -> bool:
