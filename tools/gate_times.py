@@ -3,8 +3,9 @@
 
 Runs the command (`tools/test.sh` if none is given) at the top of the repository, looks at the processor time of each of the prover's
 processes twice a second, and prints a table in processor minutes: each crate's proof (with its build), its tests and its edits (the
-second proof that those of must-fail/ begin with counts there), and what the whole run took by its own count. Where a kit's `rt ci` keeps
-what has passed, `rt ci --anew` is to be given. Needs Linux's /proc. Ends with the command's status.
+second proof that those of must-fail/ begin with counts there), and what the whole run took by its own count. A check by several
+jobs counts its copies twice in the table, and once in the whole. Where a kit's `rt ci` keeps what has passed, `rt ci --anew` is to be
+given. Needs Linux's /proc. Ends with the command's status.
 """
 import os
 import re

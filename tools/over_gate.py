@@ -8,8 +8,8 @@
 them as `rt ci` calls it for what stands above. `archive` exits 3 where `rt ci` has left none, or they are older than their sources.
 
 Of an edit in must-fail/ `rt ci` checks the whole crate. One in by-function/ has a line more, `fn: PATH`, and is tried by a check of that
-function and of those that it calls. It is refused where the function is not proved, and not by form alone (tools/audit.py). What it
-calls need not be looked at: `rt ci` has proved the crate without the edit.
+function and of those that it calls. It is refused where the function is not proved, and not by form alone (tools/audit.py). `rt ci` has
+proved the whole crate without the edit. That this very check proves the function without it is not tried here.
 """
 import glob
 import os
