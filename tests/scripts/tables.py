@@ -1,5 +1,5 @@
 """Tables of the ends of what is allowed and what lies beyond: lines, first lines, words of the command line, and pages."""
-from typing import List, NamedTuple, Tuple
+from typing import Dict, List, NamedTuple, Tuple
 
 # first lines, each of them a script
 ALLOWED_HEADINGS = [
@@ -262,24 +262,21 @@ COMMANDS: List[Tuple[Tuple[str, ...], str]] = [
 # what is told of the page with one row, `VECTOR` of tests/pages/page_format.py
 TOLD_OF_ONE_ROW = "page change 1 visible 0 slots 1 room 8088\n1 normal 3 0 1 8120 66 0006 0800\n"
 
-# the same pointer again, behind the first: it counts where the header says that there are two
-SECOND_POINTER = (28, b"\xb8\x9f\x84\x00")
-
 
 class BadPage(NamedTuple):
-    at: int
-    bytes: bytes  # what stands there in that page
+    changes: Dict[int, bytes]  # what stands there in that page
     size: int  # how many bytes are read, with a 0 behind the page
     words: str
 
 
 BAD_PAGES = [
-    BadPage(0, b"\x01", 8191, "bad page Length"),
-    BadPage(0, b"\x01", 8193, "bad page Length"),
-    BadPage(10, b"\x01", 8192, "bad page Header"),
-    BadPage(12, b"\x1a", 8192, "bad page Bounds"),
-    BadPage(24, b"\xc0", 8192, "bad page BadPointer 1"),
-    BadPage(8140, b"\x00\x00", 8192, "bad page BadTuple 1"),
-    BadPage(24, b"\x01\x00\x01\x00", 8192, "bad page BadRedirect 1"),
-    BadPage(12, b"\x20", 8192, "bad page Overlap 2"),
+    BadPage({}, 8191, "bad page Length"),
+    BadPage({}, 8193, "bad page Length"),
+    BadPage({10: b"\x01"}, 8192, "bad page Header"),
+    BadPage({12: b"\x1a"}, 8192, "bad page Bounds"),
+    BadPage({24: b"\xc0"}, 8192, "bad page BadPointer 1"),
+    BadPage({8140: b"\x00\x00"}, 8192, "bad page BadTuple 1"),
+    BadPage({24: b"\x01\x00\x01\x00"}, 8192, "bad page BadRedirect 1"),
+    # two pointers, the second as the first
+    BadPage({12: b"\x20", 28: b"\xb8\x9f\x84\x00"}, 8192, "bad page Overlap 2"),
 ]

@@ -160,9 +160,9 @@ def one_row() -> Run:
 
 def pages() -> Iterator[Run]:
     yield one_row()
-    for at, there, size, words in tables.BAD_PAGES:
+    for changes, size, words in tables.BAD_PAGES:
         page = bytearray(page_format.VECTOR + b"\0")
-        for place, part in (tables.SECOND_POINTER, (at, there)):
+        for place, part in changes.items():
             page[place : place + len(part)] = part
         yield Run(f"{words}, {size} bytes", ("inspect",), bytes(page[:size]), (End(1, "", f"{words}\n"),))
 
