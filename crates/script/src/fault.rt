@@ -25,7 +25,7 @@ pub enum ShellFault {
     /// A growth was refused.
     #[error("no memory")]
     NoMemory,
-    /// The numbers of lines, which end at 2^64 - 1, ran out.
+    /// The numbers of lines, which end at 2^64 - 2, ran out.
     #[error("too many lines")]
     TooManyLines,
 }
