@@ -7,6 +7,9 @@ A step whose growth is refused is answered `error 16 NoMemory`. Then the program
 before the step, and the step is asked for again. What it and all lines behind it are answered has to be what a run with memory answers.
 Where the shell itself is refused, it ends with status 3 and `no memory`, after a beginning of the answers.
 
+By threads each step is asked for twice in a row, so that one that is refused comes again. One thread, to which the journal is given without
+the refused step, has to answer all other steps alike.
+
 Each time the entries are looked at as well: each leads to a version of its key, by a redirect or at once, or to a dead slot; and where
 it was there before the step, it leads to the same version, to a redirect that came in its place, or to a dead slot. So they are looked at
 too after each line of the small script and of each worked script, with memory.
@@ -29,6 +32,7 @@ from test_cuts import whole_answers  # noqa: E402
 NO_MEMORY = "error 16 NoMemory\n"
 LEAST, MOST = -(2**63), 2**63 - 1
 INDEXES, READER = 5, 63
+THREADS_PAGES = 4
 
 
 class End(NamedTuple):
@@ -257,7 +261,8 @@ def for_worker(worker: int, turn: int) -> Iterator[str]:
     yield from (row(worker, "insert", key, turn, "61") for key in (1, first, first + 1, first + 2, first + 3))
     yield from (f"savepoint {worker}", row(worker, "update", first, 7), f"delete {worker} {first + 1}", f"rollbackto {worker}")
     yield from (row(worker, "update", first + 2, 8), f"delete {worker} {first + 3}", f"release {worker}", f"get {worker} {first}")
-    for opening in ("openheap {0}", f"openindex {{0}} 0 0 {MOST}", f"openkeys {{0}} 0 {MOST}"):
+    openings = ["openheap {0}", f"openindex {{0}} 0 0 {MOST}", f"openindex {{0}} 1 {LEAST} {MOST}", f"openkeys {{0}} 0 {MOST}"]
+    for opening in openings:
         yield from (opening.format(worker), f"next {worker} 0", f"close {worker}")
     yield f"takepage {worker} 0"
     yield f"abort {worker}" if turn == 1 else f"commit {worker}"
@@ -270,12 +275,12 @@ def of_no_session(turn: int) -> List[str]:
 
 
 def for_threads(workers: int) -> List[str]:
-    """A script for threads: each worker has a session of its own, and the first has the steps that are no session's besides."""
-    lines = ["heap 64 100000 0 3 4 1000"]
+    """A script for threads, each step twice. A worker has a session of its own, the first has the steps that are no session's besides."""
+    lines = [f"heap {THREADS_PAGES} 100000 0 3 4 1000"]
     for turn in range(3):
         for worker in range(workers):
-            lines += [f"@{worker} {step}" for step in for_worker(worker, turn)]
-        lines += [f"@0 {step}" for step in of_no_session(turn)]
+            lines += [f"@{worker} {step}" for step in for_worker(worker, turn) for _ in range(2)]
+        lines += [f"@0 {step}" for step in of_no_session(turn) for _ in range(2)]
     return lines
 
 
@@ -301,12 +306,24 @@ def check_journal(shell: Shell, lines: List[str], entries: List[Tuple[str, str]]
     assert end.status == 0 and end.output == "".join(answer for _, answer in kept), "a run answers otherwise"
 
 
+def look_where_refused(shell: Shell, heading: str, entries: List[Tuple[str, str]]) -> bool:
+    """Has one thread look at the entries where a step of a journal was refused, and at its end. Says whether the step came again."""
+    at, look = [answer for _, answer in entries].index(NO_MEMORY), looks(THREADS_PAGES)
+    steps = [step for step, answer in entries if answer != NO_MEMORY]
+    end = shell.run("run", [heading, *steps[:at], *look, *steps[at:], *look])
+    answers = whole_answers(end.output)
+    for shown in (answers[at:][: len(look)], answers[-len(look) :]):
+        check_entries(seen_in(shown, THREADS_PAGES), heading.split()[6])
+    refused, worker = entries[at][0], worker_of(entries[at][0])
+    return refused == next((step for step, _ in entries[at + 1 :] if worker_of(step) == worker), None)
+
+
 def refuse_threads(shell: Shell, lines: List[str]) -> str:
     """Refuses each piece that threads ask for: the shell ends for want of memory, or one step in the journal says so."""
     count, end = shell.pieces("threads", lines)
     assert end.status == 0 and NO_MEMORY not in end.output, f"with memory: {end}"
     check_journal(shell, lines, entries_of(end.output))
-    refused = ended = 0
+    refused = repeated = ended = 0
     for piece in range(count):
         end = shell.run("threads", lines, piece)
         entries = entries_of(end.output)
@@ -317,8 +334,11 @@ def refuse_threads(shell: Shell, lines: List[str]) -> str:
             continue
         assert end.status == 0 and not end.errors and told <= 1, f"piece {piece}: {end}"
         check_journal(shell, lines, entries)
-        refused += told
-    return f"threads: {count} pieces, of {len(lines)} lines: {ended} end the shell, and {refused} steps are refused"
+        if told:
+            refused, repeated = refused + 1, repeated + look_where_refused(shell, lines[0], entries)
+    assert repeated > 0, "no refused step is asked for again"
+    again = f"{refused} steps are refused, {repeated} of them asked for again"
+    return f"threads: {count} pieces, of {len(lines)} lines: {ended} end the shell, and {again}"
 
 
 def refuse_page(shell: Shell, page: bytes) -> str:
