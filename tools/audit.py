@@ -189,12 +189,13 @@ def verdict_of(edit, made, said, names):
     return "NOT REFUSED"
 
 
-def try_round(crate, name, texts):
+def try_round(crate, name, texts, words=CHECK):
+    """What a check in the crate's folder says with these texts in place of its own."""
     was = {path: text_of(f"{crate}/{path}") for path in texts}
     for path, text in texts.items():
         with open(f"{crate}/{path}", "w", encoding="utf-8") as file:
             file.write(text)
-    said = Said(CHECK, crate, name)
+    said = Said(words, crate, name)
     for path, text in was.items():
         with open(f"{crate}/{path}", "w", encoding="utf-8") as file:
             file.write(text)

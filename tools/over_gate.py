@@ -1,15 +1,15 @@
 #!/usr/bin/env python3
 """What the gate does over the libraries that `rt ci` has just proved, and has left in crates/NAME/out/rlib:
 
-    over_gate.py archive    proves `sandpiper_c` over them, and compiles it: crates/sandpiper_c/out/libsandpiper_c.a
-    over_gate.py edits      tries each edit of crates/NAME/by-function/, and exits 1 where one is not refused
+    over_gate.py archive            proves `sandpiper_c` over them, and compiles it: crates/sandpiper_c/out/libsandpiper_c.a
+    over_gate.py edits [NAME ..]    tries the edits of crates/NAME/by-function/, and exits 1 where one is not refused
 
 `rt lib` would prove all those libraries again, since it takes one only with a stamp that it wrote itself. Here the prover is called over
 them as `rt ci` calls it for what stands above. `archive` exits 3 where `rt ci` has left none, or they are older than their sources.
 
-Of an edit in must-fail/ `rt ci` checks the whole crate. One in by-function/ has a line more, `fn: PATH`, and is tried by a check of that
-function and of those that it calls. It is refused where the function is not proved, and not by form alone (tools/audit.py). `rt ci` has
-proved the whole crate without the edit. That this very check proves the function without it is not tried here.
+Of an edit in must-fail/ `rt ci` checks the whole crate. One in by-function/ has a line more, `fn: PATH`. A first check of these functions
+has to prove each as it stands. Then the edits are made, many in one check where none stands in another's way, as tools/audit.py makes
+them. One is refused where the check that has it does not prove its function, and not by form alone.
 """
 import glob
 import os
@@ -19,7 +19,7 @@ import subprocess
 import sys
 import tempfile
 from concurrent.futures import ThreadPoolExecutor
-from typing import Dict, List, NamedTuple, Optional
+from typing import Dict, List, Optional, Set
 
 import audit
 
@@ -87,61 +87,91 @@ def archive() -> int:
     return subprocess.run(words, cwd=f"{ROOT}/crates/sandpiper_c", stdin=subprocess.DEVNULL, check=False).returncode
 
 
-class Edit(NamedTuple):
-    crate: str
-    name: str
-    path: str
-
-
-def edits_by_function() -> List[Edit]:
-    paths = audit.edits_of(f"{ROOT}/crates/*", "by-function")
-    return [Edit(path.split("/")[-3], os.path.basename(path)[: -len(".edit")], path) for path in paths]
-
-
-def function_of(edit: Edit) -> str:
+def function_of(path: str) -> str:
     """The function that an edit is to break."""
-    found = re.findall(r"^fn: (\S+)$", audit.text_of(edit.path), re.M)
-    assert len(found) == 1, f"{edit.path} has to name one function"
+    found = re.findall(r"^fn: (\S+)$", audit.text_of(path), re.M)
+    assert len(found) == 1, f"{path} has to name one function"
     return found[0]
 
 
-def fault_of(edit: Edit) -> Optional[str]:
-    """Why an edit counts as let through, if it does."""
-    function = function_of(edit)
+def said_of(crate: str, folder: str, edits: List[dict], texts: Dict[str, str]) -> audit.Said:
+    """What the prover says of the edits' functions, with these texts in the crate's folder. It goes on from what earlier checks there kept."""
+    only = [word for function in sorted({edit["function"] for edit in edits}) for word in ("--only", function)]
+    words = [PROVER, "check", *words_for(crate, used()), "--jobs", "1", "--incremental", f"{folder}/kept", *only]
+    return audit.try_round(folder, crate, texts, words)
+
+
+def edits_in(crate: str) -> List[dict]:
+    """The crate's edits by function, as tools/audit.py has them, each with its function."""
+    files = audit.edits_of(f"{ROOT}/crates/{crate}", "by-function")
+    name = lambda file: f"{crate}/{os.path.basename(file).removesuffix('.edit')}"
+    return [{"name": name(it), "function": function_of(it), "pairs": audit.pairs_of(it), "of": None, "tries": 0} for it in files]
+
+
+def fault_of(edit: dict, said: audit.Said, is_alone: bool) -> Optional[str]:
+    """Why an edit counts as let through by a check that has it: nothing where it is refused, None where one with it alone has to tell."""
+    verdict = said.functions.get(edit["function"], "there is no such function")
+    if verdict.startswith(("not proved", "no proof")) and not verdict.startswith(audit.NOT_REACHED):
+        return "refused by form alone" if edit["function"] in said.by_form else ""
+    if not is_alone:
+        return None
+    return f"it is no code: {said.unread[0].strip()}" if said.unread else f"{edit['function']}: {verdict}"
+
+
+def faults_in_round(crate: str, folder: str, todo: List[dict], reached: Dict[str, set]) -> Dict[str, str]:
+    """What one check tells of the edits that are made in it together."""
+    this = audit.next_round(todo, reached)
+    texts, made = audit.changed(folder, this)
+    if not made:
+        return {this[0]["name"]: "a text is not there once"}
+    said, faults = said_of(crate, folder, made, texts), {}
+    for edit in made:
+        fault = fault_of(edit, said, len(made) == 1)
+        if fault is not None:
+            faults[edit["name"]] = fault
+        # what this check does not tell, one with this edit alone will
+        edit["tries"], edit["of"] = edit["tries"] + 1, None
+    return faults
+
+
+def faults_of(crate: str) -> Dict[str, str]:
+    """The crate's edits by function, each with why it counts as let through, if it does."""
+    todo = edits_in(crate)
     with tempfile.TemporaryDirectory(prefix="by-function-") as room:
-        for part in PARTS:
-            if os.path.isdir(f"{ROOT}/crates/{edit.crate}/{part}"):
-                shutil.copytree(f"{ROOT}/crates/{edit.crate}/{part}", f"{room}/{part}")
-        texts, made = audit.changed(room, [{"pairs": audit.pairs_of(edit.path)}])
-        if not made:
-            return "a text is not there once"
-        for path, text in texts.items():
-            with open(f"{room}/{path}", "w", encoding="utf-8") as file:
-                file.write(text)
-        words = [PROVER, "check", *words_for(edit.crate, used()), "--jobs", "1", "--only", function]
-        said = audit.Said(words, room, edit.crate)
-    if said.unread:
-        return f"it is no code: {said.unread[0].strip()}"
-    verdict = said.functions.get(function, "there is no such function")
-    if not verdict.startswith(("not proved", "no proof")) or verdict.startswith(audit.NOT_REACHED):
-        return f"{function}: {verdict}"
-    return "refused by form alone" if function in said.by_form else None
+        folder = f"{room}/{crate}"
+        for part in filter(lambda part: os.path.isdir(f"{ROOT}/crates/{crate}/{part}"), PARTS):
+            shutil.copytree(f"{ROOT}/crates/{crate}/{part}", f"{folder}/{part}")
+        plain, reached = said_of(crate, folder, todo, {}).functions, audit.reached_in(folder)
+        is_proved = lambda edit: plain.get(edit["function"], "absent").startswith("proved")
+        faults = {edit["name"]: "it is not proved without the edit" for edit in todo if not is_proved(edit)}
+        for edit in todo:
+            places = [audit.function_at(folder, file, old, set(plain)) for file, old, _ in edit["pairs"]]
+            # (one that changes something else than its function is tried alone)
+            edit["of"] = {edit["function"]} if all(place == {edit["function"]} for place in places) else None
+        while len(faults) < len(todo):
+            faults.update(faults_in_round(crate, folder, [edit for edit in todo if edit["name"] not in faults], reached))
+    return faults
 
 
-def edits() -> int:
-    tried = edits_by_function()
+def edits(names: List[str]) -> int:
+    crates = [crate for crate in used() if audit.edits_of(f"{ROOT}/crates/{crate}", "by-function")]
+    # (the dearest stand last in crates.txt)
+    tried = [crate for crate in reversed(crates) if not names or crate in names]
     with ThreadPoolExecutor(len(os.sched_getaffinity(0))) as pool:
-        faults = list(pool.map(fault_of, tried))
-    let_through = [f"{edit.crate}/{edit.name}: {fault}" for edit, fault in zip(tried, faults) if fault]
-    print("\n".join([*let_through, f"over_gate.py: of {len(tried)} edits {len(tried) - len(let_through)} are refused by their functions"]))
-    return 1 if let_through or not tried else 0
+        faults = {edit: fault for found in pool.map(faults_of, tried) for edit, fault in found.items()}
+    let_through = [f"{edit}: {fault}" for edit, fault in sorted(faults.items()) if fault]
+    refused = len(faults) - len(let_through)
+    print("\n".join([*let_through, f"over_gate.py: of {len(faults)} edits {refused} are refused by functions that are proved without them"]))
+    return 1 if let_through or not faults else 0
 
 
 def main() -> None:
-    verbs = {"archive": archive, "edits": edits}
-    if len(sys.argv) != 2 or sys.argv[1] not in verbs:
-        sys.exit("usage: over_gate.py archive|edits")
-    sys.exit(verbs[sys.argv[1]]())
+    words = sys.argv[1:]
+    if words == ["archive"]:
+        sys.exit(archive())
+    if words[:1] == ["edits"]:
+        sys.exit(edits(words[1:]))
+    sys.exit("usage: over_gate.py archive | edits [NAME ..]")
 
 
 if __name__ == "__main__":
