@@ -8,7 +8,7 @@ A file has cases, and a case is a script with all that has to come of it:
     heap 4 1000 0 3 64 0000
     begin 0               ok
     insert 0 1 5 0 0 0 ~  ok
-    get 0 1               row 1 5 0 0 0 616161
+    get 0 1               row 1 5 0 0 0 ~
     page 0                page 0 change 1 visible 0 slots 1
                           1 normal 3 0 1
     commit
@@ -17,7 +17,7 @@ A file has cases, and a case is a script with all that has to come of it:
 - Two spaces or more are between a line and its answer, and neither has two in a row. What stands so by itself, with no line before it,
   is one more line of the answer above.
 - Nothing is answered to the first line, nor to a bad line and those behind it; each other line has its answer.
-- `~ is 3 bytes of 61` stands before the script: in its lines, not in its answers, ~ is 61 three times. So may ^ be.
+- `~ is 3 bytes of 61` stands before the script: in its lines and its answers ~ is 61 three times. So may ^, % and $ be.
 - `! status 1: bad line 6` says how the program ends, and its words on standard error; without it the status is 0, and no word is said.
 - `! no line feed at the end` is said of the script's last line.
 
@@ -29,6 +29,8 @@ import re
 from typing import Dict, Iterable, Iterator, List, NamedTuple, Optional, Tuple
 
 HERE = os.path.dirname(os.path.abspath(__file__))
+# what may stand for a body
+SIGNS = "~^%$"
 
 
 class Case(NamedTuple):
@@ -60,12 +62,19 @@ def beside(lines: Iterable[str]) -> List[Tuple[str, str]]:
     return pairs
 
 
+def spelled_out(text: str, bodies: Dict[str, str]) -> str:
+    """The text with a body in the place of each sign."""
+    for sign, body in bodies.items():
+        text = text.replace(sign, body)
+    return text
+
+
 def case_of(name: str, block: List[str]) -> Case:
     lines: List[str] = []
     bodies: Dict[str, str] = {}
     end, status, words = "\n", 0, ""
     for line in block:
-        body = re.fullmatch(r"([~^]) is (\d+) bytes of ([0-9a-f]{2})", line)
+        body = re.fullmatch(rf"([{SIGNS}]) is (\d+) bytes of ([0-9a-f]{{2}})", line)
         ended = re.fullmatch(r"! status (\d): (.+)", line)
         if body:
             bodies[body[1]] = body[3] * int(body[2])
@@ -74,16 +83,15 @@ def case_of(name: str, block: List[str]) -> Case:
         elif line == "! no line feed at the end":
             end = ""
         elif line and not line.startswith("#"):
-            assert not line.startswith(("!", "~", "^")), f"{name}: no line of a case: {line}"
+            assert line[0] not in f"!{SIGNS}", f"{name}: no line of a case: {line}"
             lines.append(line)
     pairs = beside(lines)
     answered = len(pairs) if status == 0 else (bad_line(words) or 0) - 1
     assert [bool(answer) for _, answer in pairs] == [0 < at < answered for at in range(len(pairs))], f"{name}: which lines are answered?"
     text = "\n".join(asked for asked, _ in pairs) + end
-    assert set(re.findall("[~^]", text)) == bodies.keys(), f"{name}: what are ~ and ^?"
-    for sign, body in bodies.items():
-        text = text.replace(sign, body)
-    return Case(name, text.encode(), [answer for _, answer in pairs if answer], status, words)
+    assert set(re.findall(f"[{SIGNS}]", text)) == bodies.keys(), f"{name}: what are {SIGNS}?"
+    answers = [spelled_out(answer, bodies) for _, answer in pairs if answer]
+    return Case(name, spelled_out(text, bodies).encode(), answers, status, words)
 
 
 def cases_in(path: str) -> Iterator[Case]:

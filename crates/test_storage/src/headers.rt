@@ -2,9 +2,7 @@
 
 use arrayvec::ArrayVec;
 use tuple_header::TupleFault::{Attributes, Cid, Ctid, Hoff, Length, Masks, Padding, Xmax, Xmin};
-use tuple_header::{
-    Header, Row, RowRef, Tuple, TupleFault, decode, encode, fault_of, reads_back, row_size, size,
-};
+use tuple_header::{Header, Row, Tuple, TupleFault, decode, encode};
 use xid_circle::{Tid, Xid};
 
 /// Made by id 3 at slot 1 of page 0: key 1, columns 5, 0, 0, 0, no body.
@@ -82,7 +80,6 @@ fn bytes_of_versions(rt: HostRuntime) {
     assert!(rt; bytes_of(&first()).starts_with(&FIRST));
     assert!(rt; stand_in(&bytes_of(&first()), &[(66, 7), (1089, 7)]));
     assert!(rt; stand_in(&bytes_of(&high()), &HIGH));
-    reads_back();
 }
 
 fn decode_row(bytes: &[u8]) -> Result<Tuple, TupleFault> {
@@ -140,70 +137,4 @@ fn bytes_are_read_or_a_fault_is_named(rt: HostRuntime) {
     for change in &FAULTS {
         assert_eq!(rt; first_other(&[*change]), None);
     }
-}
-
-/// How many bytes a body has, and how many its version and its row take.
-static SIZES: [(usize, usize); 4] = [(0, 72), (6, 72), (7, 80), (1024, 1096)];
-
-fn sizes(length: usize) -> (usize, usize) {
-    let version = Tuple {
-        header: first().header,
-        row: row(1, [0; 4], length),
-    };
-    (size(&version), row_size(&version.row))
-}
-
-#[test]
-fn versions_take_a_multiple_of_8(rt: HostRuntime) {
-    for (length, taken) in &SIZES {
-        assert_eq!(rt; sizes(*length), (*taken, *taken));
-    }
-}
-
-/// Both words of marks; whether they say that there is a successor on the page, that it is one, and that it is frozen; and what
-/// fault a header has that no id deleted.
-static MARKS: [(u16, u16, (bool, bool, bool), Option<TupleFault>); 4] = [
-    (0x0006, 0x0800, (false, false, false), None),
-    (0x8006, 0x0900, (false, true, false), None),
-    (0x8006, 0x0b00, (false, true, true), None),
-    (0x4006, 0x0b00, (true, false, true), Some(Xmax)),
-];
-
-fn said(mask2: u16, mask: u16) -> ((bool, bool, bool), Option<TupleFault>) {
-    let mut header = first().header;
-    header.mask2 = mask2;
-    header.mask = mask;
-    let marks = (
-        header.is_hot_updated(),
-        header.is_heap_only(),
-        header.is_frozen(),
-    );
-    (marks, fault_of(&header))
-}
-
-#[test]
-fn marks_of_a_header(rt: HostRuntime) {
-    for (mask2, mask, marks, fault) in &MARKS {
-        assert_eq!(rt; said(*mask2, *mask), (*marks, *fault));
-    }
-}
-
-/// Whether a row with a body of so many bytes and what is copied from where it stands are equal.
-fn is_copied(length: usize) -> bool {
-    let expected = row(u64::MAX, [5, 0, -1, -2], length);
-    if expected.body.len() > 1024 {
-        return false;
-    }
-    let in_place = RowRef::new(u64::MAX, [5, 0, -1, -2], expected.body.as_slice());
-    let mut other = row(4, [1, 2, 3, 4], 7);
-    in_place.copy_to(&mut other);
-    in_place.key() == u64::MAX
-        && *in_place.cols() == [5, 0, -1, -2]
-        && in_place.copy() == expected
-        && other == expected.copy()
-}
-
-#[test]
-fn rows_in_place(rt: HostRuntime) {
-    assert!(rt; is_copied(0) && is_copied(1024));
 }

@@ -2,27 +2,13 @@
 
 ghost use Rattle.status_cache.specs.Held.{CacheAgrees};
 
-use crate::statuses::finish;
+use crate::statuses::table_with;
 use crate::steps::{Step, run};
-use commit_status::{Status, StatusTable};
+use commit_status::StatusTable;
 use status_cache::StatusCache;
 use std::alloc::{AllocError, Global};
 use std::test::Fail;
 use xid_circle::Xid;
-
-/// A table in which so many ids from 3 on are given, of which the last is in progress and all others are committed.
-fn table_with(alloc: Global, count: u32) -> StatusTable {
-    let mut statuses = StatusTable::new(alloc, Xid(3), 2000);
-    for turn in 0..count {
-        let _ = statuses.give(None);
-        finish(
-            &mut statuses,
-            Xid(turn.saturating_add(2)),
-            Status::Committed,
-        );
-    }
-    statuses
-}
 
 /// Asks for each id from 3 up to but without this one.
 fn ask_up_to(cache: &mut StatusCache, statuses: &StatusTable, end: u32)

@@ -1,6 +1,6 @@
 //! Ids on the circle, which go round.
 
-use xid_circle::{Tid, Xid, distance, next, precedes};
+use xid_circle::{Xid, distance, next, precedes};
 
 /// Whether the first of two normal ids precedes the second.
 fn is_before(a: Xid, b: Xid) -> Option<bool> {
@@ -52,10 +52,4 @@ fn ids_go_round(rt: HostRuntime) {
     for (a, told) in &NEXT {
         assert!(rt; after(*a) == *told, "{a:?}");
     }
-}
-
-#[test]
-fn places_are_compared(rt: HostRuntime) {
-    let place = Tid { page: 0, slot: 1 };
-    assert_eq!(rt; place, place);
 }

@@ -1,71 +1,20 @@
-//! What is known of when pruning a page may take something.
+//! What is known of when pruning a page may take something. No script tells hints from none.
 
-use crate::steps::{Step, run};
 use space_maps::PruneHints;
 use std::alloc::{AllocError, Global};
-use std::test::Fail;
 
-/// What is done to hints, or asked of them.
-#[derive(Clone, Copy)]
-enum HintStep {
-    MakeRoom(usize),
-    Cover(usize),
-    /// This turn is noted of a page.
-    Note(u32, u32),
-    /// What is known of a page is lowered to this turn.
-    Lower(u32, u32),
-    End(u32),
-    EndAll,
-    /// The turn that is known of a page.
-    Turn(u32, Option<u32>),
+/// What is known of a page of which a turn is noted, once there is room for two.
+fn turn_known(alloc: Global, number: u32, turn: u32) -> Result<Option<u32>, AllocError> {
+    let mut hints = PruneHints::new(alloc);
+    hints.make_room(2)?;
+    hints.cover(2);
+    hints.note(number, turn);
+    Ok(hints.turn(number))
 }
-
-impl Step for HintStep {
-    type Subject = PruneHints;
-
-    fn is_so(&self, _alloc: Global, hints: &mut PruneHints) -> Result<bool, AllocError> {
-        match *self {
-            HintStep::MakeRoom(count) => hints.make_room(count)?,
-            HintStep::Cover(count) => hints.cover(count),
-            HintStep::Note(number, turn) => hints.note(number, turn),
-            HintStep::Lower(number, turn) => hints.lower(number, turn, 1),
-            HintStep::End(number) => hints.end(number),
-            HintStep::EndAll => hints.end_all(),
-            HintStep::Turn(number, turn) => return Ok(hints.turn(number) == turn),
-        }
-        Ok(true)
-    }
-}
-
-static HINTS: [HintStep; 24] = [
-    // without room there is no hint
-    HintStep::Cover(2),
-    HintStep::Note(0, 7),
-    HintStep::Turn(0, None),
-    HintStep::MakeRoom(2),
-    HintStep::Cover(2),
-    HintStep::Turn(1, None),
-    HintStep::Note(0, 7),
-    HintStep::Note(1, 9),
-    HintStep::Note(2, 4),
-    HintStep::Turn(0, Some(7)),
-    HintStep::Turn(1, Some(9)),
-    HintStep::Turn(2, None),
-    HintStep::Lower(0, 8),
-    HintStep::Turn(0, Some(7)),
-    HintStep::Lower(0, 3),
-    HintStep::Turn(0, Some(3)),
-    HintStep::End(0),
-    HintStep::Lower(0, 2),
-    HintStep::Turn(0, None),
-    HintStep::Turn(1, Some(9)),
-    HintStep::EndAll,
-    HintStep::Turn(1, None),
-    HintStep::Note(1, 5),
-    HintStep::Turn(1, Some(5)),
-];
 
 #[test]
-fn hints_end_with_their_epoch(rt: HostRuntime) -> Result<(), Fail> {
-    run(rt.alloc(), PruneHints::new(rt.alloc()), &HINTS)
+fn hints_take_the_room_that_they_ask_for(rt: HostRuntime) -> Result<(), AllocError> {
+    assert_eq!(rt; turn_known(rt.alloc(), 1, 9)?, Some(9));
+    assert_eq!(rt; turn_known(rt.alloc(), 2, 9)?, None);
+    Ok(())
 }

@@ -1,7 +1,7 @@
 //! Pages whose bytes were written down by hand, and what is named where some are changed.
 
 use page_slots::PageFault::{BadPointer, BadRedirect, BadTuple, Bounds, Header, Length, Overlap};
-use page_slots::{Page, PageFault, check_page, reads_back};
+use page_slots::{PageFault, check_page};
 
 /// The header and the one pointer of a page: change number 1, pd_lower 28, pd_upper 8120, the size and layout version, and a
 /// version of 66 bytes at 8120.
@@ -115,31 +115,3 @@ pub static REDIRECTED: [Part; 4] = [
     (28, 0x0084_9fb8),
     (8136, 0x8006_0001),
 ];
-
-#[test]
-fn page_of_bytes(rt: HostRuntime) {
-    let page = check_page(&page_with(&[])).expect(&rt, "the bytes are a page's");
-    assert_eq!(rt; page.change(), 1);
-    assert_eq!(rt; page.flag(), false);
-    assert_eq!(rt; page.slots(), 1);
-    assert_eq!(rt; page.room(), 8088);
-    assert_eq!(rt; page.free_number(), 2);
-    assert_eq!(rt; page.key(1), Some(1));
-    assert_eq!(rt; page.place(1), Some((8120, 66)));
-    let page = check_page(&page_with(&REDIRECTED)).expect(&rt, "the bytes are a page's");
-    assert_eq!(rt; page.redirect(1), Some(2));
-    assert_eq!(rt; page.room(), 8084);
-}
-
-/// How many slots are read from the own bytes of a page with none.
-fn slots_read_back() -> Option<u16> {
-    match reads_back(&Page::new()) {
-        Ok(page) => Some(page.slots()),
-        Err(_fault) => None,
-    }
-}
-
-#[test]
-fn a_page_is_read_from_its_own_bytes(rt: HostRuntime) {
-    assert_eq!(rt; slots_read_back(), Some(0));
-}
