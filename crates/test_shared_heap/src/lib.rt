@@ -1,4 +1,5 @@
-//! Tests of a table that threads share, by real threads: no contract says that a thread runs. Each test ends by itself.
+//! Tests of a table that threads share, by real threads: no contract says that a thread runs. Each test ends by itself. Beside them are
+//! calls of the engine that no script makes.
 //!
 //! They stand apart from `shared_heap`, so that neither is checked a second time for the other's sake.
 #![tactic(auto)]
@@ -13,6 +14,8 @@ mod replay;
 mod rings;
 #[cfg(test)]
 mod rows;
+#[cfg(test)]
+mod runs;
 #[cfg(test)]
 mod taken;
 #[cfg(test)]
