@@ -1,5 +1,5 @@
-//! Tests of a table that threads share, by real threads: no contract says that a thread runs. Each test ends by itself. Beside them are
-//! calls of the engine that no script makes.
+//! Tests of a table that threads share, by real threads: no contract says that a thread runs. Each test ends by itself. Beside them is a
+//! call of the engine that no script makes.
 //!
 //! They stand apart from `shared_heap`, so that neither is checked a second time for the other's sake.
 #![tactic(auto)]
@@ -15,7 +15,7 @@ mod rings;
 #[cfg(test)]
 mod rows;
 #[cfg(test)]
-mod runs;
+mod statuses;
 #[cfg(test)]
 mod taken;
 #[cfg(test)]

@@ -1,22 +1,30 @@
 //! Workers that do lists of steps, each in a thread of its own.
 
-use crate::replay::replay;
+use crate::replay::{Entries, replay};
 use crate::rows::{SETTINGS, row};
 use session_core::{RunFault, Step};
 use shared_heap::{Book, Gate, Line, run_gated, run_threads};
 use std::alloc::{AllocError, Global};
 use std::sync::Wait;
 use std::sync::atomic::{AtomicU64, Ordering};
-use std::test::Fail;
 use std::thread::Threads;
 
 pub(crate) fn line(wait: bool, step: Step) -> Line {
     Line { wait, step }
 }
 
-/// What the workers with these lists have done, each behind a gate. It promises nothing: what `run_gated` does would be carried along by
-/// the proof of each test.
-pub(crate) fn book_of<G: Gate + Sync, R: Threads + Wait + Sync>(
+/// What the workers with these lists have done. Like the function below it promises nothing: what `run_threads` does would be carried
+/// along by the proof of each test.
+fn book_of<R: Threads + Wait + Sync>(
+    rt: &R,
+    alloc: Global,
+    lists: Vec<Vec<Line>>,
+) -> Result<Book, RunFault> {
+    run_threads(rt, alloc, SETTINGS, lists)
+}
+
+/// The same, with each behind a gate.
+pub(crate) fn gated_book_of<G: Gate + Sync, R: Threads + Wait + Sync>(
     rt: &R,
     alloc: Global,
     lists: Vec<Vec<Line>>,
@@ -27,28 +35,43 @@ pub(crate) fn book_of<G: Gate + Sync, R: Threads + Wait + Sync>(
 
 /// A session inserts a key of its own, and one that all insert, waiting; it reads all rows, and is rolled back.
 fn list_of(alloc: Global, s: u8) -> Result<Vec<Line>, AllocError> {
-    let own = row(alloc, 100 + u64::from(s), 1);
-    let common = row(alloc, 7, i64::from(s));
+    let own = 100 + u64::from(s);
     let mut lines = Vec::new(alloc);
     lines.push(line(false, Step::Begin(s)))?;
-    lines.push(line(false, Step::Insert(s, own)))?;
-    lines.push(line(true, Step::Insert(s, common)))?;
+    lines.push(line(false, Step::Insert(s, row(alloc, own, 1))))?;
+    lines.push(line(true, Step::Insert(s, row(alloc, 7, i64::from(s)))))?;
     lines.push(line(false, Step::OpenHeap(s)))?;
     lines.push(line(false, Step::Next(s, 0)))?;
     lines.push(line(false, Step::Abort(s)))?;
     Ok(lines)
 }
 
-// One thread that does the steps of the journal gets the same replies.
-#[test]
-fn eight_workers_replay(rt: HostRuntime) -> Result<(), Fail> {
-    let alloc = rt.alloc();
+fn eight_lists(alloc: Global) -> Result<Vec<Vec<Line>>, AllocError> {
     let mut lists = Vec::new(alloc);
     for s in 0..8u8 {
         lists.push(list_of(alloc, s)?)?;
     }
-    let book = run_threads(&rt, alloc, SETTINGS, lists)?;
-    match replay(alloc, &book)? {
+    Ok(lists)
+}
+
+/// How the entries of eight workers were answered, if one thread that does the steps of their journal gets the same replies.
+fn entries_of_eight<R: Threads + Wait + Sync>(
+    rt: &R,
+    alloc: Global,
+) -> Result<Option<Entries>, RunFault> {
+    match eight_lists(alloc) {
+        Ok(lists) => {
+            let book = book_of(rt, alloc, lists)?;
+            replay(alloc, &book)
+        }
+        Err(_) => Err(RunFault::NoMemory),
+    }
+}
+
+// Each line of each worker is done, whatever was answered Busy before.
+#[test]
+fn eight_workers_replay(rt: HostRuntime) -> Result<(), RunFault> {
+    match entries_of_eight(&rt, rt.alloc())? {
         Some(entries) => assert_eq!(rt; entries.others, 48),
         None => assert!(rt; false),
     }
@@ -75,22 +98,40 @@ impl Gate for Both {
     }
 }
 
-// Workers run at the same time.
-#[test]
-fn workers_pass_together(rt: HostRuntime) -> Result<(), Fail> {
-    let alloc = rt.alloc();
-    let gate = Both {
-        inside: [AtomicU64::new(0), AtomicU64::new(0)],
-        gave_up: AtomicU64::new(0),
-    };
+/// Two workers, each of which begins a session of its own.
+fn two_lists(alloc: Global) -> Result<Vec<Vec<Line>>, AllocError> {
     let mut lists = Vec::new(alloc);
     for s in 0..2u8 {
         let mut lines = Vec::new(alloc);
         lines.push(line(false, Step::Begin(s)))?;
         lists.push(lines)?;
     }
-    let book = book_of(&rt, alloc, lists, &gate)?;
-    assert_eq!(rt; book.journal().len(), 2);
+    Ok(lists)
+}
+
+/// How many calls the journal of two workers has, and which sessions are open in the end.
+fn both_begin<R: Threads + Wait + Sync>(
+    rt: &R,
+    alloc: Global,
+    gate: &Both,
+) -> Result<(usize, u64), RunFault> {
+    match two_lists(alloc) {
+        Ok(lists) => {
+            let book = gated_book_of(rt, alloc, lists, gate)?;
+            Ok((book.journal().len(), book.engine().open_sessions()))
+        }
+        Err(_) => Err(RunFault::NoMemory),
+    }
+}
+
+// Workers run at the same time. Sessions 0 and 1 are two bits.
+#[test]
+fn workers_pass_together(rt: HostRuntime) -> Result<(), RunFault> {
+    let gate = Both {
+        inside: [AtomicU64::new(0), AtomicU64::new(0)],
+        gave_up: AtomicU64::new(0),
+    };
+    assert_eq!(rt; both_begin(&rt, rt.alloc(), &gate)?, (2, 3));
     assert_eq!(rt; gate.gave_up.load(Ordering::SeqCst), 0);
     Ok(())
 }

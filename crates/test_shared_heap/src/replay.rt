@@ -1,9 +1,9 @@
 //! One thread does the steps of a journal again.
 
 use crate::rows::{SETTINGS, are_same};
-use session_core::{Engine, Refusal, Reply, RunFault};
+use session_core::{Refusal, Reply, RunFault, Step, run};
 use shared_heap::Book;
-use std::alloc::Global;
+use std::alloc::{AllocError, Global};
 
 /// How the entries of a journal were answered.
 #[derive(Clone, Copy, Default)]
@@ -24,29 +24,39 @@ impl Entries {
     }
 }
 
-/// Whether two engines have the same ids, and as many pages, entries and open sessions.
-fn are_alike(engine: &Engine, other: &Engine) -> bool {
-    engine.ids() == other.ids()
-        && engine.pages() == other.pages()
-        && engine.most_entries() == other.most_entries()
-        && engine.open_sessions() == other.open_sessions()
+fn steps_of(alloc: Global, journal: &[(Step, Reply)]) -> Result<Vec<Step>, AllocError> {
+    let mut steps = Vec::new(alloc);
+    for (step, _) in journal {
+        steps.push(step.copy(alloc)?)?;
+    }
+    Ok(steps)
 }
 
-/// How the entries of the journal were answered, if one thread that does its steps gets the same replies, and ends as the book's
-/// engine did.
-pub(crate) fn replay(alloc: Global, book: &Book) -> Result<Option<Entries>, RunFault> {
-    let Ok(mut engine) = Engine::new(alloc, SETTINGS) else {
-        return Err(RunFault::NoMemory);
-    };
+/// The replies to steps. It promises nothing: what `run` does would be carried along by the proof of each test.
+fn replies_to(alloc: Global, steps: &[Step]) -> Result<Vec<Reply>, RunFault> {
+    run(alloc, SETTINGS, steps)
+}
+
+/// How the entries were answered, if these replies are theirs.
+fn entries_if_same(journal: &[(Step, Reply)], replies: &[Reply]) -> Option<Entries> {
+    if journal.len() != replies.len() {
+        return None;
+    }
     let mut entries = Entries::default();
-    for (step, reply) in book.journal() {
-        let Ok(step) = step.copy(alloc) else {
-            return Err(RunFault::NoMemory);
-        };
-        if !are_same(reply, &engine.step(step)) {
-            return Ok(None);
+    for ((_, reply), other) in journal.iter().zip(replies) {
+        if !are_same(reply, other) {
+            return None;
         }
         entries.count(reply);
     }
-    Ok(are_alike(&engine, book.engine()).then_some(entries))
+    Some(entries)
+}
+
+/// How the entries of the journal were answered, if one thread that does its steps gets the same replies.
+pub(crate) fn replay(alloc: Global, book: &Book) -> Result<Option<Entries>, RunFault> {
+    let Ok(steps) = steps_of(alloc, book.journal()) else {
+        return Err(RunFault::NoMemory);
+    };
+    let replies = replies_to(alloc, steps.as_slice())?;
+    Ok(entries_if_same(book.journal(), replies.as_slice()))
 }

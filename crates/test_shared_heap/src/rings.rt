@@ -1,14 +1,13 @@
 //! Rings of waits: whoever would close one is told Deadlock, and the others go on once it has aborted.
 
-use crate::lists::{book_of, line};
+use crate::lists::{gated_book_of, line};
 use crate::replay::{Entries, replay};
 use crate::rows::row;
-use session_core::Step;
+use session_core::{RunFault, Step};
 use shared_heap::{Gate, Line};
 use std::alloc::{AllocError, Global};
 use std::sync::Wait;
 use std::sync::atomic::{AtomicU64, Ordering};
-use std::test::Fail;
 use std::thread::Threads;
 
 /// Holds each worker, after its second entry, until all have come so far.
@@ -50,14 +49,21 @@ impl Gate for SecondEntry {
 fn list_of(alloc: Global, s: u8, sessions: u8) -> Result<Vec<Line>, AllocError> {
     let after = s.saturating_add(1);
     let next = if after < sessions { after } else { 0 };
-    let own = row(alloc, u64::from(s), 1);
-    let other = row(alloc, u64::from(next), 1);
+    let (own, other) = (u64::from(s), u64::from(next));
     let mut lines = Vec::new(alloc);
     lines.push(line(false, Step::Begin(s)))?;
-    lines.push(line(false, Step::Insert(s, own)))?;
-    lines.push(line(true, Step::Insert(s, other)))?;
+    lines.push(line(false, Step::Insert(s, row(alloc, own, 1))))?;
+    lines.push(line(true, Step::Insert(s, row(alloc, other, 1))))?;
     lines.push(line(false, Step::Abort(s)))?;
     Ok(lines)
+}
+
+fn lists_of(alloc: Global, workers: u8) -> Result<Vec<Vec<Line>>, AllocError> {
+    let mut lists = Vec::new(alloc);
+    for s in 0..workers {
+        lists.push(list_of(alloc, s, workers)?)?;
+    }
+    Ok(lists)
 }
 
 /// How the entries of so many workers were answered that would wait in a ring.
@@ -65,19 +71,20 @@ fn entries_of_ring<R: Threads + Wait + Sync>(
     rt: &R,
     alloc: Global,
     workers: u8,
-) -> Result<Option<Entries>, Fail> {
+) -> Result<Option<Entries>, RunFault> {
     let gate = SecondEntry::new(u64::from(workers));
-    let mut lists = Vec::new(alloc);
-    for s in 0..workers {
-        lists.push(list_of(alloc, s, workers)?)?;
+    match lists_of(alloc, workers) {
+        Ok(lists) => {
+            let book = gated_book_of(rt, alloc, lists, &gate)?;
+            replay(alloc, &book)
+        }
+        Err(_) => Err(RunFault::NoMemory),
     }
-    let book = book_of(rt, alloc, lists, &gate)?;
-    Ok(replay(alloc, &book)?)
 }
 
 // One of the workers is told Deadlock, and no more; each does its four lines.
 #[test]
-fn one_worker_closes_the_ring(rt: HostRuntime) -> Result<(), Fail> {
+fn one_worker_closes_the_ring(rt: HostRuntime) -> Result<(), RunFault> {
     for workers in [2u8, 3] {
         match entries_of_ring(&rt, rt.alloc(), workers)? {
             Some(entries) => {

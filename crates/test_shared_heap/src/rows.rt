@@ -1,7 +1,9 @@
-//! What the tests share: settings, rows, and when two replies are the same.
+//! What the tests share: settings, rows, how they are written, and when two replies are the same.
 
-use session_core::{Reply, Row, RowIn, Settings};
+use session_core::{Reply, Row, RowIn, Settings, Step};
+use shared_heap::Shared;
 use std::alloc::Global;
+use std::sync::Wait;
 
 pub(crate) const SETTINGS: Settings = Settings {
     max_pages: 16,
@@ -19,6 +21,20 @@ pub(crate) fn row(alloc: Global, key: u64, value: i64) -> RowIn {
         cols: [value, 0, 0, 0],
         body: Vec::new(alloc),
     }
+}
+
+/// Session 0 inserts key 1 in a transaction of its own.
+pub(crate) fn insert<R: Wait>(rt: &R, alloc: Global, shared: &Shared, value: i64) {
+    shared.call(rt, Step::Begin(0));
+    shared.call(rt, Step::Insert(0, row(alloc, 1, value)));
+    shared.call(rt, Step::Commit(0));
+}
+
+/// Session 0 updates key 1 in a transaction of its own.
+pub(crate) fn update<R: Wait>(rt: &R, alloc: Global, shared: &Shared, value: i64) {
+    shared.call(rt, Step::Begin(0));
+    shared.call(rt, Step::Update(0, row(alloc, 1, value)));
+    shared.call(rt, Step::Commit(0));
 }
 
 /// Whether the same rows stand in both lists, in one order.

@@ -1,65 +1,64 @@
 //! Calls by threads of their own.
 
-use crate::rows::{SETTINGS, row};
-use session_core::{Refusal, Reply, Step};
+use crate::rows::{SETTINGS, insert, row};
+use session_core::{Refusal, Reply, RunFault, Step};
 use shared_heap::Shared;
 use std::alloc::Global;
 use std::sync::Wait;
-use std::test::Fail;
 use std::thread;
 use std::thread::Threads;
 
-/// Begins session 0, which inserts key 1 and commits; then sessions 0 and 1, of which the first updates key 1.
+/// Key 1 is committed; then sessions 0 and 1 begin, and the first updates it.
 fn hold_key<R: Wait>(rt: &R, alloc: Global, shared: &Shared) -> bool {
-    let first = shared.call(rt, Step::Begin(0));
-    let second = shared.call(rt, Step::Insert(0, row(alloc, 1, 5)));
-    let third = shared.call(rt, Step::Commit(0));
-    let fourth = shared.call(rt, Step::Begin(0));
-    let fifth = shared.call(rt, Step::Begin(1));
-    let sixth = shared.call(rt, Step::Update(0, row(alloc, 1, 6)));
-    matches!(first, Reply::Done)
-        && matches!(second, Reply::Done)
-        && matches!(third, Reply::Committed)
-        && matches!(fourth, Reply::Done)
-        && matches!(fifth, Reply::Done)
-        && matches!(sixth, Reply::Done)
+    insert(rt, alloc, shared, 5);
+    shared.call(rt, Step::Begin(0));
+    shared.call(rt, Step::Begin(1));
+    matches!(
+        shared.call(rt, Step::Update(0, row(alloc, 1, 6))),
+        Reply::Done
+    )
 }
 
-/// The first column of the row that was found.
-fn first_column(reply: &Reply) -> Option<i64> {
-    match reply {
+/// The value of key 1's row as session 1 reads it.
+fn value_read<R: Wait>(rt: &R, shared: &Shared) -> Option<i64> {
+    match shared.call(rt, Step::Get(1, 1)) {
         Reply::Found(Some(row)) => Some(row.cols[0]),
         _ => None,
     }
 }
 
-/// Session 1 updates key 1, waiting, while session 0 aborts.
+/// Session 1 updates key 1, waiting, while session 0 aborts. Whether the one was answered Done, and the other RolledBack.
 fn call_both<'x, R: Threads + Wait + Sync>(
     rt: &'x R,
     alloc: Global,
     shared: &'x Shared,
-) -> (Reply, Reply) {
+) -> (bool, bool) {
     thread::join(
         rt,
-        move || shared.call_waiting(rt, Step::Update(1, row(alloc, 1, 7))),
-        move || shared.call(rt, Step::Abort(0)),
+        move || {
+            let reply = shared.call_waiting(rt, Step::Update(1, row(alloc, 1, 7)));
+            matches!(reply, Reply::Done)
+        },
+        move || matches!(shared.call(rt, Step::Abort(0)), Reply::RolledBack),
     )
+}
+
+/// How many calls the journal has of a table that no thread shares any more.
+fn calls_in(shared: Shared) -> usize {
+    let book = shared.into_book();
+    book.journal().len()
 }
 
 // Whichever of the two threads calls first: session 1's update is done once session 0 has aborted.
 #[test]
-fn waiting_call_ends(rt: HostRuntime) -> Result<(), Fail> {
+fn waiting_call_ends(rt: HostRuntime) -> Result<(), RunFault> {
     let alloc = rt.alloc();
     let shared = Shared::new(alloc, SETTINGS)?;
     assert!(rt; hold_key(&rt, alloc, &shared));
-    let (waited, aborted) = call_both(&rt, alloc, &shared);
-    assert!(rt; matches!(waited, Reply::Done));
-    assert!(rt; matches!(aborted, Reply::RolledBack));
-    let found = shared.call(&rt, Step::Get(1, 1));
-    assert_eq!(rt; first_column(&found), Some(7));
+    assert_eq!(rt; call_both(&rt, alloc, &shared), (true, true));
+    assert_eq!(rt; value_read(&rt, &shared), Some(7));
     // one journal has all calls: six, the abort, the get, and the update with what it was answered before
-    let book = shared.into_book();
-    assert!(rt; book.journal().len() >= 9);
+    assert!(rt; calls_in(shared) >= 9);
     Ok(())
 }
 
@@ -102,7 +101,7 @@ fn cross<'x, R: Threads + Wait + Sync>(
 
 // Two threads that would wait for each other: the one that comes second is told so, and the other has its way.
 #[test]
-fn ring_of_threads_ends(rt: HostRuntime) -> Result<(), Fail> {
+fn ring_of_threads_ends(rt: HostRuntime) -> Result<(), RunFault> {
     let alloc = rt.alloc();
     let shared = Shared::new(alloc, SETTINGS)?;
     assert!(rt; hold_a_key_each(&rt, alloc, &shared));
