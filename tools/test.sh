@@ -34,3 +34,7 @@ python3 tests/orders/test_orders.py crates/heapsh/out/heapsh
 tools/build_c.sh "$room/prefix" --over-gate
 python3 tools/over_gate.py edits
 tools/test_callers.sh "$room/prefix"
+# what all of it took; where a kit keeps what was proved, less than from nothing
+times >"$room/times"
+awk -F'[ms ]+' 'NR == 2 { printf "test.sh: %.1f processor minutes, ", $1 + $2 / 60 + $3 + $4 / 60 }' "$room/times"
+echo "$((SECONDS / 60)) by the clock"

@@ -19,9 +19,9 @@ fn hold_key<R: Wait>(rt: &R, alloc: Global, shared: &Shared) -> bool {
     )
 }
 
-/// The value of key 1's row as session 1 reads it.
-fn value_read<R: Wait>(rt: &R, shared: &Shared) -> Option<i64> {
-    match shared.call(rt, Step::Get(1, 1)) {
+/// The first column of the row that was found.
+fn first_column(reply: &Reply) -> Option<i64> {
+    match reply {
         Reply::Found(Some(row)) => Some(row.cols[0]),
         _ => None,
     }
@@ -56,7 +56,8 @@ fn waiting_call_ends(rt: HostRuntime) -> Result<(), RunFault> {
     let shared = Shared::new(alloc, SETTINGS)?;
     assert!(rt; hold_key(&rt, alloc, &shared));
     assert_eq!(rt; call_both(&rt, alloc, &shared), (true, true));
-    assert_eq!(rt; value_read(&rt, &shared), Some(7));
+    let found = shared.call(&rt, Step::Get(1, 1));
+    assert_eq!(rt; first_column(&found), Some(7));
     // one journal has all calls: six, the abort, the get, and the update with what it was answered before
     assert!(rt; calls_in(shared) >= 9);
     Ok(())
