@@ -7,8 +7,8 @@ A step whose growth is refused is answered `error 16 NoMemory`. Then the program
 before the step, and the step is asked for again. What it and all lines behind it are answered has to be what a run with memory answers.
 Where the shell itself is refused, it ends with status 3 and `no memory`, after a beginning of the answers.
 
-By threads each step is asked for twice in a row, so that one comes again whose first asking is refused. One thread, to which the journal is given without
-the refused step, has to answer all other steps alike.
+By threads each step is asked for twice in a row, so that one comes again whose first asking is refused. One thread, to which the
+journal is given without the refused step, has to answer all other steps alike.
 
 Each time the entries are looked at as well: each leads to a version of its key, by a redirect or at once, or to a dead slot; and where
 it was there before the step, it leads to the same version, to a redirect that came in its place, or to a dead slot. So they are looked at
