@@ -19,10 +19,10 @@ use Rattle.prune.proofs.Thinned.{thinned-sound, thinned-keeps_chains}
 use Rattle.prune.proofs.Thins.{pruned-thins}
 
 -- a sound page stays sound
-pub pruned-sound : (w : Window) (horizon : ℕ) (slots after : List Slot) → SoundPage w horizon slots → IsPruned w horizon slots after → SoundPage w horizon after
+pub pruned-sound : (w : Window) (horizon : ℕ) (slots after : List Slot) → SoundPage w slots → IsPruned w horizon slots after → SoundPage w after
 pruned-sound w horizon slots after sound p = thinned-sound w horizon slots after sound (pruned-thins w horizon slots after p sound)
 
-pub pruned-keeps_chains : (w : Window) (horizon : ℕ) (slots after : List Slot) → SoundPage w horizon slots → IsPruned w horizon slots after → KeepsChains w slots after
+pub pruned-keeps_chains : (w : Window) (horizon : ℕ) (slots after : List Slot) → SoundPage w slots → IsPruned w horizon slots after → KeepsChains w slots after
 pruned-keeps_chains w horizon slots after sound p = thinned-keeps_chains w horizon slots after sound (pruned-thins w horizon slots after p sound)
 
 -- where nothing is dead, pruning changes nothing
@@ -47,7 +47,7 @@ idle w horizon slots n o none (by_none l e) = by-answer o (λ is. is)
     (λ a is. let lost = (lost-from w slots n a (sym e ∙ is)).1 in
     absurd (none n (record { version = lost.version; there = lost.there; dead = IsDead.never_was lost.thawed lost.aborted })))
 
-pub pruned-again : (w : Window) (horizon : ℕ) (slots after again : List Slot) → SoundPage w horizon slots → IsPruned w horizon slots after → IsPruned w horizon after again → again ≡ after
+pub pruned-again : (w : Window) (horizon : ℕ) (slots after again : List Slot) → SoundPage w slots → IsPruned w horizon slots after → IsPruned w horizon after again → again ≡ after
 pruned-again w horizon slots after again sound p q = same-by_slots after again after q.count refl (λ n there.
     let each = q.each n there in
     each.is ∙ ap (acted (slot_at after n)) (idle w horizon after n each.answer (pruned-none_dead w horizon slots after sound p) each.does))

@@ -24,10 +24,10 @@ use Rattle.sound_page.proofs.Undone.{aborted-has}
 use Rattle.sound_page.proofs.SoundChains.{exact, plain-root, in-leads}
 
 -- what comes after the last dead version is not cut
-pub uncut-place : (w : Window) (horizon : ℕ) (slots : List Slot) (n : ℕ) (chain : List ℕ) (cut j : ℕ) → SoundPage w horizon slots → IsChain (has_aborted w) slots n chain
+pub uncut-place : (w : Window) (horizon : ℕ) (slots : List Slot) (n : ℕ) (chain : List ℕ) (cut j : ℕ) → SoundPage w slots → IsChain (has_aborted w) slots n chain
     → IsCutCount w horizon slots chain cut → cut ≤ j → j < length chain → ¬ IsCut w horizon slots (get_or chain j 0)
 uncut-place w horizon slots n chain cut j sound c count le within is =
-    let later = exact w horizon slots n chain j is.later.turns is.last sound c within is.later.along in
+    let later = exact w slots n chain j is.later.turns is.last sound c within is.later.along in
     count.none_after (j + is.later.turns) (omega arith) later.within (subst (IsDeadAt w horizon slots) later.is is.dead)
 
 -- What stays is not cut.
@@ -81,7 +81,7 @@ lost-some w slots n t at heap_only thawed aborted =
     three a true c e f g = absurd (cc)
     three a b false e f g = absurd (cc)
 
-pub version-kept : (w : Window) (horizon : ℕ) (slots after : List Slot) (n : ℕ) (t : Version) → SoundPage w horizon slots → IsPruned w horizon slots after → version_at after n ≡ Some t
+pub version-kept : (w : Window) (horizon : ℕ) (slots after : List Slot) (n : ℕ) (t : Version) → SoundPage w slots → IsPruned w horizon slots after → version_at after n ≡ Some t
     → (version_at slots n ≡ Some t) × ¬ IsCut w horizon slots n
 version-kept w horizon slots after n t sound p at =
     let old = (pruned-removes w horizon slots after p).kept n t at in
@@ -96,13 +96,13 @@ version-kept w horizon slots after n t sound p at =
     by o old (by_none l e) none = λ cut. ⊎_elim
         (λ heap_only. ⊎_elim
         (λ u. let f = lost-some w slots n t old heap_only u.0 u.1 in let g : Some action.Unuse ≡ None = sym f ∙ sym e ∙ none in absurd (cc))
-        (λ r. l.unreached r.root (in-leads w horizon slots r.root n sound r.leads))
+        (λ r. l.unreached r.root (in-leads w slots r.root n sound r.leads))
         (sound.owned n t old heap_only))
         (λ plain. let starts = plain-root slots n t old plain in let off = l.no_root in absurd (cc))
         (cases_Bool (is_heap_only t.header))
 
 -- no version is dead
-pub pruned-none_dead : (w : Window) (horizon : ℕ) (slots after : List Slot) → SoundPage w horizon slots → IsPruned w horizon slots after → (n : ℕ) → ¬ IsDeadAt w horizon after n
+pub pruned-none_dead : (w : Window) (horizon : ℕ) (slots after : List Slot) → SoundPage w slots → IsPruned w horizon slots after → (n : ℕ) → ¬ IsDeadAt w horizon after n
 pruned-none_dead w horizon slots after sound p n dead =
     let old = version-kept w horizon slots after n dead.version sound p dead.there in
     old.1 (record { last = n; later = record { turns = 0; along = refl }; dead = record { version = dead.version; there = old.0; dead = dead.dead } })

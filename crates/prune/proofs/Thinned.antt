@@ -57,14 +57,14 @@ entry-after w slots after root (suc prefix) chain starts c within is =
     ap (chain_start_in root) (is ∙ ap (λ (o : Option ℕ). acted (slot_at slots root) (root_action (suc prefix) o)) (slice_get-get_or chain (suc prefix) 0 within))
 
 -- who counts what is committed is a reader
-committed-reader : (w : Window) (horizon : ℕ) (slots : List Slot) → SoundPage w horizon slots → IsPageReader w horizon slots (IsCommitted w)
+committed-reader : (w : Window) (horizon : ℕ) (slots : List Slot) → SoundPage w slots → IsPageReader w horizon slots (IsCommitted w)
 committed-reader w horizon slots sound = record {
   past = λ x done before. done;
   none_aborted = λ x gone done. let e : Aborted ≡ Committed = sym gone ∙ done in absurd (cc);
   in_order = λ n t at deleted counted. sound.made n t at deleted;
 }
 
-module _ (w : Window) (horizon : ℕ) (slots after : List Slot) (sound : SoundPage w horizon slots) (p : IsThinned w horizon slots after) where
+module _ (w : Window) (horizon : ℕ) (slots after : List Slot) (sound : SoundPage w slots) (p : IsThinned w horizon slots after) where
   -- what becomes of a root and its chain
   record Rooted (root : ℕ) : Type 0 where
     chain : List ℕ
@@ -141,8 +141,8 @@ module _ (w : Window) (horizon : ℕ) (slots after : List Slot) (sound : SoundPa
   in-after root n t i at =
       let starts = entry-root slots root i.entry i.leads in
       let r = rooted root starts in
-      let first = chain-first (has_aborted w) slots root i.entry r.chain r.is_chain (entry-first w horizon slots root i.entry sound i.leads) in
-      let later = exact w horizon slots root r.chain 0 i.later.turns n sound r.is_chain first.0 (subst (λ k. ReachesIn (link w slots) i.later.turns k n) (sym first.1) i.later.along) in
+      let first = chain-first (has_aborted w) slots root i.entry r.chain r.is_chain (entry-first w slots root i.entry sound i.leads) in
+      let later = exact w slots root r.chain 0 i.later.turns n sound r.is_chain first.0 (subst (λ k. ReachesIn (link w slots) i.later.turns k n) (sym first.1) i.later.along) in
       let place : ℕ = 0 + i.later.turns in
       let le : r.prefix ≤ place = place-kept w horizon slots after root r.prefix place r.chain t r.is (ap (version_at after) (sym later.is) ∙ at) in
       let within : place < length r.chain = later.within in
@@ -202,7 +202,7 @@ module _ (w : Window) (horizon : ℕ) (slots after : List Slot) (sound : SoundPa
       let old = sound.redirects n k at in
       let e : chain_start_of slots n ≡ Some k = ap (chain_start_in n) at in
       let r = rooted n (entry-root slots n k e) in
-      let first = chain-first (has_aborted w) slots n k r.chain r.is_chain (entry-first w horizon slots n k sound e) in
+      let first = chain-first (has_aborted w) slots n k r.chain r.is_chain (entry-first w slots n k sound e) in
       record {
         version = old.version;
         there = subst (λ x. version_at after x ≡ Some old.version) first.1
@@ -234,7 +234,7 @@ module _ (w : Window) (horizon : ℕ) (slots after : List Slot) (sound : SoundPa
       by (Led.now chain zero starts c s some within is) = absurd (omega arith)
       by (Led.now chain (suc prefix) starts c s some within is) = subst (IsTarget w after) is (target-new n prefix chain c s within)
 
-  pub thinned-sound : SoundPage w horizon after
+  pub thinned-sound : SoundPage w after
   thinned-sound = record {
     few = (let count = p.count in let few = sound.few in omega arith);
     made = λ n t at. sound.made n t (p.removes.kept n t at);

@@ -54,14 +54,14 @@ pub record HasHome (w : Window) (slots : List Slot) (n : ℕ) : Type 0 where
   pub is : get_or chain place 0 ≡ n
 
 -- a version from which a link leads on is in a chain
-pub link-home : (w : Window) (horizon : ℕ) (slots : List Slot) (n k : ℕ) → SoundPage w horizon slots → link w slots n ≡ Some k → HasHome w slots n
-link-home w horizon slots n k sound next = ⊎_elim
+pub link-home : (w : Window) (slots : List Slot) (n k : ℕ) → SoundPage w slots → link w slots n ≡ Some k → HasHome w slots n
+link-home w slots n k sound next = ⊎_elim
     (λ heap_only. ⊎_elim
     (λ u.
     let e : false ≡ true = sym l.live ∙ aborted-has w l.old.header.xmax.0 (sound.undone n l.old l.from u.0 u.1 l.deleter) in
     absurd (cc))
     (λ r.
-    let leads = in-leads w horizon slots r.root n sound r.leads in
+    let leads = in-leads w slots r.root n sound r.leads in
     let p = place-of n leads.chain leads.holds in
     record { root = r.root; chain = leads.chain; starts = leads.starts; is_chain = leads.is_chain; place = p.0; within = p.1; is = p.2 })
     (sound.owned n l.old l.from heap_only))
@@ -74,14 +74,14 @@ link-home w horizon slots n k sound next = ⊎_elim
     l : IsLink (has_aborted w) slots n k
     l = link-of (has_aborted w) slots n k next
 
-module _ (w : Window) (horizon : ℕ) (slots after : List Slot) (sound : SoundPage w horizon slots) (p : IsThinned w horizon slots after) where
+module _ (w : Window) (horizon : ℕ) (slots after : List Slot) (sound : SoundPage w slots) (p : IsThinned w horizon slots after) where
   -- where a version stays, the next one does
   pub next-stays : (n k : ℕ) (t : Version) → link w slots n ≡ Some k → version_at after n ≡ Some t → version_at after k ≡ version_at slots k
   next-stays n k t next at =
-      let home = link-home w horizon slots n k sound next in
+      let home = link-home w slots n k sound next in
       let s = p.chains home.root home.chain home.starts home.is_chain in
       let le = place-kept w horizon slots after home.root s.0 home.place home.chain t s.1 (ap (version_at after) home.is ∙ at) in
-      let later = exact w horizon slots home.root home.chain home.place 1 k sound home.is_chain home.within (k, ap (link w slots) home.is ∙ next, refl) in
+      let later = exact w slots home.root home.chain home.place 1 k sound home.is_chain home.within (k, ap (link w slots) home.is ∙ next, refl) in
       ap (version_at after) later.is
       ∙ ap (option_and_then version_of) (s.1.kept (home.place + 1) (omega arith) later.within)
       ∙ ap (version_at slots) (sym later.is)

@@ -93,9 +93,9 @@ module _ (w : Window) (horizon : ℕ) (slots after : List Slot) (named : ℕ →
     others = stays-or-goes;
   }
 
-pub checked-thins : (w : Window) (horizon : ℕ) (page : PageView) (change : ℕ) (actions : List (ℕ × Action)) → SoundPage w horizon page.slots → Checks w horizon page change actions
+pub checked-thins : (w : Window) (horizon : ℕ) (page : PageView) (change : ℕ) (actions : List (ℕ × Action)) → SoundPage w page.slots → Checks w horizon page change actions
     → IsThinned w horizon page.slots (applied actions page).slots
-checked-thins w horizon page change actions sound c = thins w horizon page.slots (applied actions page).slots (action_of actions) (sound-unshared w horizon page.slots sound)
+checked-thins w horizon page change actions sound c = thins w horizon page.slots (applied actions page).slots (action_of actions) (sound-unshared w page.slots sound)
     c.prefixes c.others (λ n there. applied-slot 0 actions page c.in_order n) (applied-count actions page) (checks-removes w horizon page change actions c)
 
 -- Pruning.
@@ -139,8 +139,8 @@ module _ (w : Window) (horizon : ℕ) (slots after : List Slot) (p : IsPruned w 
             (λ n o there. does-by w horizon slots n root c.cut chain (named n) unshared o c.is (named-does n there).0),
       )
 
-  pub pruned-thins : SoundPage w horizon slots → IsThinned w horizon slots after
+  pub pruned-thins : SoundPage w slots → IsThinned w horizon slots after
   pruned-thins sound =
-      let unshared = sound-unshared w horizon slots sound in
+      let unshared = sound-unshared w slots sound in
       thins w horizon slots after named unshared (named-prefix unshared) (λ n a is. accounted n a (named n) (named-does n (named-there n a is)).0 is)
       (λ n there. (named-does n there).1) p.count (pruned-removes w horizon slots after p)

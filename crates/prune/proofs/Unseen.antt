@@ -25,7 +25,7 @@ pub record IsGone (w : Window) (slots : List Slot) (R : ℕ → Type 0) (n : ℕ
   pub deleted : IsCommitted w version.header.xmax.0
   pub counted : R version.header.xmax.0
 
-gone-before : (w : Window) (horizon : ℕ) (slots : List Slot) (R : ℕ → Type 0) (n k : ℕ) → SoundPage w horizon slots → IsPageReader w horizon slots R
+gone-before : (w : Window) (horizon : ℕ) (slots : List Slot) (R : ℕ → Type 0) (n k : ℕ) → SoundPage w slots → IsPageReader w horizon slots R
     → link w slots n ≡ Some k → IsGone w slots R k → IsGone w slots R n
 gone-before w horizon slots R n k sound reader next gone =
     let l = link-of (has_aborted w) slots n k next in
@@ -42,14 +42,14 @@ gone-before w horizon slots R n k sound reader next gone =
       counted = subst R l.made seen;
     }
 
-gone-along : (w : Window) (horizon : ℕ) (slots : List Slot) (R : ℕ → Type 0) (i n k : ℕ) → SoundPage w horizon slots → IsPageReader w horizon slots R
+gone-along : (w : Window) (horizon : ℕ) (slots : List Slot) (R : ℕ → Type 0) (i n k : ℕ) → SoundPage w slots → IsPageReader w horizon slots R
     → ReachesIn (link w slots) i n k → IsGone w slots R k → IsGone w slots R n
 gone-along w horizon slots R zero n k sound reader same gone = subst (IsGone w slots R) (sym same) gone
 gone-along w horizon slots R (suc i) n k sound reader along gone =
     gone-before w horizon slots R n along.0 sound reader along.1 (gone-along w horizon slots R i along.0 k sound reader along.2 gone)
 
 -- what is cut was never made, or the reader sees it deleted
-pub cut-cases : (w : Window) (horizon : ℕ) (slots : List Slot) (R : ℕ → Type 0) (n : ℕ) → SoundPage w horizon slots → IsPageReader w horizon slots R
+pub cut-cases : (w : Window) (horizon : ℕ) (slots : List Slot) (R : ℕ → Type 0) (n : ℕ) → SoundPage w slots → IsPageReader w horizon slots R
     → IsCut w horizon slots n → IsUndoneAt w slots n ⊎ IsGone w slots R n
 cut-cases w horizon slots R n sound reader cut = by cut.dead.version cut.dead.there cut.dead.dead
   where
@@ -60,7 +60,7 @@ cut-cases w horizon slots R n sound reader cut = by cut.dead.version cut.dead.th
         inr (gone-along w horizon slots R cut.later.turns n cut.last sound reader cut.later.along
         (record { version = t; there = at; deleted = done; counted = reader.past t.header.xmax.0 done before }))
 
-pub cut-unseen : (w : Window) (horizon : ℕ) (slots : List Slot) (R : ℕ → Type 0) (n : ℕ) (t : Version) → SoundPage w horizon slots → IsPageReader w horizon slots R
+pub cut-unseen : (w : Window) (horizon : ℕ) (slots : List Slot) (R : ℕ → Type 0) (n : ℕ) (t : Version) → SoundPage w slots → IsPageReader w horizon slots R
     → version_at slots n ≡ Some t → VisibleBy R t.header → ¬ IsCut w horizon slots n
 cut-unseen w horizon slots R n t sound reader at seen cut = ⊎_elim never gone (cut-cases w horizon slots R n sound reader cut)
   where
@@ -78,7 +78,7 @@ cut-unseen w horizon slots R n t sound reader at seen cut = ⊎_elim never gone 
         kept-of R t.header seen (committed-some w t.header.xmax.0 deleted) (subst (λ (v : Version). R v.header.xmax.0) same g.counted)
 
 -- where all that goes would be cut, each reader finds what it found
-pub removed-found : (w : Window) (horizon : ℕ) (slots after : List Slot) (R : ℕ → Type 0) → SoundPage w horizon slots → RemovesVersions w horizon slots after
+pub removed-found : (w : Window) (horizon : ℕ) (slots after : List Slot) (R : ℕ → Type 0) → SoundPage w slots → RemovesVersions w horizon slots after
     → IsPageReader w horizon slots R → (n : ℕ) (t : Version) → FindsBy R slots n t ↔ FindsBy R after n t
 removed-found w horizon slots after R sound removes reader n t = (
   (λ f. ⊎_elim (λ there. record { there = there; seen = f.seen }) (λ cut. absurd (cut-unseen w horizon slots R n t sound reader f.there f.seen cut)) (removes.gone n t f.there)),
@@ -87,6 +87,6 @@ removed-found w horizon slots after R sound removes reader n t = (
 
 -- A snapshot with own ids is such a reader.
 
-pub removed-keeps_found : (w : Window) (horizon : ℕ) (slots after : List Slot) → SoundPage w horizon slots → RemovesVersions w horizon slots after → KeepsFound w horizon slots after
+pub removed-keeps_found : (w : Window) (horizon : ℕ) (slots after : List Slot) → SoundPage w slots → RemovesVersions w horizon slots after → KeepsFound w horizon slots after
 removed-keeps_found w horizon slots after sound removes s own r n t =
     removed-found w horizon slots after (ReadsIn w s own) sound removes (open-reader w horizon slots s own r) n t

@@ -32,41 +32,41 @@ PruningHasOneOutcome = (w : Window) (horizon : ℕ) (slots : List Slot) → NoSh
 
 -- whatever goes from a sound page is found by nobody, as long as only what would be cut goes
 abbrev pub RemovingIsNeverSeen : Type 0
-RemovingIsNeverSeen = (w : Window) (horizon : ℕ) (slots after : List Slot) → SoundPage w horizon slots → RemovesVersions w horizon slots after → KeepsFound w horizon slots after
+RemovingIsNeverSeen = (w : Window) (horizon : ℕ) (slots after : List Slot) → SoundPage w slots → RemovesVersions w horizon slots after → KeepsFound w horizon slots after
 
 abbrev pub PruningIsNeverSeen : Type 0
-PruningIsNeverSeen = (w : Window) (horizon : ℕ) (slots after : List Slot) → SoundPage w horizon slots → IsPruned w horizon slots after → KeepsFound w horizon slots after
+PruningIsNeverSeen = (w : Window) (horizon : ℕ) (slots after : List Slot) → SoundPage w slots → IsPruned w horizon slots after → KeepsFound w horizon slots after
 
 abbrev pub NothingDeadStays : Type 0
-NothingDeadStays = (w : Window) (horizon : ℕ) (slots after : List Slot) → SoundPage w horizon slots → IsPruned w horizon slots after → (n : ℕ) → ¬ IsDeadAt w horizon after n
+NothingDeadStays = (w : Window) (horizon : ℕ) (slots after : List Slot) → SoundPage w slots → IsPruned w horizon slots after → (n : ℕ) → ¬ IsDeadAt w horizon after n
 
 abbrev pub SoundStaysSound : Type 0
-SoundStaysSound = (w : Window) (horizon : ℕ) (slots after : List Slot) → SoundPage w horizon slots → IsPruned w horizon slots after
-    → SoundPage w horizon after × KeepsChains w slots after
+SoundStaysSound = (w : Window) (horizon : ℕ) (slots after : List Slot) → SoundPage w slots → IsPruned w horizon slots after
+    → SoundPage w after × KeepsChains w slots after
 
 -- where a prefix of each chain goes that would be cut, a sound page stays sound, with the same chains as far as they are kept
 abbrev pub ThinningKeepsSound : Type 0
-ThinningKeepsSound = (w : Window) (horizon : ℕ) (slots after : List Slot) → SoundPage w horizon slots → IsThinned w horizon slots after
-    → SoundPage w horizon after × KeepsChains w slots after
+ThinningKeepsSound = (w : Window) (horizon : ℕ) (slots after : List Slot) → SoundPage w slots → IsThinned w horizon slots after
+    → SoundPage w after × KeepsChains w slots after
 
 -- so it is where a sound page is pruned,
 abbrev pub PruningThins : Type 0
-PruningThins = (w : Window) (horizon : ℕ) (slots after : List Slot) → SoundPage w horizon slots → IsPruned w horizon slots after → IsThinned w horizon slots after
+PruningThins = (w : Window) (horizon : ℕ) (slots after : List Slot) → SoundPage w slots → IsPruned w horizon slots after → IsThinned w horizon slots after
 
 -- and where a plan that checks is applied to one
 abbrev pub CheckedThins : Type 0
-CheckedThins = (w : Window) (horizon : ℕ) (page : PageView) (change : ℕ) (actions : List (ℕ × Action)) → SoundPage w horizon page.slots → Checks w horizon page change actions
+CheckedThins = (w : Window) (horizon : ℕ) (page : PageView) (change : ℕ) (actions : List (ℕ × Action)) → SoundPage w page.slots → Checks w horizon page change actions
     → IsThinned w horizon page.slots (applied actions page).slots
 
 -- a second pruning changes nothing
 abbrev pub PruningIsDoneOnce : Type 0
-PruningIsDoneOnce = (w : Window) (horizon : ℕ) (slots after again : List Slot) → SoundPage w horizon slots → IsPruned w horizon slots after → IsPruned w horizon after again → again ≡ after
+PruningIsDoneOnce = (w : Window) (horizon : ℕ) (slots after again : List Slot) → SoundPage w slots → IsPruned w horizon slots after → IsPruned w horizon after again → again ≡ after
 
 -- A plan that checks, whoever made it, removes only what would be cut; so from a sound page it takes nothing that anyone finds.
 abbrev pub CheckedIsNeverSeen : Type 0
 CheckedIsNeverSeen = (w : Window) (horizon : ℕ) (page : PageView) (change : ℕ) (actions : List (ℕ × Action)) → Checks w horizon page change actions
     → RemovesVersions w horizon page.slots (applied actions page).slots
-    × (SoundPage w horizon page.slots → KeepsFound w horizon page.slots (applied actions page).slots)
+    × (SoundPage w page.slots → KeepsFound w horizon page.slots (applied actions page).slots)
 
 -- Each slot that it names is changed, so it raises the change number by their number, modulo 2 ^ 64.
 abbrev pub CheckedRaises : Type 0

@@ -87,9 +87,9 @@ pub fn prune(page: &mut Page, statuses: &StatusTable, horizon: Xid)
     ensures removes { RemovesVersions statuses.now horizon.0 page.old.slots page.new.slots }
     ensures roots { NoSharedSlots (has_aborted statuses.now) page.old.slots
         → KeepsRoots page.old.slots page.new.slots }
-    ensures never_seen { SoundPage statuses.now horizon.0 page.old.slots
+    ensures never_seen { SoundPage statuses.now page.old.slots
         → KeepsFound statuses.now horizon.0 page.old.slots page.new.slots }
-    ensures none_dead { SoundPage statuses.now horizon.0 page.old.slots → (n : ℕ)
+    ensures none_dead { SoundPage statuses.now page.old.slots → (n : ℕ)
         → ¬ IsDeadAt statuses.now horizon.0 page.new.slots n }
     ensures flag { page.new.flag ≡ page.old.flag }
 {

@@ -24,7 +24,7 @@ use Rattle.refinement.specs.Agrees as relation
 use Rattle.refinement.proofs.Readers.{Levels-top}
 use Rattle.visibility.specs.Visible.{state_of}
 use Rattle.session_steps.proofs.Scanning.{ScansBy, now-scans, statement-scans, scans-unexcused}
-use Rattle.session_steps.specs.State.{State, seen, statement_snapshot, reader_of, horizon_of}
+use Rattle.session_steps.specs.State.{State, seen, statement_snapshot, reader_of}
 use Rattle.session_steps.specs.Agrees.{Agrees}
 use Rattle.session_steps.specs.declared.session.Session.{Session}
 use Rattle.session_steps.specs.declared.session.SessionIsolation.{SessionIsolation}
@@ -52,8 +52,8 @@ by-index st w n s own row agrees used active by shows = record {
   where
     on-heap : (value : ℤ) (k : ℕ) (p : Tid) (t : Version)
         → IsOnHeap (value_in n) (slots_of st.heap) value k (λ t. visibility.IsVisible st.heap.statuses s own t.header) p t ↔ IsFound st.heap s own n value k p t
-    on-heap value k p t = visible-found (value_in n) (since_at st.heap.indexes n) st.heap.statuses (horizon_of st) (slots_of st.heap) (entries_in st.heap.indexes n)
-        (index-sound st.heap (horizon_of st) agrees.sound.table n used) s own active (scans-unexcused st w agrees n s own by active) value k p t
+    on-heap value k p t = visible-found (value_in n) (since_at st.heap.indexes n) st.heap.statuses (slots_of st.heap) (entries_in st.heap.indexes n)
+        (index-sound st.heap agrees.sound.table n used) s own active (scans-unexcused st w agrees n s own by active) value k p t
 
 -- one that would begin now sees what is committed
 fresh : (st : State) (w : World) → Agrees st w → relation.Shows (seen st).version (ReaderSees (state_of st.heap.statuses) (λ x. Sees (now_taken st) st.heap.statuses x) []) (committed w.history (length w.history))

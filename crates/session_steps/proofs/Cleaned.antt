@@ -13,10 +13,10 @@ use Rattle.tuple_header.specs.Version.{Version}
 use Rattle.page_slots.specs.declared.slot.Slot.{Slot}
 use Rattle.page_slots.specs.Slots.{version_at}
 use Rattle.commit_status.specs.declared.status.Status.TheVariants.{InProgress, Committed, Aborted}
-use Rattle.commit_status.specs.Window.{Window, IsCommitted, IsAborted, place, next_id}
+use Rattle.commit_status.specs.Window.{Window, IsCommitted, IsAborted, place}
 use Rattle.commit_status.proofs.Places.{upto-place, is-from_some}
 use Rattle.commit_status.proofs.Giving.{finished-place}
-use Rattle.snapshot.specs.Snap.{Snap, Sees, earliest}
+use Rattle.snapshot.specs.Snap.{Snap, Sees}
 use Rattle.snapshot.proofs.Sights.{past-seen}
 use Rattle.visibility.specs.Visible.{IsDead, IsFrozen, state_of}
 use Rattle.hot_chain.specs.Chain.{has_aborted}
@@ -30,7 +30,7 @@ use Rattle.heap_write.specs.Heap.{HeapView, slots_of}
 use Rattle.heap_write.specs.Writes.{Prunes}
 use Rattle.heap_write.specs.declared.applying.ApplyFault.{ApplyFault}
 use Rattle.heap_write.specs.declared.applying.ApplyFault.TheVariants as apply_fault
-use Rattle.table_integrity.specs.Table.{SoundTable, StaysSoundTable}
+use Rattle.table_integrity.specs.Table.{StaysSoundTable}
 use Rattle.table_integrity.proofs.Places.{RemovesOn, prunes-stand, applies-stand}
 use Rattle.table_integrity.proofs.Keeping.{pruned-stays, applied-stays}
 use Rattle.history.specs.History.{Write}
@@ -49,7 +49,7 @@ use Rattle.refinement.proofs.Follows as theory
 use Rattle.session_steps.specs.declared.session.Session.{Session}
 use Rattle.session_steps.specs.declared.session.SessionIsolation.{SessionIsolation}
 use Rattle.session_steps.specs.declared.session.SessionIsolation.TheVariants.{BySnapshot, ByStatement}
-use Rattle.session_steps.specs.State.{State, session_at, seen, seen_in, reader_of, kept_by, IsByStatement, horizon_of, held_back}
+use Rattle.session_steps.specs.State.{State, session_at, seen, seen_in, reader_of, kept_by, IsByStatement, horizon_of}
 use Rattle.session_steps.specs.Agrees.{Agrees, Follows}
 use Rattle.session_steps.specs.Exact.{Cleans, AppliesPlan}
 use Rattle.session_steps.proofs.Owns.{reader-is}
@@ -181,7 +181,7 @@ abbrev with_parts : State → HeapView → State
 with_parts st h = state_with st.settings h st.sessions
 
 -- Of one page versions go that are cut by pruning at the horizon.
-thinned : (st : State) (h : HeapView) (p : ℕ) (w : World) → h.statuses ≡ st.heap.statuses → h.max_pages ≡ st.heap.max_pages → StaysSoundTable st.heap h (horizon_of st)
+thinned : (st : State) (h : HeapView) (p : ℕ) (w : World) → h.statuses ≡ st.heap.statuses → h.max_pages ≡ st.heap.max_pages → StaysSoundTable st.heap h
     → RemovesOn (version_in (slots_of st.heap)) (version_in (slots_of h)) p (IsCut st.heap.statuses (horizon_of st) (slots_on (slots_of st.heap) p))
     → Agrees st w → Agrees (with_parts st h) w
 thinned st h p w statuses limit stays removes agrees =
@@ -196,7 +196,7 @@ thinned st h p w statuses limit stays removes agrees =
       by_key = (stays.in_use 0).0 agrees.sound.by_key;
       since = λ n. subst (IsExactSince h.statuses) (sym (stays.since n)) (subst (λ t. IsExactSince t (since_at st.heap.indexes n)) (sym statuses) (agrees.sound.since n));
       scans = λ s e at. scans-still st.heap.statuses h.statuses st.heap.indexes h.indexes (ap (λ (w : Window). w.first) statuses) stays.in_use stays.since e (agrees.sound.scans s e at);
-      table = subst (λ t. SoundTable h (earliest (next_id t) (held_back st.sessions))) (sym statuses) stays.sound;
+      table = stays.sound;
     })
 
 pruned : (st : State) (h : HeapView) (p : ℕ) (w : World) → Prunes st.heap h p (horizon_of st) → Agrees st w → Agrees (with_parts st h) w

@@ -3,13 +3,11 @@ use Rattle.std.proofs.lemmas.Int.{to_z-of_z, ints}
 use Rattle.std.specs.Int.Signed.{lt_z}
 use Rattle.std.specs.Int.{w128}
 use Rattle.std.proofs.lemmas.Bool.Decides.{nat_tests}
-use Rattle.std.proofs.Common.{SFits, to_z, of_z, ◌≡◌, ℕ, arith, ℤ, ◌≤ℤ◌, ◌<ℤ◌, ◌≤◌, inl, inr, take, List, Bool, true, false, Option, Some, None, refl, sym, ap, ◌∙◌, subst}
-use Rattle.std.specs.Prelude.{IsSome, Contains}
+use Rattle.std.proofs.Common.{SFits, to_z, of_z, ◌≡◌, ℕ, arith, ℤ, ◌≤ℤ◌, ◌<ℤ◌, inl, inr, Bool, true, false, Option, Some, None, refl, sym, ap, ◌∙◌, subst}
+use Rattle.std.specs.Prelude.{IsSome}
 use Rattle.std.proofs.Math.ListN.{length-set}
 use Rattle.std.proofs.lemmas.Option.{same_Some, none-some}
-use Rattle.std.proofs.lemmas.List.Elements.{Contains-append_cases}
 use Rattle.std.specs.Option.{option_map}
-use Rattle.commit_status.specs.Window.{IsUpToNext, turns}
 use Rattle.snapshot.specs.Snap.{Snap}
 use Rattle.history.specs.World.{World, MayScan}
 use Rattle.root_index.specs.View.{IndexView}
@@ -33,7 +31,7 @@ use Rattle.table_scans.specs.declared.progress.CursorScan.{CursorScan}
 use Rattle.table_scans.specs.declared.progress.CursorScan.TheVariants.{Rows}
 use Rattle.table_scans.specs.declared.progress.Scan.TheVariants.{Index, Heap}
 use Rattle.index_lookup.specs.declared.index_scan.IndexRange.{IndexRange}
-use Rattle.session_steps.specs.State.{State, session_at, put_session, map_session, with_cursor, with_kept, keeping, kept_by, kept_xmin, holds_back, horizon_of, IsByStatement, is_too_new, isolation_seen, seen, position_of, reader_of, engine_sessions}
+use Rattle.session_steps.specs.State.{State, session_at, put_session, map_session, with_cursor, with_kept, keeping, kept_by, IsByStatement, is_too_new, isolation_seen, seen, position_of, reader_of, engine_sessions}
 use Rattle.session_steps.specs.Agrees.{Agrees, Sound, SessionKeeps, Follows, KeepsAllTargets}
 use Rattle.session_steps.proofs.InUse.{GoesAlong, used-still, marks-put, no-cursor, scans-put, agree}
 use Rattle.session_steps.proofs.Scanning.{opened-scans}
@@ -42,8 +40,6 @@ use Rattle.session_steps.proofs.OwnIdsLemmas.{open-within, open-set_cases}
 use Rattle.session_steps.proofs.StateLemmas.{only-set}
 use Rattle.session_steps.proofs.Owns.{reader-is, now_taken, taken-fresh, taken-within}
 use Rattle.session_steps.proofs.Statements.{kept-after}
-use Rattle.session_steps.proofs.Horizons.{kept-cases, xmin-back, own-back, held-in, horizon-low, taken-late}
-use Rattle.session_steps.proofs.Giving.{later-sound}
 use Rattle.session_steps.proofs.Follows.{Follows-same, stays-so, free_by, bare_by, some-position, led-same, Sound-put}
 
 pub Follows-barred_open_index : (st : State) (s index : ℕ) (low high : ℤ) (r : Refusal) → BarsFree (engine_sessions st) s r → Follows st (step.OpenIndex s index low high) (reply.Refused r) st
@@ -115,7 +111,7 @@ module _ (st st' : State) (s : ℕ) (e : Session) (cursor : CursorScan) (at : se
   only-cursor = let only = only-set st s (Some (with_cursor (Some cursor) e)) (open-within st.sessions s e at) in record { others = only.others; itself = only.itself }
 
   pub sound-cursor : GoesAlong st.heap.statuses st.heap.indexes e.isolation (Some cursor) → Sound st → Sound (put_session st s (Some (with_cursor (Some cursor) e)))
-  sound-cursor along sound = Sound-put st s e (with_cursor (Some cursor) e) at refl (keeps-cursor st e cursor (sound.sessions s e at))
+  sound-cursor along sound = Sound-put st s e (with_cursor (Some cursor) e) at (keeps-cursor st e cursor (sound.sessions s e at))
       (record { by_snapshot = λ n snap reads may. (sound.scans s e at).by_snapshot n snap reads may; cursor = along }) sound
 
 -- A cursor is opened or closed: by statement the session keeps a snapshot for it, or none any more.
@@ -144,21 +140,6 @@ module _ (st : State) (w : World) (s : ℕ) (e : Session) (cursor : Option Curso
         distinct = h.distinct;
       }
 
-  -- what it holds back then is in the window, and not before the horizon
-  back-both : (y : ℕ) → Contains (holds_back (with_both cursor kept e)) y → IsUpToNext st.heap.statuses y × (turns st.heap.statuses.first (horizon_of st) ≤ turns st.heap.statuses.first y)
-  back-both y among = elim (Contains-append_cases (kept_xmin (kept_by (keeping kept e.isolation))) (take 1 e.own.ids) y among) [
-    | inl here ↦ (let k = kept-cases (kept_by (keeping kept e.isolation)) y here in
-        elim (kept-after e.isolation kept k.0 k.1) [
-          | inl old ↦ was y (subst (λ z. Contains (holds_back e) z) k.2 (xmin-back e k.0 old))
-          | inr new ↦ subst (λ z. IsUpToNext st.heap.statuses z × (turns st.heap.statuses.first (horizon_of st) ≤ turns st.heap.statuses.first z)) (ap (λ (snap : Snap). snap.xmin) (sym (fresh k.0 new)) ∙ k.2)
-              ((taken-within st w agrees).bounds.xmin, taken-late st w agrees)
-        ])
-    | inr own ↦ was y (own-back e y own)
-  ]
-    where
-      was : (z : ℕ) → Contains (holds_back e) z → IsUpToNext st.heap.statuses z × (turns st.heap.statuses.first (horizon_of st) ≤ turns st.heap.statuses.first z)
-      was z back = (held-in st w agrees s e z at back, horizon-low st.heap.statuses st.sessions s e z agrees.sound.window (held-in st w agrees) at back)
-
   pub sound-both : (IsSome kept → IsSome cursor) → GoesAlong st.heap.statuses st.heap.indexes (keeping kept e.isolation) cursor → Sound (put_session st s (Some (with_both cursor kept e)))
   sound-both some along = record {
     count = length-set st.sessions s (Some (with_both cursor kept e)) ∙ agrees.sound.count;
@@ -176,7 +157,7 @@ module _ (st : State) (w : World) (s : ℕ) (e : Session) (cursor : Option Curso
       by_snapshot = λ n snap reads may. (agrees.sound.scans s e at).by_snapshot n snap (still-by_snapshot e.isolation kept snap reads) may;
       cursor = along;
     }) agrees.sound.scans;
-    table = later-sound st w st.heap s e (with_both cursor kept e) at agrees agrees.sound.window refl (omega arith) (λ y upto. upto) back-both agrees.sound.table;
+    table = agrees.sound.table;
   }
 
 -- what readers see of it

@@ -11,10 +11,10 @@ use Rattle.tuple_header.specs.Marks.{is_frozen}
 use Rattle.visibility.specs.Visible.{IsFrozen}
 use Rattle.commit_status.specs.declared.status.Status.{Status}
 use Rattle.commit_status.specs.declared.status.Status.TheVariants.{InProgress, Committed, Aborted}
-use Rattle.commit_status.specs.Window.{Window, IsWindow, IsInProgress, turns, top_of, next_id}
+use Rattle.commit_status.specs.Window.{Window, IsWindow, IsInProgress, turns, top_of}
 use Rattle.commit_status.specs.Window as window
 use Rattle.commit_status.specs.Changes.{Finishes}
-use Rattle.commit_status.proofs.Finishing.{finishes-top, finishes-upto, finishes-next}
+use Rattle.commit_status.proofs.Finishing.{finishes-top, finishes-upto}
 use Rattle.forgetting.proofs.WellTopped.{finishes-well_topped}
 use Rattle.tuple_writes.specs.Laws.{DeletedWhatWasMade, AloneDeletedTheirs}
 use Rattle.visibility.proofs.Makers.{is-inserter, is-deleter, active-to, committed-to, state-some}
@@ -22,7 +22,7 @@ use Rattle.index_lookup.specs.Pages.{slots_on}
 use Rattle.heap_write.specs.Heap.{slots_of}
 use Rattle.table_integrity.specs.Table.{StaysSoundTable}
 use Rattle.table_integrity.specs.Laws as laws
-use Rattle.table_integrity.proofs.Keeping.{committed-stays, aborted-stays, later-stays-sound}
+use Rattle.table_integrity.proofs.Keeping.{committed-stays, aborted-stays}
 use Rattle.history.specs.History.{Write, Transaction}
 use Rattle.history.specs.World.{World, joined, start_now}
 use Rattle.refinement.specs.Heap as relation
@@ -37,7 +37,7 @@ use Rattle.snapshot.proofs.Levels.{distinct-after}
 use Rattle.snapshot.proofs.Takes.{first-in}
 use Rattle.session_steps.specs.declared.session.Session.{Session}
 use Rattle.visibility.specs.Visible.{state_of}
-use Rattle.session_steps.specs.State.{State, session_at, seen, reader_of, holds_back, horizon_of}
+use Rattle.session_steps.specs.State.{State, session_at, seen, reader_of}
 use Rattle.session_steps.specs.Agrees.{Agrees, Sound, SessionKeeps, SessionScans, KeepsAllTargets}
 use Rattle.sound_entries.specs.Since.{IsExactSince}
 use Rattle.sound_entries.proofs.Since.{finishing-since}
@@ -49,8 +49,7 @@ use Rattle.session_steps.proofs.OwnIdsLemmas.{open-within, open-set_cases}
 use Rattle.session_steps.proofs.Owns.{reader-is, reader-at}
 use Rattle.session_steps.proofs.Statements.{statement_sight}
 use Rattle.session_steps.proofs.Placing.{normal-active}
-use Rattle.session_steps.proofs.Returning.{keeps-returned, fewer-back}
-use Rattle.session_steps.proofs.Horizons.{IsHeldIn, held-in, horizon-above, horizon-next, horizon-low, horizon-upto, upto-horizon}
+use Rattle.session_steps.proofs.Returning.{keeps-returned}
 
 bounded-finish : (w v : Window) (ids : List ℕ) (end : Status) (s : Snap) → Finishes w v ids end → IsBounded w s → IsBounded v s
 bounded-finish w v ids end s f h = record {
@@ -214,28 +213,9 @@ pub record Ended (st st' : State) (s : ℕ) (now : Option Session) (ids : List �
   pub window : IsWindow st'.heap.statuses
 
 module _ (st st' : State) (s : ℕ) (e : Session) (now : Option Session) (ids : List ℕ) (end : Status) (ended : end ≢ InProgress) (at : session_at st s ≡ Some e) (change : Ended st st' s now ids end)
-    (less : (f : Session) (y : ℕ) → now ≡ Some f → Contains (holds_back f) y → Contains (holds_back e) y) (w : World) (agrees : Agrees st w) where
+    (w : World) (agrees : Agrees st w) where
   still : (o : ℕ) (f : Session) → session_at st' o ≡ Some f → ((o ≡ s) × (now ≡ Some f)) ⊎ ((o ≢ s) × (session_at st o ≡ Some f))
   still o f bt = open-set_cases st.sessions s o now f (open-within st.sessions s e at) (subst (λ xs. session_at (record st { sessions = xs }) o ≡ Some f) change.sessions bt)
-
-  -- all that is held back was held back before
-  was-back : (o : ℕ) (f : Session) (y : ℕ) → session_at st' o ≡ Some f → Contains (holds_back f) y → (p : ℕ) × (g : Session) × (session_at st p ≡ Some g) × Contains (holds_back g) y
-  was-back o f y bt among = elim (still o f bt) [
-    | inl same ↦ (s, e, at, less f y same.1 among)
-    | inr other ↦ (o, f, other.1, among)
-  ]
-
-  held-then : IsHeldIn st'.heap.statuses st'.sessions
-  held-then o f y bt among = let was = was-back o f y bt among in
-      finishes-upto st.heap.statuses st'.heap.statuses ids end y change.finishes (held-in st w agrees was.0 was.1 y was.2 was.3)
-
-  later-then : turns st'.heap.statuses.first (horizon_of st) ≤ turns st'.heap.statuses.first (horizon_of st')
-  later-then = horizon-above st'.heap.statuses st'.sessions (turns st'.heap.statuses.first (horizon_of st)) change.window held-then
-      (subst (λ first. turns first (horizon_of st) ≤ turns first (next_id st'.heap.statuses)) (sym change.finishes.first)
-      (subst (λ n. turns st.heap.statuses.first (horizon_of st) ≤ turns st.heap.statuses.first n) (sym (finishes-next st.heap.statuses st'.heap.statuses ids end change.finishes))
-      (horizon-next st.heap.statuses st.sessions agrees.sound.window (held-in st w agrees))))
-      (λ o f y bt among. let was = was-back o f y bt among in subst (λ first. turns first (horizon_of st) ≤ turns first y) (sym change.finishes.first)
-      (horizon-low st.heap.statuses st.sessions was.0 was.1 y agrees.sound.window (held-in st w agrees) was.2 was.3))
 
   table-finishes : ((x : ℕ) → Contains ids x → Contains e.own.ids x) → laws.FinishesInTable st.heap st'.heap ids end
   table-finishes mine = record {
@@ -246,7 +226,7 @@ module _ (st st' : State) (s : ℕ) (e : Session) (now : Option Session) (ids : 
   }
 
   Sound-ended : ((f : Session) → now ≡ Some f → SessionKeeps st'.heap.statuses f) → ((f : Session) → now ≡ Some f → SessionScans st.heap.statuses st.heap.indexes f) → (end ≡ Committed → (x : ℕ) → Contains ids x → Contains ids (top_of st.heap.statuses x))
-      → StaysSoundTable st.heap st'.heap (horizon_of st) → Sound st'
+      → StaysSoundTable st.heap st'.heap → Sound st'
   Sound-ended keeps scans with_tops stays = record {
     count = ap length change.sessions ∙ (length-set st.sessions s now ∙ agrees.sound.count);
     max_pages = change.max_pages ∙ agrees.sound.max_pages ∙ ap (λ (g : Settings). g.max_pages) (sym change.settings);
@@ -263,9 +243,7 @@ module _ (st st' : State) (s : ℕ) (e : Session) (now : Option Session) (ids : 
       | inr other ↦ agrees.sound.scans o f other.1
     ]);
     tops = finishes-well_topped st.heap.statuses st'.heap.statuses ids end ended change.finishes agrees.sound.window with_tops agrees.sound.tops;
-    table = later-stays-sound st'.heap (horizon_of st) (horizon_of st') stays.sound change.window
-        (finishes-upto st.heap.statuses st'.heap.statuses ids end (horizon_of st) change.finishes (upto-horizon st w agrees))
-        (horizon-upto st'.heap.statuses st'.sessions change.window held-then) later-then;
+    table = stays.sound;
   }
 
 -- A session closes.
@@ -279,9 +257,9 @@ nobody f is = absurd (none-some f is)
 pub commits-sound : (st st' : State) (s : ℕ) (e : Session) (w : World) → session_at st s ≡ Some e → Closes st st' s Committed → Agrees st w → Sound st' × KeepsAllTargets st st'
 commits-sound st st' s e w at closes agrees =
     let change = ended-closed st st' s e Committed at closes in
-    let stays = committed-stays st.heap st'.heap (horizon_of st) e.own.ids agrees.sound.table
-    (table-finishes st st' s e None e.own.ids Committed (λ e. cc) at change (λ f y is among. nobody f is) w agrees (λ x mine. mine)) (deleted-made st w agrees s e at) in (
-      Sound-ended st st' s e None e.own.ids Committed (λ e. cc) at change (λ f y is among. nobody f is) w agrees (λ f is. nobody f is) (λ f is. nobody f is)
+    let stays = committed-stays st.heap st'.heap e.own.ids agrees.sound.table
+    (table-finishes st st' s e None e.own.ids Committed (λ e. cc) at change w agrees (λ x mine. mine)) (deleted-made st w agrees s e at) in (
+      Sound-ended st st' s e None e.own.ids Committed (λ e. cc) at change w agrees (λ f is. nobody f is) (λ f is. nobody f is)
           (λ done x mine. first-in e.own.ids (top_of st.heap.statuses x) ((agrees.sound.sessions s e at).topmost x mine)) stays,
       stays.led,
     )
@@ -289,9 +267,9 @@ commits-sound st st' s e w at closes agrees =
 pub aborts-sound : (st st' : State) (s : ℕ) (e : Session) (w : World) → session_at st s ≡ Some e → Closes st st' s Aborted → Agrees st w → Sound st' × KeepsAllTargets st st'
 aborts-sound st st' s e w at closes agrees =
     let change = ended-closed st st' s e Aborted at closes in
-    let stays = aborted-stays st.heap st'.heap (horizon_of st) e.own.ids agrees.sound.table
-    (table-finishes st st' s e None e.own.ids Aborted (λ e. cc) at change (λ f y is among. nobody f is) w agrees (λ x mine. mine)) (alone-deleted st w agrees s e at) in
-    (Sound-ended st st' s e None e.own.ids Aborted (λ e. cc) at change (λ f y is among. nobody f is) w agrees (λ f is. nobody f is) (λ f is. nobody f is) (λ done x mine. absurd (cc)) stays, stays.led)
+    let stays = aborted-stays st.heap st'.heap e.own.ids agrees.sound.table
+    (table-finishes st st' s e None e.own.ids Aborted (λ e. cc) at change w agrees (λ x mine. mine)) (alone-deleted st w agrees s e at) in
+    (Sound-ended st st' s e None e.own.ids Aborted (λ e. cc) at change w agrees (λ f is. nobody f is) (λ f is. nobody f is) (λ done x mine. absurd (cc)) stays, stays.led)
 
 -- A session returns to its newest savepoint.
 
@@ -302,15 +280,12 @@ rolls-back-sound st st' s before saved w back is agrees =
     let were : e.own.ids ≡ before ++ back.back.since = back.back.ids ∙ ap (λ xs. xs ++ back.back.since) ids in
     let change : Ended st st' s (Some back.now) back.back.since Aborted = record { settings = back.settings; pages = back.back.pages; indexes = back.back.indexes; max_pages = back.back.max_pages; sessions = back.sessions; finishes = back.back.finishes; window = back.back.window } in
     let mine : (x : ℕ) → Contains back.back.since x → Contains e.own.ids x = λ x late. subst (λ xs. Contains xs x) (sym were) (Contains-append_right before back.back.since x late) in
-    let stays = aborted-stays st.heap st'.heap (horizon_of st) back.back.since agrees.sound.table
-    (table-finishes st st' s e (Some back.now) back.back.since Aborted (λ e. cc) back.at change less w agrees mine) (since-alone st w agrees s e before back.back.since saved back.at is were) in
-    (Sound-ended st st' s e (Some back.now) back.back.since Aborted (λ e. cc) back.at change less w agrees keeps scans (λ done x among. absurd (cc)) stays, stays.led)
+    let stays = aborted-stays st.heap st'.heap back.back.since agrees.sound.table
+    (table-finishes st st' s e (Some back.now) back.back.since Aborted (λ e. cc) back.at change w agrees mine) (since-alone st w agrees s e before back.back.since saved back.at is were) in
+    (Sound-ended st st' s e (Some back.now) back.back.since Aborted (λ e. cc) back.at change w agrees keeps scans (λ done x among. absurd (cc)) stays, stays.led)
   where
     e : Session
     e = back.session
-
-    less : (f : Session) (y : ℕ) → Some back.now ≡ Some f → Contains (holds_back f) y → Contains (holds_back e) y
-    less f y same among = fewer-back e back.now back.back.since y back.back.returns.isolation back.back.ids (subst (λ (g : Session). Contains (holds_back g) y) (sym (same_Some back.now f same)) among)
 
     scans : (f : Session) → Some back.now ≡ Some f → SessionScans st.heap.statuses st.heap.indexes f
     scans f same = subst (SessionScans st.heap.statuses st.heap.indexes) (same_Some back.now f same)

@@ -1,5 +1,5 @@
 -- The reply to each step of the engine follows the history.
-use Rattle.std.proofs.Common.{◌≡◌, ℕ, zero, suc, ◌<◌, ◌≤◌, List, [], ◌∷◌, ◌++◌, length, set, Option, Some, None, Bool, true, false, refl, sym, ap, ◌∙◌, subst, ◌⊎◌, inl, inr, arith}
+use Rattle.std.proofs.Common.{◌≡◌, ℕ, zero, suc, ◌<◌, List, [], ◌∷◌, ◌++◌, length, set, Option, Some, None, Bool, true, false, refl, sym, ap, ◌∙◌, subst, ◌⊎◌, inl, inr, arith}
 use Rattle.std.proofs.Math.ListN.{length-set}
 use Rattle.std.specs.Prelude.{Contains, IsSome}
 use Rattle.std.specs.Option.{option_map}
@@ -7,7 +7,6 @@ use Rattle.std.proofs.lemmas.Option.{same_Some, none-some}
 use Rattle.xid_circle.proofs.Members.{Contains-none}
 use Rattle.page_slots.specs.declared.slot.Slot.{Slot}
 use Rattle.page_slots.specs.declared.slot.Slot.TheVariants.{Unused, Normal, Redirect, Dead}
-use Rattle.commit_status.specs.Window.{IsUpToNext, next_id, turns}
 use Rattle.snapshot.specs.Own.{AreDistinct}
 use Rattle.heap_pages.specs.View.{PagesView}
 use Rattle.visibility.proofs.Makers.{active-to}
@@ -16,12 +15,10 @@ use Rattle.sound_entries.specs.Entries.{MayBeTarget, same_version, led_on, died}
 use Rattle.sound_entries.specs.Entries as entries
 use Rattle.index_lookup.specs.Pages as lists
 use Rattle.table_indexes.specs.Indexes.{since_at}
-use Rattle.table_integrity.specs.Table.{SoundTable}
 use Rattle.table_integrity.proofs.InUse.{used-by}
-use Rattle.table_integrity.proofs.Keeping.{later-stays-sound}
 use Rattle.commit_status.specs.declared.status.Status.{Status}
 use Rattle.commit_status.specs.declared.status.Status.TheVariants.{Committed, Aborted}
-use Rattle.snapshot.specs.Snap.{Snap, earliest}
+use Rattle.snapshot.specs.Snap.{Snap}
 use Rattle.heap_write.specs.Heap.{slots_of}
 use Rattle.history.specs.World.{World}
 use Rattle.calls.specs.declared.step.Step.{Step}
@@ -47,7 +44,7 @@ use Rattle.session_steps.specs.declared.session.Session.{Session}
 use Rattle.session_steps.specs.declared.session.SessionIsolation.{SessionIsolation}
 use Rattle.session_steps.specs.declared.session.SessionIsolation.TheVariants.{BySnapshot, ByStatement}
 use Rattle.visibility.specs.Visible.{state_of}
-use Rattle.session_steps.specs.State.{State, session_at, put_session, seen, position_of, reader_of, isolation_seen, kept_by, IsByStatement, is_too_new, failed_session, holds_back, held_back, horizon_of, engine_sessions}
+use Rattle.session_steps.specs.State.{State, session_at, put_session, seen, position_of, reader_of, isolation_seen, kept_by, IsByStatement, is_too_new, failed_session, holds_back, held_back, engine_sessions}
 use Rattle.session_steps.specs.Keeps.{open_at}
 use Rattle.sound_entries.specs.Since.{MayScanSince}
 use Rattle.session_steps.specs.Agrees.{Agrees, Sound, Follows, SessionKeeps, SessionScans, KeepsAllTargets, NotesHold, FollowsByNotes}
@@ -66,7 +63,6 @@ use Rattle.session_steps.proofs.OwnIdsLemmas.{open-within, open-set_cases}
 use Rattle.session_steps.proofs.StateLemmas.{only-set}
 use Rattle.session_steps.proofs.Windows.{Finishes-from, SameSight-finish, decided}
 use Rattle.session_steps.proofs.Owns.{reader-is, now_taken, taken-fresh, taken-within}
-use Rattle.session_steps.proofs.Horizons.{back-cases, held-in, horizon-above, horizon-next, horizon-low, horizon-upto, upto-horizon, taken-late}
 use Rattle.session_steps.proofs.Ends.{commits-sound, aborts-sound}
 
 -- the pages and the entries stay as they are
@@ -171,8 +167,7 @@ Sound-opens st w s e within snapshot none_kept ids saved bare agrees = record {
     by_snapshot = λ n snap reads may. subst (MayScanSince st.heap.statuses (since_at st.heap.indexes n)) (sym (snapshot snap (ap kept_by reads))) (now-scans st w agrees n).may;
     cursor = no-cursor st.heap.statuses st.heap.indexes e.isolation e.cursor bare;
   }) agrees.sound.scans;
-  table = later-stays-sound st.heap (horizon_of st) (horizon_of (put_session st s (Some e))) agrees.sound.table agrees.sound.window (upto-horizon st w agrees)
-      (horizon-upto st.heap.statuses (set st.sessions s (Some e)) agrees.sound.window (held-then held-upto)) later-then;
+  table = agrees.sound.table;
 }
   where
     mine : SessionKeeps st.heap.statuses e
@@ -186,29 +181,6 @@ Sound-opens st w s e within snapshot none_kept ids saved bare agrees = record {
 
     within' : s < length st.sessions
     within' = (let count = agrees.sound.count in omega arith)
-
-    -- what holds of what others hold back, and of the xmin of a snapshot of this moment, holds of all that is held back then
-    held-then : {P : ℕ → Type 0} → ((o : ℕ) (f : Session) (y : ℕ) → session_at st o ≡ Some f → Contains (holds_back f) y → P y) × P (now_taken st).xmin
-        → (o : ℕ) (f : Session) (y : ℕ) → open_at (set st.sessions s (Some e)) o ≡ Some f → Contains (holds_back f) y → P y
-    held-then {P} h o f y bt among = elim (open-set_cases st.sessions s o (Some e) f within' bt) [
-      | inr other ↦ h.0 o f y other.1 among
-      | inl same ↦ (let is : f ≡ e = sym (same_Some e f same.1) in
-          elim (back-cases e y (subst (λ (g : Session). Contains (holds_back g) y) is among)) [
-            | inl kept ↦ subst P (ap (λ (s : Snap). s.xmin) (sym (snapshot kept.snap kept.kept)) ∙ kept.is_xmin) h.1
-            | inr own ↦ absurd (Contains-none y (subst (λ xs. Contains xs y) ids own))
-          ])
-    ]
-
-    held-upto : ((o : ℕ) (f : Session) (y : ℕ) → session_at st o ≡ Some f → Contains (holds_back f) y → IsUpToNext st.heap.statuses y) × IsUpToNext st.heap.statuses (now_taken st).xmin
-    held-upto = (held-in st w agrees, (taken-within st w agrees).bounds.xmin)
-
-    later-then : turns st.heap.statuses.first (horizon_of st) ≤ turns st.heap.statuses.first (horizon_of (put_session st s (Some e)))
-    later-then = horizon-above st.heap.statuses (set st.sessions s (Some e)) (turns st.heap.statuses.first (horizon_of st)) agrees.sound.window (held-then held-upto)
-        (horizon-next st.heap.statuses st.sessions agrees.sound.window (held-in st w agrees))
-        (held-then (
-          (λ o f y bt among. horizon-low st.heap.statuses st.sessions o f y agrees.sound.window (held-in st w agrees) bt among),
-          taken-late st w agrees,
-        ))
 
 -- of the sessions that readers see, one opens
 only-opens : (st st' : State) (w : World) (s : ℕ) (i : SessionIsolation) → s < 64 → (opens : Opens st st' s i) → Agrees st w
@@ -327,9 +299,9 @@ same-back (Some f ∷ xs) zero e now at same = ap (λ back. back ++ held_back xs
 same-back (None ∷ xs) (suc s) e now at same = same-back xs s e now at same
 same-back (Some f ∷ xs) (suc s) e now at same = ap (λ ys. holds_back f ++ ys) (same-back xs s e now at same)
 
--- a session becomes another, with the same snapshot and first id
-pub Sound-put : (st : State) (s : ℕ) (e now : Session) → session_at st s ≡ Some e → holds_back now ≡ holds_back e → SessionKeeps st.heap.statuses now → SessionScans st.heap.statuses st.heap.indexes now → Sound st → Sound (put_session st s (Some now))
-Sound-put st s e now at same keeps scans sound = record {
+-- a session becomes another
+pub Sound-put : (st : State) (s : ℕ) (e now : Session) → session_at st s ≡ Some e → SessionKeeps st.heap.statuses now → SessionScans st.heap.statuses st.heap.indexes now → Sound st → Sound (put_session st s (Some now))
+Sound-put st s e now at keeps scans sound = record {
   count = length-set st.sessions s (Some now) ∙ sound.count;
   max_pages = sound.max_pages;
   stop_age = sound.stop_age;
@@ -342,14 +314,14 @@ Sound-put st s e now at same keeps scans sound = record {
   by_key = sound.by_key;
   since = sound.since;
   scans = scans-put st.heap.statuses st.heap.indexes st.sessions s now (open-within st.sessions s e at) scans sound.scans;
-  table = subst (λ back. SoundTable st.heap (earliest (next_id st.heap.statuses) back)) (sym (same-back st.sessions s e now at same)) sound.table;
+  table = sound.table;
 }
 
 pub Sound-fails : (st : State) (s : ℕ) (e : Session) → session_at st s ≡ Some e → Sound st → Sound (put_session st s (option_map failed_session (session_at st s)))
 Sound-fails st s e at sound =
     let h = sound.sessions s e at in
     subst (λ o. Sound (put_session st s (option_map failed_session o))) (sym at)
-    (Sound-put st s e (failed_session e) at refl (record { snapshot = h.snapshot; for_cursor = h.for_cursor; topmost = h.topmost; prefixes = h.prefixes; distinct = h.distinct }) (scans-as st.heap.statuses st.heap.indexes e (failed_session e) refl refl refl (sound.scans s e at)) sound)
+    (Sound-put st s e (failed_session e) at (record { snapshot = h.snapshot; for_cursor = h.for_cursor; topmost = h.topmost; prefixes = h.prefixes; distinct = h.distinct }) (scans-as st.heap.statuses st.heap.indexes e (failed_session e) refl refl refl (sound.scans s e at)) sound)
 
 -- where what is noted of the pages holds, a cursor too follows the history
 pub by-notes : (old : State) (step : Step) (r : Reply) (new : State) → FollowsByNotes old step r new → NotesHold old → Follows old step r new

@@ -1,16 +1,16 @@
 -- A session writes under the id of its newest level, or under a new one: what that keeps, whatever it writes.
-use Rattle.std.proofs.Common.{◌≡◌, ℕ, ◌≤◌, List, [], ◌∷◌, ◌++◌, length, set, take, Option, Some, None, slice_get, refl, sym, ap, ◌∙◌, subst, ◌⊎◌, inl, inr, append_assoc, arith}
+use Rattle.std.proofs.Common.{◌≡◌, ℕ, List, [], ◌∷◌, ◌++◌, length, set, Option, Some, None, slice_get, refl, sym, ap, ◌∙◌, subst, ◌⊎◌, inl, inr, append_assoc, arith}
 use Rattle.std.proofs.Math.ListN.{length-set}
 use Rattle.std.specs.Prelude.{Contains}
 use Rattle.std.specs.Option.{option_map}
 use Rattle.std.proofs.lemmas.Bool.{cases_eq}
 use Rattle.std.proofs.lemmas.Option.{same_Some, none-some}
 use Rattle.std.proofs.lemmas.List.{append-nil}
-use Rattle.std.proofs.lemmas.List.Elements.{Contains-append_left, Contains-append_cases}
+use Rattle.std.proofs.lemmas.List.Elements.{Contains-append_cases}
 use Rattle.xid_circle.proofs.Members.{Contains-none}
 use Rattle.page_slots.specs.declared.slot.Slot.{Slot}
-use Rattle.commit_status.specs.Window.{Window, IsWindow, IsActive, IsCommitted, IsGiven, IsGivenBefore, IsUpToNext, next_id, top_of, turns, place}
-use Rattle.commit_status.proofs.Places.{upto-given, place-lt, some-from_is, is-from_some}
+use Rattle.commit_status.specs.Window.{Window, IsWindow, IsActive, IsCommitted, IsGiven, IsGivenBefore, IsUpToNext, top_of, place}
+use Rattle.commit_status.proofs.Places.{place-lt, some-from_is, is-from_some}
 use Rattle.commit_status.proofs.Ancestors.{top-same}
 use Rattle.commit_status.proofs.Giving.{finished-place}
 use Rattle.snapshot.specs.Own.{Own, ArePrefixes, AreDistinct, unassigned_levels, current_xid, saved_with_each}
@@ -23,11 +23,10 @@ use Rattle.heap_write.specs.Heap.{HeapView, SameIds}
 use Rattle.heap_write.specs.Writes.{GivesUnder, TakesIds}
 use Rattle.forgetting.specs.Truncating.{IsWellTopped}
 use Rattle.forgetting.proofs.WellTopped.{before-place}
-use Rattle.heap_write.proofs.GivenIds.{given-window, given-place, given-earlier, given-first, given-next, given-upto, given-status, given-top_old, given-active, given-new, given-distinct, given-top, given-top_first, given-late}
-use Rattle.table_integrity.specs.Table.{SoundTable, StaysSoundTable}
+use Rattle.heap_write.proofs.GivenIds.{given-window, given-place, given-earlier, given-first, given-status, given-top_old, given-new, given-distinct, given-top, given-top_first}
+use Rattle.table_integrity.specs.Table.{StaysSoundTable}
 use Rattle.session_steps.proofs.InUse.{scans-still, scans-as, scans-put}
 use Rattle.table_indexes.specs.Indexes.{since_at}
-use Rattle.table_integrity.proofs.Keeping.{later-stays-sound}
 use Rattle.history.specs.World.{World}
 use Rattle.refinement.specs.Heap as relation
 use Rattle.refinement.specs.Agrees as theory
@@ -40,7 +39,7 @@ use Rattle.refinement.proofs.Follows.{Agrees-sessions}
 use Rattle.refinement.proofs.Sights.{Agrees-sights}
 use Rattle.session_steps.specs.declared.session.Session.{Session}
 use Rattle.visibility.specs.Visible.{state_of}
-use Rattle.session_steps.specs.State.{State, session_at, seen, seen_in, reader_of, kept_by, kept_xmin, holds_back, horizon_of}
+use Rattle.session_steps.specs.State.{State, session_at, seen, seen_in, reader_of, kept_by}
 use Rattle.session_steps.specs.Keeps.{open_at, OwnIdsKeep, EngineKeeps}
 use Rattle.session_steps.specs.Agrees.{Agrees, Sound, SessionKeeps, SessionScans}
 use Rattle.sound_entries.specs.Since.{IsExactSince}
@@ -51,8 +50,6 @@ use Rattle.session_steps.proofs.StateLemmas.{only-set}
 use Rattle.session_steps.proofs.Windows.{GivesEach-from, SameSight-given, in-window-given, unseen-given}
 use Rattle.session_steps.proofs.Owns.{reader-is}
 use Rattle.session_steps.proofs.Statements.{for-same, kept-at}
-use Rattle.session_steps.proofs.Returning.{same-holds}
-use Rattle.session_steps.proofs.Horizons.{IsHeldIn, contains-first, own-back, held-in, horizon-above, horizon-next, horizon-low, horizon-upto, upto-horizon}
 
 -- the state after a write: another heap, and another session in its place
 abbrev pub with_write : State → HeapView → ℕ → Session → State
@@ -225,33 +222,9 @@ since-given (x ∷ xs) w v parent since is gives exact =
 
 -- The engine after a write, or after one that failed.
 
--- what holds of all that is held back, and of what the session holds back now, holds of all that is held back then
-held-then : {P : ℕ → Type 0} (xs : List (Option Session)) (s : ℕ) (e e' : Session) → open_at xs s ≡ Some e → ((o : ℕ) (f : Session) (y : ℕ) → open_at xs o ≡ Some f → Contains (holds_back f) y → P y)
-    → ((y : ℕ) → Contains (holds_back e') y → P y) → (o : ℕ) (f : Session) (y : ℕ) → open_at (set xs s (Some e')) o ≡ Some f → Contains (holds_back f) y → P y
-held-then xs s e e' at all mine o f y bt among = elim (open-set_cases xs s o (Some e') f (open-within xs s e at) bt) [
-  | inl same ↦ mine y (subst (λ (g : Session). Contains (holds_back g) y) (sym (same_Some e' f same.1)) among)
-  | inr other ↦ all o f y other.1 among
-]
-
 module _ (st : State) (w : World) (h : HeapView) (s : ℕ) (e e' : Session) (at : session_at st s ≡ Some e) (agrees : Agrees st w) where
-  -- whatever the session holds back now is in the window, and not before the horizon
-  pub later-sound : IsWindow h.statuses → h.statuses.first ≡ st.heap.statuses.first → turns st.heap.statuses.first (next_id st.heap.statuses) ≤ turns st.heap.statuses.first (next_id h.statuses)
-      → ((y : ℕ) → IsUpToNext st.heap.statuses y → IsUpToNext h.statuses y)
-      → ((y : ℕ) → Contains (holds_back e') y → IsUpToNext h.statuses y × (turns st.heap.statuses.first (horizon_of st) ≤ turns st.heap.statuses.first y))
-      → SoundTable h (horizon_of st) → SoundTable h (horizon_of (with_write st h s e'))
-  later-sound window first next upto mine sound =
-      later-stays-sound h (horizon_of st) (horizon_of (with_write st h s e')) sound window (upto (horizon_of st) (upto-horizon st w agrees))
-      (horizon-upto h.statuses (set st.sessions s (Some e')) window held) (horizon-above h.statuses (set st.sessions s (Some e')) (turns h.statuses.first (horizon_of st)) window held
-      (subst (λ first. turns first (horizon_of st) ≤ turns first (next_id h.statuses)) (sym first) (let low = horizon-next st.heap.statuses st.sessions agrees.sound.window (held-in st w agrees) in omega arith))
-      (subst (λ first. (o : ℕ) (f : Session) (y : ℕ) → open_at (set st.sessions s (Some e')) o ≡ Some f → Contains (holds_back f) y → turns first (horizon_of st) ≤ turns first y) (sym first)
-      (held-then {P = λ y. turns st.heap.statuses.first (horizon_of st) ≤ turns st.heap.statuses.first y} st.sessions s e e' at
-      (λ o f y bt among. horizon-low st.heap.statuses st.sessions o f y agrees.sound.window (held-in st w agrees) bt among) (λ y among. (mine y among).1))))
-    where
-      held : IsHeldIn h.statuses (set st.sessions s (Some e'))
-      held = held-then {P = λ y. IsUpToNext h.statuses y} st.sessions s e e' at (λ o f y bt among. upto y (held-in st w agrees o f y bt among)) (λ y among. (mine y among).0)
-
   -- the session's ids stay
-  pub Sound-kept : SameSession e e' → SameIds st.heap.statuses h.statuses → h.max_pages ≡ st.heap.max_pages → StaysSoundTable st.heap h (horizon_of st) → Sound (with_write st h s e')
+  pub Sound-kept : SameSession e e' → SameIds st.heap.statuses h.statuses → h.max_pages ≡ st.heap.max_pages → StaysSoundTable st.heap h → Sound (with_write st h s e')
   Sound-kept same ids limit stays =
       let sound = stays.sound in
       let is = spared-is st.heap.statuses h.statuses ids in
@@ -272,14 +245,11 @@ module _ (st : State) (w : World) (h : HeapView) (s : ℕ) (e e' : Session) (at 
             (scans-as h.statuses h.indexes e e' same.isolation same.cursor same.too_new (scans-still statuses h.statuses st.heap.indexes h.indexes ids.first stays.in_use stays.since e (agrees.sound.scans s e at)))
             (λ o f bt. scans-still statuses h.statuses st.heap.indexes h.indexes ids.first stays.in_use stays.since f (agrees.sound.scans o f bt));
         tops = rw is (λ x done. well-spared statuses k x (agrees.sound.tops x done));
-        table = later-sound (rw is (window-spared statuses k agrees.sound.window)) ids.first (subst (λ n. turns statuses.first (next_id statuses) ≤ turns statuses.first n) (sym (ap next_id is)) (omega arith))
-            (λ y upto. rw is (upto-spared statuses k y upto))
-            (λ y among. let back : Contains (holds_back e) y = subst (λ xs. Contains xs y) (same-holds e e' same.isolation same.own.ids) among in
-            (rw is (upto-spared statuses k y (held-in st w agrees s e y at back)), horizon-low statuses st.sessions s e y agrees.sound.window (held-in st w agrees) at back)) sound;
+        table = sound;
       }
 
   -- the session has taken ids
-  pub Sound-given : (own : Own) (x : ℕ) → TakesIds st.heap.statuses h.statuses e.own own x → e' ≡ with_own e own → IsWindow h.statuses → h.max_pages ≡ st.heap.max_pages → StaysSoundTable st.heap h (horizon_of st) → Sound (with_write st h s e')
+  pub Sound-given : (own : Own) (x : ℕ) → TakesIds st.heap.statuses h.statuses e.own own x → e' ≡ with_own e own → IsWindow h.statuses → h.max_pages ≡ st.heap.max_pages → StaysSoundTable st.heap h → Sound (with_write st h s e')
   Sound-given own x takes is window limit stays =
       let sound = stays.sound in
       let statuses = st.heap.statuses in
@@ -303,38 +273,8 @@ module _ (st : State) (w : World) (h : HeapView) (s : ℕ) (e e' : Session) (at 
             scans-put h.statuses h.indexes st.sessions s e' (open-within st.sessions s e at)
             (scans-as h.statuses h.indexes e e' (ap (λ (f : Session). f.isolation) is) (ap (λ (f : Session). f.cursor) is) (ap (λ (f : Session). f.too_new) is) (still s e at)) still;
         tops = tops-given takes.given statuses h.statuses parent window takes.gives agrees.sound.tops;
-        table = later-sound window (given-first takes.given statuses h.statuses parent takes.gives) (given-next takes.given statuses h.statuses parent takes.gives window)
-            (λ y upto. given-upto takes.given statuses h.statuses parent y takes.gives upto) (mine-then own x takes is window) sound;
+        table = sound;
       }
-    where
-      -- the first of the ids is held back: it was there, or is new
-      first-cases : (ids xs : List ℕ) (y : ℕ) → Contains (take 1 (ids ++ xs)) y → Contains (take 1 ids) y ⊎ Contains xs y
-      first-cases [] xs y among = inr (contains-first xs y among)
-      first-cases (z ∷ ids) xs y among = inl among
-
-      old-then : (own : Own) (x y : ℕ) → TakesIds st.heap.statuses h.statuses e.own own x → Contains (holds_back e) y → IsUpToNext h.statuses y × (turns st.heap.statuses.first (horizon_of st) ≤ turns st.heap.statuses.first y)
-      old-then own x y takes back = (
-        given-upto takes.given st.heap.statuses h.statuses (current_xid e.own.ids e.own.saved) y takes.gives (held-in st w agrees s e y at back),
-        horizon-low st.heap.statuses st.sessions s e y agrees.sound.window (held-in st w agrees) at back,
-      )
-
-      mine-then : (own : Own) (x : ℕ) → TakesIds st.heap.statuses h.statuses e.own own x → e' ≡ with_own e own → IsWindow h.statuses
-          → (y : ℕ) → Contains (holds_back e') y → IsUpToNext h.statuses y × (turns st.heap.statuses.first (horizon_of st) ≤ turns st.heap.statuses.first y)
-      mine-then own x takes is window y among =
-          let statuses = st.heap.statuses in
-          let parent = current_xid e.own.ids e.own.saved in
-          let xmin = kept_xmin (kept_by e.isolation) in
-          let back : Contains (xmin ++ take 1 own.ids) y = subst (λ (f : Session). Contains (holds_back f) y) is among in
-          elim (Contains-append_cases xmin (take 1 own.ids) y back) [
-            | inl here ↦ old-then own x y takes (Contains-append_left xmin (take 1 e.own.ids) y here)
-            | inr first ↦ elim (first-cases e.own.ids takes.given y (subst (λ ids. Contains (take 1 ids) y) takes.ids first)) [
-              | inl old ↦ old-then own x y takes (own-back e y old)
-              | inr new ↦ (
-                upto-given h.statuses y (given-active takes.given statuses h.statuses parent y takes.gives window new).is_given,
-                (let late = given-late takes.given statuses h.statuses parent y takes.gives window new in let next = horizon-next statuses st.sessions agrees.sound.window (held-in st w agrees) in omega arith),
-              )
-            ]
-          ]
 
 -- What readers see of a session that takes ids.
 

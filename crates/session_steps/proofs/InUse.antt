@@ -23,13 +23,13 @@ use Rattle.table_scans.specs.declared.progress.CursorScan.{CursorScan}
 use Rattle.table_scans.specs.declared.progress.CursorScan.TheVariants.{Rows}
 use Rattle.table_scans.specs.declared.progress.Scan.TheVariants.{Index}
 use Rattle.session_steps.specs.Keeps.{open_at}
-use Rattle.session_steps.specs.State.{State, horizon_of, seen, reader_of, kept_by, is_too_new}
+use Rattle.session_steps.specs.State.{State, seen, reader_of, kept_by, is_too_new}
 use Rattle.session_steps.specs.Agrees.{Sound, Agrees, SessionScans}
 use Rattle.session_steps.proofs.OwnIdsLemmas.{open-within, open-set_cases}
 
 -- the primary index is
-pub by-key : (st : State) → Sound st → EntriesAreSound key_value None st.heap.statuses (horizon_of st) (slots_of st.heap) (entries_in st.heap.indexes 0)
-by-key st sound = index-sound st.heap (horizon_of st) sound.table 0 sound.by_key
+pub by-key : (st : State) → Sound st → EntriesAreSound key_value None st.heap.statuses (slots_of st.heap) (entries_in st.heap.indexes 0)
+by-key st sound = index-sound st.heap sound.table 0 sound.by_key
 
 pub used-still : (indexes : IndexesView) (n : ℕ) → IsInUse indexes n ↔ IsInUse indexes n
 used-still indexes n = (λ used. used, λ used. used)

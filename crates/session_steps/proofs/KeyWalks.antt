@@ -112,12 +112,12 @@ module _ (st : State) (w : World) (s : ℕ) (e : Session) (agrees : Agrees st w)
   by_key : IsScanned st e 0
   by_key = record { used = agrees.sound.by_key; unexcused = λ t none. absurd none }
 
-  sound-by_key : EntriesAreSound (value_in 0) None st.heap.statuses (horizon_of st) (page_slots_of st.heap.pages) (entries_in st.heap.indexes 0)
-  sound-by_key = index-sound st.heap (horizon_of st) agrees.sound.table 0 agrees.sound.by_key
+  sound-by_key : EntriesAreSound (value_in 0) None st.heap.statuses (page_slots_of st.heap.pages) (entries_in st.heap.indexes 0)
+  sound-by_key = index-sound st.heap agrees.sound.table 0 agrees.sound.by_key
 
   key-shown : NotesHold st → (value : ℤ) (key : ℕ) → ShowsFor st e value key → (row : Row) × SeesRow st e 0 value key row
   key-shown hold value key shows =
-      let h = shows-on_heap (value_in 0) None st.heap.statuses (horizon_of st) st.heap.pages (entries_in st.heap.indexes 0) (cursor_snapshot st.heap.statuses e.isolation) e.own.ids sound-by_key
+      let h = shows-on_heap (value_in 0) None st.heap.statuses st.heap.pages (entries_in st.heap.indexes 0) (cursor_snapshot st.heap.statuses e.isolation) e.own.ids sound-by_key
       (own-active st w s e agrees at) (λ t none. absurd none) value key (noted-seen st w s e agrees at hold) shows in (
         h.1.row,
         record {
@@ -133,7 +133,7 @@ module _ (st : State) (w : World) (s : ℕ) (e : Session) (agrees : Agrees st w)
 
   row-shows : (value : ℤ) (key : ℕ) (row : Row) → SeesRow st e 0 value key row → ShowsFor st e value key
   row-shows value key row sees =
-      on_heap-shows (value_in 0) None st.heap.statuses (horizon_of st) st.heap.pages (entries_in st.heap.indexes 0) (cursor_snapshot st.heap.statuses e.isolation) e.own.ids sound-by_key
+      on_heap-shows (value_in 0) None st.heap.statuses st.heap.pages (entries_in st.heap.indexes 0) (cursor_snapshot st.heap.statuses e.isolation) e.own.ids sound-by_key
       (own-active st w s e agrees at) (λ t none. absurd none) value key sees.place sees.version (record {
         there = sees.here;
         of_value = ap (value_in 0) sees.same_row ∙ sees.of_value;

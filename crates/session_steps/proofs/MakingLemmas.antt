@@ -20,7 +20,6 @@ use Rattle.index_nodes.specs.declared.entry.Entry.{Entry}
 use Rattle.index_lookup.specs.declared.index_scan.IndexRange.{IndexRange}
 use Rattle.table_indexes.specs.Indexes.{IndexesView, index_at, entries_at, entries_of, since_at, IsInUse}
 use Rattle.heap_write.specs.Heap.{slots_of}
-use Rattle.table_integrity.specs.Table.{SoundTable}
 use Rattle.table_integrity.specs.Making.{AllHaveEnded}
 use Rattle.table_integrity.proofs.Making.{made-sound, made-led, made-since}
 use Rattle.history.specs.World.{World, Isolation, by_snapshot, by_statement, LacksIndex}
@@ -159,7 +158,7 @@ module _ (st st' : State) (w : World) (c : ℕ) (lacks : LacksIndexOn st c) (non
     by_key = other-used 0 (λ same. absurd (omega (arith, same))) agrees.sound.by_key;
     since = made-since st.heap st'.heap c (all-ended st w none agrees) makes.heap agrees.sound.since;
     scans = λ s now at. subst (λ t. SessionScans t st'.heap.indexes now) (sym makes.heap.statuses) (scans-made s now at);
-    table = subst (SoundTable st'.heap) (sym (made-horizon st st' c makes)) (made-sound st.heap st'.heap (horizon_of st) c agrees.sound.table (all-ended st w none agrees) makes.heap);
+    table = made-sound st.heap st'.heap c agrees.sound.table (all-ended st w none agrees) makes.heap;
   }
 
   -- the history's marks are those of the sessions
@@ -197,7 +196,7 @@ module _ (st st' : State) (w : World) (c : ℕ) (lacks : LacksIndexOn st c) (non
       let is : with_index_on w c ≡ with_made_index w (suc c) = ap (λ b. if b then w else with_made_index w (suc c)) lacks-index in (
         f.0,
         subst (Agrees st') (sym is) (record { found = subst (theory.HeapAgrees (seen st')) is f.1; indexes = indexes-made; scans = marks-made; sound = sound-made }),
-        made-led st.heap st'.heap (horizon_of st) c agrees.sound.table makes.heap,
+        made-led st.heap st'.heap c agrees.sound.table makes.heap,
       )
 
 -- Or it is there.

@@ -18,7 +18,7 @@ use Rattle.table_integrity.proofs.Keeping.{nothing-stays}
 use Rattle.history.specs.World.{beginning}
 use Rattle.refinement.proofs.Steps.{Agrees-beginning}
 use Rattle.session_steps.specs.declared.session.Session.{Session}
-use Rattle.session_steps.specs.State.{State, session_at, seen, reader_of, horizon_of}
+use Rattle.session_steps.specs.State.{State, session_at, seen, reader_of}
 use Rattle.session_steps.specs.Agrees.{Agrees}
 use Rattle.sound_entries.specs.Since.{IsExactSince}
 use Rattle.session_steps.proofs.StateLemmas.{none-open}
@@ -60,7 +60,7 @@ Agrees-new st pages index exact entries window max_pages stop_age idle = record 
     by_key = (new-in_use st.heap.indexes st.settings.indexed index 0).1 refl;
     since = λ n. subst (IsExactSince st.heap.statuses) (sym (exact n)) tt;
     scans = λ s e at. absurd (none-some e (sym (closed s) ∙ at));
-    table = nothing-stays st.heap (horizon_of st) pages (new-empty st.heap.indexes st.settings.indexed index);
+    table = nothing-stays st.heap pages (new-empty st.heap.indexes st.settings.indexed index);
   };
 }
   where

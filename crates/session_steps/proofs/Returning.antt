@@ -1,14 +1,13 @@
 -- What the ids of a session keep when it sets a savepoint, returns to one, or releases it.
-use Rattle.std.proofs.Common.{◌≡◌, ℕ, List, [], ◌∷◌, ◌++◌, take, Some, slice_get, refl, sym, ap, ◌∙◌, subst, inl, inr, append_assoc}
+use Rattle.std.proofs.Common.{◌≡◌, ℕ, List, [], ◌∷◌, ◌++◌, Some, slice_get, sym, ap, ◌∙◌, subst, inl, inr, append_assoc}
 use Rattle.std.specs.Prelude.{Contains}
 use Rattle.std.proofs.lemmas.List.{append-nil}
-use Rattle.std.proofs.lemmas.List.Elements.{Contains-append_left, Contains-append_right, Contains-append_cases}
 use Rattle.xid_circle.proofs.Members.{Contains-first, Contains-rest, Contains-cases, Contains-none}
 use Rattle.commit_status.specs.Window.{Window, top_of}
 use Rattle.snapshot.specs.Own.{newest, older, ArePrefixes, AreDistinct}
 use Rattle.snapshot.proofs.Levels.{distinct-prefix}
 use Rattle.session_steps.specs.declared.session.Session.{Session}
-use Rattle.session_steps.specs.State.{kept_by, kept_xmin, holds_back}
+use Rattle.session_steps.specs.State.{kept_by}
 use Rattle.session_steps.specs.Agrees.{SessionKeeps}
 use Rattle.session_steps.specs.Changes.{SetsSavepoint, Returns, Releases}
 use Rattle.session_steps.proofs.Statements.{for-same}
@@ -22,9 +21,6 @@ keeps-ids w e now reads ids cursor prefixes h = record {
   prefixes = subst (λ xs. ArePrefixes xs now.own.saved) (sym ids) prefixes;
   distinct = subst AreDistinct (sym ids) h.distinct;
 }
-
-pub same-holds : (e now : Session) → now.isolation ≡ e.isolation → now.own.ids ≡ e.own.ids → holds_back now ≡ holds_back e
-same-holds e now reads ids = rw (reads, ids) refl
 
 pub keeps-saved : (w : Window) (e now : Session) → SetsSavepoint e now → SessionKeeps w e → SessionKeeps w now
 keeps-saved w e now sets h = keeps-ids w e now sets.isolation sets.ids sets.cursor (subst (λ saved. ArePrefixes e.own.ids saved) (sym sets.saved) ([], sym (append-nil e.own.ids), h.prefixes)) h
@@ -64,14 +60,3 @@ keeps-returned w e now before since saved returns ids is h = record {
       rw (now-ids, returns.saved, is) ([], sym (append-nil before), below.2);
   distinct = distinct-prefix e.own.ids now.own.ids since h.distinct ids;
 }
-
--- no more is held back
-pub fewer-back : (e now : Session) (since : List ℕ) (y : ℕ) → now.isolation ≡ e.isolation → e.own.ids ≡ now.own.ids ++ since → Contains (holds_back now) y → Contains (holds_back e) y
-fewer-back e now since y reads ids among = elim (Contains-append_cases (kept_xmin (kept_by now.isolation)) (take 1 now.own.ids) y among) [
-  | inl here ↦ Contains-append_left (kept_xmin (kept_by e.isolation)) (take 1 e.own.ids) y (subst (λ i. Contains (kept_xmin (kept_by i)) y) reads here)
-  | inr own ↦ Contains-append_right (kept_xmin (kept_by e.isolation)) (take 1 e.own.ids) y (subst (λ xs. Contains (take 1 xs) y) (sym ids) (first-of now.own.ids own))
-]
-  where
-    first-of : (xs : List ℕ) → Contains (take 1 xs) y → Contains (take 1 (xs ++ since)) y
-    first-of [] among = absurd (Contains-none y among)
-    first-of (x ∷ xs) among = among

@@ -33,7 +33,7 @@ use Rattle.session_steps.proofs.OwnIdsLemmas.{open-within}
 use Rattle.session_steps.proofs.StateLemmas.{only-set}
 use Rattle.session_steps.proofs.Windows.{Finishes-from, SameSight-finish}
 use Rattle.session_steps.proofs.Owns.{reader-is}
-use Rattle.session_steps.proofs.Returning.{same-holds, keeps-saved, keeps-released}
+use Rattle.session_steps.proofs.Returning.{keeps-saved, keeps-released}
 use Rattle.session_steps.proofs.Ends.{rolls-back-sound}
 use Rattle.session_steps.proofs.InUse.{SameMarks, used-still, same-used, marks-put, scans-as, agree}
 use Rattle.session_steps.proofs.Follows.{Follows-same, closed_by, free_by, some-position, led-same, Sound-put}
@@ -81,7 +81,7 @@ Follows-savepoint st st' s e at sound bare room now is sets w agrees =
     subst (λ st'. Allows w (step.Savepoint s) reply.Done × Agrees st' (next w (step.Savepoint s) reply.Done) × KeepsAllTargets st st') (sym is) (
       f.0,
       agree agrees (used-still st.heap.indexes) (marks-put st.sessions s e now at sets.too_new) (unmade refl refl) f.1
-          (Sound-put st s e now at (same-holds e now sets.isolation sets.ids) (keeps-saved st.heap.statuses e now sets (agrees.sound.sessions s e at))
+          (Sound-put st s e now at (keeps-saved st.heap.statuses e now sets (agrees.sound.sessions s e at))
           (scans-as st.heap.statuses st.heap.indexes e now sets.isolation sets.cursor sets.too_new (agrees.sound.scans s e at)) agrees.sound),
       led-same st w agrees,
     )
@@ -96,7 +96,7 @@ Follows-release st st' s e before saved at sound bare some now is releases w agr
     subst (λ st'. Allows w (step.Release s) reply.Done × Agrees st' (next w (step.Release s) reply.Done) × KeepsAllTargets st st') (sym is) (
       f.0,
       agree agrees (used-still st.heap.indexes) (marks-put st.sessions s e now at releases.too_new) (unmade refl refl) f.1
-          (Sound-put st s e now at (same-holds e now releases.isolation releases.ids) (keeps-released st.heap.statuses e now releases (agrees.sound.sessions s e at))
+          (Sound-put st s e now at (keeps-released st.heap.statuses e now releases (agrees.sound.sessions s e at))
           (scans-as st.heap.statuses st.heap.indexes e now releases.isolation releases.cursor releases.too_new (agrees.sound.scans s e at)) agrees.sound),
       led-same st w agrees,
     )

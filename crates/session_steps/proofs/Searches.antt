@@ -22,7 +22,7 @@ use Rattle.calls.specs.declared.reply.Refusal.{Refusal}
 use Rattle.calls.specs.declared.reply.Refusal.TheVariants as refusal
 use Rattle.session_steps.specs.declared.session.Session.{Session}
 use Rattle.visibility.specs.Visible.{state_of}
-use Rattle.session_steps.specs.State.{State, session_at, seen, statement_snapshot, position_of, reader_of, horizon_of}
+use Rattle.session_steps.specs.State.{State, session_at, seen, statement_snapshot, position_of, reader_of}
 use Rattle.session_steps.specs.Agrees.{Agrees}
 use Rattle.session_steps.specs.Tests.{FindsPlace, IsLateBy, IsHeldUnder, IsUncontested, ConflictsWrite, RefusesInsertOfKey, RefusesChangeOfKey}
 use Rattle.session_steps.specs.Tests as tests
@@ -58,10 +58,10 @@ FoundIn st e key (Some p) = (t : Version) × IsTarget st e key p t
 
 pub place-to : (st : State) (w : World) (s : ℕ) (e : Session) (key : ℕ) (found : Option Tid) → Agrees st w → session_at st s ≡ Some e → FindsPlace st.heap e key found → FoundIn st e key found
 place-to st w s e key None agrees at finds = λ p v there seen is.
-    place-on_heap key_value None st.heap.statuses (horizon_of st) (slots_of st.heap) (entries_in st.heap.indexes 0) (statement_snapshot st.heap.statuses e.isolation) e.own.ids (by-key st agrees.sound) (own-active st w s e agrees at) (λ t none. absurd none) (pos key) key None finds p v
+    place-on_heap key_value None st.heap.statuses (slots_of st.heap) (entries_in st.heap.indexes 0) (statement_snapshot st.heap.statuses e.isolation) e.own.ids (by-key st agrees.sound) (own-active st w s e agrees at) (λ t none. absurd none) (pos key) key None finds p v
     (record { there = there; of_value = ap (λ n. pos n) is; of_key = is; has = (statement-sees st agrees.sound.window e.isolation e.own.ids v).1 seen })
 place-to st w s e key (Some p) agrees at finds =
-    let h = place-on_heap key_value None st.heap.statuses (horizon_of st) (slots_of st.heap) (entries_in st.heap.indexes 0) (statement_snapshot st.heap.statuses e.isolation) e.own.ids (by-key st agrees.sound) (own-active st w s e agrees at) (λ t none. absurd none) (pos key) key (Some p) finds in
+    let h = place-on_heap key_value None st.heap.statuses (slots_of st.heap) (entries_in st.heap.indexes 0) (statement_snapshot st.heap.statuses e.isolation) e.own.ids (by-key st agrees.sound) (own-active st w s e agrees at) (λ t none. absurd none) (pos key) key (Some p) finds in
     (h.0, record { there = h.1.there; of_key = h.1.of_key; seen = (statement-sees st agrees.sound.window e.isolation e.own.ids h.0).0 h.1.has })
 
 -- the row of a version of the key that the session sees, or what the index leads it to
@@ -72,25 +72,25 @@ pub row-to : (st : State) (w : World) (s : ℕ) (e : Session) (key : ℕ) (found
     → RowOf st e key found
     → FindsOfKey (seen st).version (statement_seen st e) key found
 row-to st w s e key None agrees at finds = λ p v there seen is.
-    found-on_heap key_value None st.heap.statuses (horizon_of st) (slots_of st.heap) (entries_in st.heap.indexes 0) (statement_snapshot st.heap.statuses e.isolation) e.own.ids (by-key st agrees.sound) (own-active st w s e agrees at) (λ t none. absurd none) (pos key) key None finds p v
+    found-on_heap key_value None st.heap.statuses (slots_of st.heap) (entries_in st.heap.indexes 0) (statement_snapshot st.heap.statuses e.isolation) e.own.ids (by-key st agrees.sound) (own-active st w s e agrees at) (λ t none. absurd none) (pos key) key None finds p v
     (record { there = there; of_value = ap (λ n. pos n) is; of_key = is; has = (statement-sees st agrees.sound.window e.isolation e.own.ids v).1 seen })
 row-to st w s e key (Some row) agrees at finds = elim finds [
   | inl by_place ↦ (by_place.place, by_place.version, by_place.there, by_place.of_key, ((statement-sees st agrees.sound.window e.isolation e.own.ids by_place.version).0 by_place.is_seen, by_place.is_row))
   | inr first ↦ (
-      let h = found-on_heap key_value None st.heap.statuses (horizon_of st) (slots_of st.heap) (entries_in st.heap.indexes 0) (statement_snapshot st.heap.statuses e.isolation) e.own.ids (by-key st agrees.sound) (own-active st w s e agrees at) (λ t none. absurd none) (pos key) key (Some row) first in
+      let h = found-on_heap key_value None st.heap.statuses (slots_of st.heap) (entries_in st.heap.indexes 0) (statement_snapshot st.heap.statuses e.isolation) e.own.ids (by-key st agrees.sound) (own-active st w s e agrees at) (λ t none. absurd none) (pos key) key (Some row) first in
       (h.0, h.1, h.2.there, h.2.of_key, ((statement-sees st agrees.sound.window e.isolation e.own.ids h.1).0 h.2.has, h.3)))
 ]
 
 pub late-to : (st : State) (w : World) (e : Session) (key x : ℕ) → Agrees st w → IsLateBy st.heap e key x → IsLateFor (seen st) (reader_of e) key
 late-to st w e key x agrees late =
-    let h = (newer_commit-on_heap key_value st.heap.statuses (horizon_of st) (slots_of st.heap) (entries_in st.heap.indexes 0) (statement_snapshot st.heap.statuses e.isolation) x (by-key st agrees.sound) (pos key) key).0 late in
+    let h = (newer_commit-on_heap key_value st.heap.statuses (slots_of st.heap) (entries_in st.heap.indexes 0) (statement_snapshot st.heap.statuses e.isolation) x (by-key st agrees.sound) (pos key) key).0 late in
     (h.0, h.1, h.2.there, h.2.of_key, (statement-misses st agrees.sound.window e.isolation h.1).0 (x, h.2.has))
 
 pub not-late : (st : State) (w : World) (e : Session) (key : ℕ) → Agrees st w → ((x : ℕ) → ¬ IsLateBy st.heap e key x) → ¬ IsLateFor (seen st) (reader_of e) key
 not-late st w e key agrees timely some =
     let missed = (statement-misses st agrees.sound.window e.isolation some.1).1 some.4 in
     let x = missed.0 in
-    timely x ((newer_commit-on_heap key_value st.heap.statuses (horizon_of st) (slots_of st.heap) (entries_in st.heap.indexes 0) (statement_snapshot st.heap.statuses e.isolation) x (by-key st agrees.sound) (pos key) key).1 (
+    timely x ((newer_commit-on_heap key_value st.heap.statuses (slots_of st.heap) (entries_in st.heap.indexes 0) (statement_snapshot st.heap.statuses e.isolation) x (by-key st agrees.sound) (pos key) key).1 (
       some.0,
       some.1,
       record {
@@ -107,12 +107,12 @@ held-active h e key x held = active-to h.statuses x held.at.some.has.active
 
 pub held-to : (st : State) (w : World) (e : Session) (key x : ℕ) → Agrees st w → IsHeldUnder st.heap e key x → IsHeldBy (seen st) (reader_of e) key x
 held-to st w e key x agrees held =
-    let h = (other_writer-on_heap key_value st.heap.statuses (horizon_of st) (slots_of st.heap) (entries_in st.heap.indexes 0) e.own.ids x (by-key st agrees.sound) (pos key) key).0 held in
+    let h = (other_writer-on_heap key_value st.heap.statuses (slots_of st.heap) (entries_in st.heap.indexes 0) e.own.ids x (by-key st agrees.sound) (pos key) key).0 held in
     (h.0, h.1, h.2.there, h.2.of_key, h.2.has)
 
 held-from : (st : State) (w : World) (e : Session) (key x : ℕ) → Agrees st w → IsHeldBy (seen st) (reader_of e) key x → IsHeldUnder st.heap e key x
 held-from st w e key x agrees some =
-    (other_writer-on_heap key_value st.heap.statuses (horizon_of st) (slots_of st.heap) (entries_in st.heap.indexes 0) e.own.ids x (by-key st agrees.sound) (pos key) key).1 (
+    (other_writer-on_heap key_value st.heap.statuses (slots_of st.heap) (entries_in st.heap.indexes 0) e.own.ids x (by-key st agrees.sound) (pos key) key).1 (
       some.0,
       some.1,
       record {

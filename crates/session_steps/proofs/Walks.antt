@@ -29,7 +29,7 @@ use Rattle.refinement.specs.Cursors.{IsPastPosition, IsAhead, Comes}
 use Rattle.refinement.specs.Cursors as cursors
 use Rattle.session_steps.proofs.Scanning.{IsScanned}
 use Rattle.session_steps.specs.declared.session.Session.{Session}
-use Rattle.session_steps.specs.State.{State, session_at, seen, cursor_snapshot, seen_position, horizon_of}
+use Rattle.session_steps.specs.State.{State, session_at, seen, cursor_snapshot, seen_position}
 use Rattle.session_steps.specs.Agrees.{Agrees}
 use Rattle.session_steps.proofs.AtCursor.{seen_by}
 use Rattle.session_steps.proofs.Statements.{cursor-sees}
@@ -125,12 +125,12 @@ pub record HasEntry (st : State) (index : ℕ) (row : Row) : Type 0 where
   pub key : row.key ≡ entry.key
 
 module _ (st : State) (w : World) (s : ℕ) (e : Session) (agrees : Agrees st w) (at : session_at st s ≡ Some e) (index : ℕ) (scans : IsScanned st e index) where
-  sound-in : EntriesAreSound (value_in index) (since_at st.heap.indexes index) st.heap.statuses (horizon_of st) (slots_of st.heap) (entries_in st.heap.indexes index)
-  sound-in = index-sound st.heap (horizon_of st) agrees.sound.table index scans.used
+  sound-in : EntriesAreSound (value_in index) (since_at st.heap.indexes index) st.heap.statuses (slots_of st.heap) (entries_in st.heap.indexes index)
+  sound-in = index-sound st.heap agrees.sound.table index scans.used
 
   row-shown : (value : ℤ) (key : ℕ) (row : Row) → FindsBy st e index value key (Some row) → SeesRow st e index value key row
   row-shown value key row finds =
-      let h = found-on_heap (value_in index) (since_at st.heap.indexes index) st.heap.statuses (horizon_of st) (slots_of st.heap) (entries_in st.heap.indexes index) (cursor_snapshot st.heap.statuses e.isolation) e.own.ids sound-in (own-active st w s e agrees at) scans.unexcused value key (Some row) finds in
+      let h = found-on_heap (value_in index) (since_at st.heap.indexes index) st.heap.statuses (slots_of st.heap) (entries_in st.heap.indexes index) (cursor_snapshot st.heap.statuses e.isolation) e.own.ids sound-in (own-active st w s e agrees at) scans.unexcused value key (Some row) finds in
       record {
         place = h.0;
         version = h.1;
@@ -143,7 +143,7 @@ module _ (st : State) (w : World) (s : ℕ) (e : Session) (agrees : Agrees st w)
 
   none-shown : (value : ℤ) (key : ℕ) (row : Row) → FindsBy st e index value key None → SeesRow st e index value key row → ⊥
   none-shown value key row finds shows =
-      found-on_heap (value_in index) (since_at st.heap.indexes index) st.heap.statuses (horizon_of st) (slots_of st.heap) (entries_in st.heap.indexes index) (cursor_snapshot st.heap.statuses e.isolation) e.own.ids sound-in (own-active st w s e agrees at) scans.unexcused value key None finds
+      found-on_heap (value_in index) (since_at st.heap.indexes index) st.heap.statuses (slots_of st.heap) (entries_in st.heap.indexes index) (cursor_snapshot st.heap.statuses e.isolation) e.own.ids sound-in (own-active st w s e agrees at) scans.unexcused value key None finds
       shows.place shows.version (record {
         there = shows.here;
         of_value = ap (value_in index) shows.same_row ∙ shows.of_value;
@@ -153,7 +153,7 @@ module _ (st : State) (w : World) (s : ℕ) (e : Session) (agrees : Agrees st w)
 
   pub has-entry : (p : Tid) (v : Version) → At (seen st).version p v → seen_by st e v → HasEntry st index v.row
   has-entry p v here shown =
-      let i = (visible-found (value_in index) (since_at st.heap.indexes index) st.heap.statuses (horizon_of st) (slots_of st.heap) (entries_in st.heap.indexes index) sound-in (cursor_snapshot st.heap.statuses e.isolation) e.own.ids (own-active st w s e agrees at) scans.unexcused (value_in index v.row) v.row.key p v).0
+      let i = (visible-found (value_in index) (since_at st.heap.indexes index) st.heap.statuses (slots_of st.heap) (entries_in st.heap.indexes index) sound-in (cursor_snapshot st.heap.statuses e.isolation) e.own.ids (own-active st w s e agrees at) scans.unexcused (value_in index v.row) v.row.key p v).0
       (record { there = here; of_value = refl; of_key = refl; has = (cursor-sees st agrees.sound.window e.isolation e.own.ids v).1 shown }) in
       record { entry = i.entry; there = i.leads.there; value = sym i.of.0; key = sym i.of.1 }
 

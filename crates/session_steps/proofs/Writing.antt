@@ -62,7 +62,7 @@ free-some st w s key p t may agrees target = free-with st w s may.session key (S
 -- the id under which it wrote is in progress
 now-active : (st : State) (w : World) (s : ℕ) (e : Session) (own : Own) (x : ℕ) → session_at st s ≡ Some e → Agrees st w → {v : Window} → TakesIds st.heap.statuses v e.own own x → IsWindow v → IsActive v x
 now-active st w s e own x at agrees {v} takes window =
-    (given-stays st.heap v (horizon_of st) e.own own x agrees.sound.table agrees.sound.window window
+    (given-stays st.heap v e.own own x agrees.sound.table agrees.sound.window window
     (λ y mine. active-to st.heap.statuses y ((agrees.found.opened s (reader_of e) (reader-is st s e at)).2.own_active y mine)) takes).1
 
 -- All is as it was.
@@ -70,7 +70,7 @@ now-active st w s e own x at agrees {v} takes window =
 module _ (st : State) (w : World) (s : ℕ) (e e' : Session) (at : session_at st s ≡ Some e) (agrees : Agrees st w) (same : SameSession e e') where
   kept : (h : HeapView) (w' : World) → Keeps st.heap h → KeepsScans w w' → theory.HeapAgrees (seen st) w' → Agrees (with_write st h s e') w' × KeepsAllTargets st (with_write st h s e')
   kept h w' keeps had found =
-      let stays = kept-stays st.heap h (horizon_of st) agrees.sound.table keeps in (
+      let stays = kept-stays st.heap h agrees.sound.table keeps in (
         agree agrees stays.in_use (marks-put st.sessions s e e' at same.too_new) had
             (subst (λ slots. theory.HeapAgrees (seen_in slots h.statuses (set st.sessions s (Some e'))) w') (sym (slots-kept st.heap h keeps))
             (found-kept (slots_of st.heap) st.heap.statuses h.statuses st.sessions s e e' w' at same keeps.statuses found))
@@ -83,8 +83,8 @@ module _ (st : State) (w : World) (s : ℕ) (e e' : Session) (at : session_at st
       → Agrees (with_write st h s e') w' × KeepsAllTargets st (with_write st h s e')
   readied ready h place size w' readies keeps had found =
       let first = readied-stays st.heap ready place (horizon_of st) size agrees.sound.table readies in
-      let second = kept-stays ready h (horizon_of st) first.sound keeps in
-      let stays = stays-then st.heap ready h (horizon_of st) agrees.sound.table (ready-come st.heap ready place (horizon_of st) size readies) first second in
+      let second = kept-stays ready h first.sound keeps in
+      let stays = stays-then st.heap ready h agrees.sound.table (ready-come st.heap ready place (horizon_of st) size readies) first second in
       let ids = same-then st.heap.statuses ready.statuses h.statuses (ready-ids readies) keeps.statuses in
       let pruned = (follows.Follows-prune (seen st) 0 (version_in (slots_of ready)) (removes-past st w (version_in (slots_of ready)) place.page agrees (readies-stand st.heap ready place (horizon_of st) size readies)) w' found).1 in (
         agree agrees stays.in_use (marks-put st.sessions s e e' at same.too_new) had
@@ -119,7 +119,7 @@ module _ (st : State) (w : World) (s : ℕ) (text : RowToWrite) (e : Session) (f
   inserted h own x i window =
       let row = row_of text in
       let e' = with_own e own in
-      let stays = inserted-stays st.heap h (horizon_of st) e.own own row x agrees.sound.table (is-writer st w s e h agrees at window) i in
+      let stays = inserted-stays st.heap h e.own own row x agrees.sound.table (is-writer st w s e h agrees at window) i in
       let new = root_version st.heap false x row i.number in
       let still = found-given st w h.statuses s e own x at i.takes_ids window agrees (slots_of st.heap) agrees.found in
       let done = insert_done (seen st) (seen_in (slots_of st.heap) h.statuses (set st.sessions s (Some e'))) w s (reader_of e) (reader_of e') text x (free_place st.heap i.number) new (version_in (slots_of h))
@@ -227,7 +227,7 @@ module _ (st : State) (w : World) (s key : ℕ) (e : Session) (place : Tid) (t :
   deleted h own x d window =
       let e' = with_own e own in
       let may = may-take st w s e key (Some t.row) place t agrees at free target in
-      let stays = deleted-stays st.heap h (horizon_of st) e.own own place t x agrees.sound.table (is-writer st w s e h agrees at window) may d in
+      let stays = deleted-stays st.heap h e.own own place t x agrees.sound.table (is-writer st w s e h agrees at window) may d in
       let still = found-given st w h.statuses s e own x at d.takes_ids window agrees (slots_of st.heap) agrees.found in
       let alters = deletes-stand st.heap h e.own own place x t d target.there in
       let active = now-active st w s e own x at agrees d.takes_ids window in

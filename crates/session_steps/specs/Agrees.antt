@@ -63,8 +63,8 @@ pub record Sound (st : State) : Type 0 where
   -- each always was exact; or it is from an id on that is remembered, or the next, and no id in progress was given before that
   pub since : (n : ℕ) → IsExactSince st.heap.statuses (since_at st.heap.indexes n)
   pub scans : (s : ℕ) (e : Session) → session_at st s ≡ Some e → SessionScans st.heap.statuses st.heap.indexes e
-  -- sound entries, on sound pages, at the present horizon
-  pub table : SoundTable st.heap (horizon_of st)
+  -- sound entries, on sound pages
+  pub table : SoundTable st.heap
 
 pub record Agrees (st : State) (w : World) : Type 0 where
   -- each session reads its view, a new one would read what is committed; same sessions; exact traces

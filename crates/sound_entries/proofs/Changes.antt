@@ -52,9 +52,9 @@ free-unled slots may = ⊎_elim
     not-unused m = ⊎_elim (λ e. cc) (λ e. cc) m
 
 -- nor is it in a chain
-free-unchained : (w : Window) (horizon : ℕ) (slots : List Slot) (root : ℕ) → SoundPage w horizon slots → ¬ IsIn w slots root (free_number slots)
-free-unchained w horizon slots root sound i =
-    let v = chained-version w horizon slots root (free_number slots) sound i in
+free-unchained : (w : Window) (slots : List Slot) (root : ℕ) → SoundPage w slots → ¬ IsIn w slots root (free_number slots)
+free-unchained w slots root sound i =
+    let v = chained-version w slots root (free_number slots) sound i in
     ⊎_elim
     (λ none. none-some (version_at slots (free_number slots)) v.version (ap (option_and_then version_of) none) v.there)
     (λ unused. none-some (version_at slots (free_number slots)) v.version (ap (option_and_then version_of) unused) v.there)
@@ -91,10 +91,10 @@ same-resembles value_of since w slots after root n t i same at = record {
 }
 
 -- a version that was not excused, and stays in its chain
-needed-resembles : (value_of : Row → ℤ) (since : Option ℕ) (w : Window) (horizon : ℕ) (slots after : List Slot) (root n : ℕ) (t : Version) → SoundPage w horizon slots → KeepsEntries w slots after
+needed-resembles : (value_of : Row → ℤ) (since : Option ℕ) (w : Window) (slots after : List Slot) (root n : ℕ) (t : Version) → SoundPage w slots → KeepsEntries w slots after
     → ((u : Version) → version_at slots n ≡ Some u → ¬ IsExcused w since u) → IsIn w slots root n → version_at after n ≡ Some t → Resembles value_of since w w slots root t
-needed-resembles value_of since w horizon slots after root n t sound keeps needed i at =
-    let v = chained-version w horizon slots root n sound i in
+needed-resembles value_of since w slots after root n t sound keeps needed i at =
+    let v = chained-version w slots root n sound i in
     let h = keeps.versions n v.version v.there in
     let row : t.row ≡ v.version.row = ap (λ (z : Version). z.row) (same_Some t h.version (sym at ∙ h.there)) ∙ h.row in
     record {
@@ -117,34 +117,34 @@ stays-replaced w slots after m t u keeps here put row inserter may = (
 
 -- Each step on its page.
 
-adds-page : (value_of : Row → ℤ) (since : Option ℕ) (w : Window) (horizon : ℕ) (slots after : List Slot) → SoundPage w horizon slots → AddsRoot w horizon slots after (free_number slots)
+adds-page : (value_of : Row → ℤ) (since : Option ℕ) (w : Window) (slots after : List Slot) → SoundPage w slots → AddsRoot w slots after (free_number slots)
     → PageGoesOn value_of since w w slots after (λ n. n ≡ free_number slots)
-adds-page value_of since w horizon slots after sound a = record {
+adds-page value_of since w slots after sound a = record {
   stays = λ n may. ⊎_elim
       (λ here. absurd (free-unled slots (subst (λ k. MayBeTarget (slot_at slots k)) here may)))
       (λ other. stays-as (slot_at slots n) (slot_at after n) (a.others n other) may)
       (cases_eq n (free_number slots));
   chains = λ root n t i at. ⊎_elim
       (λ old. inl (same-resembles value_of since w slots after root n t old
-      (a.others n (λ here. free-unchained w horizon slots root sound (subst (λ k. IsIn w slots root k) here old))) at))
+      (a.others n (λ here. free-unchained w slots root sound (subst (λ k. IsIn w slots root k) here old))) at))
       (λ new. inr new.0)
       (a.chains.1 root n i);
 }
 
 -- the chain of a new root is the new version
-own-chain : (value_of : Row → ℤ) (w : Window) (horizon n : ℕ) (slots after : List Slot) (new : Version) → AddsRoot w horizon slots after (free_number slots)
+own-chain : (value_of : Row → ℤ) (w : Window) (n : ℕ) (slots after : List Slot) (new : Version) → AddsRoot w slots after (free_number slots)
     → slot_at after (free_number slots) ≡ Some (Normal new) → (i : ℕ) (t : Version) → IsIn w after (free_number slots) i → version_at after i ≡ Some t
     → IsOf (value_of t.row) t.row.key (entry_for value_of new.row n (free_number slots))
-own-chain value_of w horizon n slots after new a added i t within at = ⊎_elim
+own-chain value_of w n slots after new a added i t within at = ⊎_elim
     (λ was. absurd (free-unled slots (inl (in-root w slots (free_number slots) i was))))
     (λ here.
     let one : t ≡ new = same_Some t new (sym at ∙ ap (version_at after) here.1 ∙ version_at-from_slot_at after (free_number slots) new added) in
     (ap (λ (z : Version). value_of z.row) (sym one), ap (λ (z : Version). z.row.key) (sym one)))
     (a.chains.1 (free_number slots) i within)
 
-takes-page : (value_of : Row → ℤ) (since : Option ℕ) (w : Window) (horizon k x page place : ℕ) (slots : List Slot) → SoundPage w horizon slots → IsDeletable w slots k
-    → SetsXmaxOnPage w horizon slots (with_replaced slots k x page place false) k → PageGoesOn value_of since w w slots (with_replaced slots k x page place false) (λ n. ⊥)
-takes-page value_of since w horizon k x page place slots sound f a =
+takes-page : (value_of : Row → ℤ) (since : Option ℕ) (w : Window) (k x page place : ℕ) (slots : List Slot) → SoundPage w slots → IsDeletable w slots k
+    → SetsXmaxOnPage w slots (with_replaced slots k x page place false) k → PageGoesOn value_of since w w slots (with_replaced slots k x page place false) (λ n. ⊥)
+takes-page value_of since w k x page place slots sound f a =
     let after = with_replaced slots k x page place false in
     let t = f.version in
     let here = slot_at-from_version_at slots k t f.there in
@@ -155,16 +155,16 @@ takes-page value_of since w horizon k x page place slots sound f a =
           (λ other. stays-as (slot_at slots n) (slot_at after n) (a.others n other) may)
           (cases_eq n k);
       chains = λ root n u i at. inl (⊎_elim
-          (λ same. needed-resembles value_of since w horizon slots after root n u sound a.entries
+          (λ same. needed-resembles value_of since w slots after root n u sound a.entries
           (λ v there. deletable-needed w since slots k v f (subst (λ i. version_at slots i ≡ Some v) same there)) (a.chains root n i) at)
           (λ other. same-resembles value_of since w slots after root n u (a.chains root n i) (a.others n other) at)
           (cases_eq n k));
     }
 
-updates-page : (value_of : Row → ℤ) (since : Option ℕ) (w : Window) (horizon k x page : ℕ) (slots : List Slot) (row : Row) (old : Version) → SoundPage w horizon slots → IsDeletable w slots k → free_number slots ≤ 291
+updates-page : (value_of : Row → ℤ) (since : Option ℕ) (w : Window) (k x page : ℕ) (slots : List Slot) (row : Row) (old : Version) → SoundPage w slots → IsDeletable w slots k → free_number slots ≤ 291
     → version_at slots k ≡ Some old → value_of row ≡ value_of old.row → row.key ≡ old.row.key
-    → HotUpdatesPage w horizon slots (with_updated slots k x page row) k (free_number slots) → PageGoesOn value_of since w w slots (with_updated slots k x page row) (λ n. ⊥)
-updates-page value_of since w horizon k x page slots row old sound f few there value key a =
+    → HotUpdatesPage w slots (with_updated slots k x page row) k (free_number slots) → PageGoesOn value_of since w w slots (with_updated slots k x page row) (λ n. ⊥)
+updates-page value_of since w k x page slots row old sound f few there value key a =
     let after = with_updated slots k x page row in
     let free = free_number slots in
     let here = slot_at-from_version_at slots k old there in
@@ -181,10 +181,10 @@ updates-page value_of since w horizon k x page slots row old sound f few there v
           (cases_eq n k);
       chains = λ root n t i at. ⊎_elim
           (λ was. inl (⊎_elim
-          (λ same. needed-resembles value_of since w horizon slots after root n t sound a.entries
+          (λ same. needed-resembles value_of since w slots after root n t sound a.entries
           (λ v at_k. deletable-needed w since slots k v f (subst (λ i. version_at slots i ≡ Some v) same at_k)) was at)
           (λ other. same-resembles value_of since w slots after root n t was
-          (a.others n other (λ here. free-unchained w horizon slots root sound (subst (λ i. IsIn w slots root i) here was))) at)
+          (a.others n other (λ here. free-unchained w slots root sound (subst (λ i. IsIn w slots root i) here was))) at)
           (cases_eq n k)))
           (λ y.
           let one : t ≡ new = same_Some t new (sym at ∙ ap (version_at after) y.1 ∙ version_at-from_slot_at after free new r.added) in
@@ -217,7 +217,7 @@ dead-stays w horizon slots after n p at =
         let none : orphan_action w slots n ≡ None = ap (λ (s : Option Slot). loose_in w (option_map (λ t. t.header) (option_and_then version_of s))) at in
         is ∙ ap (acted (slot_at slots n)) (e ∙ none) ∙ at
 
-thins-page : (value_of : Row → ℤ) (since : Option ℕ) (w : Window) (horizon : ℕ) (slots after : List Slot) → SoundPage w horizon slots → IsThinned w horizon slots after
+thins-page : (value_of : Row → ℤ) (since : Option ℕ) (w : Window) (horizon : ℕ) (slots after : List Slot) → SoundPage w slots → IsThinned w horizon slots after
     → PageGoesOn value_of since w w slots after (λ n. ⊥)
 thins-page value_of since w horizon slots after sound p =
     let chains = thinned-keeps_chains w horizon slots after sound p in
@@ -246,86 +246,86 @@ thins-page value_of since w horizon slots after sound p =
 
 -- Each step on the pages.
 
-pub heap-puts : (w : Window) (horizon n : ℕ) (pages pages' : List (List Slot)) (after : List Slot) → SoundHeap w horizon pages → Puts pages pages' n after → SoundPage w horizon after
-    → SoundHeap w horizon pages'
-heap-puts w horizon n pages pages' after heap puts sound m = ⊎_elim
-    (λ same. subst (λ k. SoundPage w horizon (slots_on pages' k)) (sym same) (subst (SoundPage w horizon) (sym puts.put) sound))
-    (λ other. subst (SoundPage w horizon) (sym (puts.others m other)) (heap m))
+pub heap-puts : (w : Window) (n : ℕ) (pages pages' : List (List Slot)) (after : List Slot) → SoundHeap w pages → Puts pages pages' n after → SoundPage w after
+    → SoundHeap w pages'
+heap-puts w n pages pages' after heap puts sound m = ⊎_elim
+    (λ same. subst (λ k. SoundPage w (slots_on pages' k)) (sym same) (subst (SoundPage w) (sym puts.put) sound))
+    (λ other. subst (SoundPage w) (sym (puts.others m other)) (heap m))
     (cases_eq m n)
 
-stays-on : (value_of : Row → ℤ) (since : Option ℕ) (w : Window) (horizon n : ℕ) (pages pages' : List (List Slot)) (entries : List Entry) (after : List Slot) → EntriesAreSound value_of since w horizon pages entries
-    → Puts pages pages' n after → SoundPage w horizon after → PageGoesOn value_of since w w (slots_on pages n) after (λ k. ⊥) → StaysSound value_of since w horizon pages pages' entries entries
-stays-on value_of since w horizon n pages pages' entries after sound puts page step =
+stays-on : (value_of : Row → ℤ) (since : Option ℕ) (w : Window) (n : ℕ) (pages pages' : List (List Slot)) (entries : List Entry) (after : List Slot) → EntriesAreSound value_of since w pages entries
+    → Puts pages pages' n after → SoundPage w after → PageGoesOn value_of since w w (slots_on pages n) after (λ k. ⊥) → StaysSound value_of since w pages pages' entries entries
+stays-on value_of since w n pages pages' entries after sound puts page step =
     let goes = puts-pages value_of since w pages pages' n after (λ m k. ⊥) puts step in
     record {
       sound = record {
-        heap = heap-puts w horizon n pages pages' after sound.heap puts page;
+        heap = heap-puts w n pages pages' after sound.heap puts page;
         index = stay-sound value_of since w w pages pages' entries sound.index goes;
       };
       led = stay-led value_of since w w pages pages' entries sound.index (λ m k. ⊥) goes entries;
     }
 
-pub taking-stays : (value_of : Row → ℤ) (since : Option ℕ) (w : Window) (horizon n k x page place : ℕ) (pages pages' : List (List Slot)) (entries : List Entry)
-    → EntriesAreSound value_of since w horizon pages entries → IsActive w x → IsDeletable w (slots_on pages n) k
+pub taking-stays : (value_of : Row → ℤ) (since : Option ℕ) (w : Window) (n k x page place : ℕ) (pages pages' : List (List Slot)) (entries : List Entry)
+    → EntriesAreSound value_of since w pages entries → IsActive w x → IsDeletable w (slots_on pages n) k
     → Puts pages pages' n (with_replaced (slots_on pages n) k x page place false)
-    → StaysSound value_of since w horizon pages pages' entries entries
-taking-stays value_of since w horizon n k x page place pages pages' entries sound active free puts =
+    → StaysSound value_of since w pages pages' entries entries
+taking-stays value_of since w n k x page place pages pages' entries sound active free puts =
     let slots = slots_on pages n in
-    let a = taken-away w horizon k x page place slots (sound.heap n) active free in
-    stays-on value_of since w horizon n pages pages' entries (with_replaced slots k x page place false) sound puts a.sound (takes-page value_of since w horizon k x page place slots (sound.heap n) free a)
+    let a = taken-away w k x page place slots (sound.heap n) active free in
+    stays-on value_of since w n pages pages' entries (with_replaced slots k x page place false) sound puts a.sound (takes-page value_of since w k x page place slots (sound.heap n) free a)
 
-pub updating-stays : (value_of : Row → ℤ) (since : Option ℕ) (w : Window) (horizon n k x page : ℕ) (pages pages' : List (List Slot)) (entries : List Entry) (row : Row) (old : Version)
-    → EntriesAreSound value_of since w horizon pages entries → IsActive w x → IsDeletable w (slots_on pages n) k → free_number (slots_on pages n) ≤ 291
+pub updating-stays : (value_of : Row → ℤ) (since : Option ℕ) (w : Window) (n k x page : ℕ) (pages pages' : List (List Slot)) (entries : List Entry) (row : Row) (old : Version)
+    → EntriesAreSound value_of since w pages entries → IsActive w x → IsDeletable w (slots_on pages n) k → free_number (slots_on pages n) ≤ 291
     → version_in pages (record { page = n; slot = k }) ≡ Some old → value_of row ≡ value_of old.row → row.key ≡ old.row.key
     → Puts pages pages' n (with_updated (slots_on pages n) k x page row)
-    → StaysSound value_of since w horizon pages pages' entries entries
-updating-stays value_of since w horizon n k x page pages pages' entries row old sound active free few there value key puts =
+    → StaysSound value_of since w pages pages' entries entries
+updating-stays value_of since w n k x page pages pages' entries row old sound active free few there value key puts =
     let slots = slots_on pages n in
-    let a = updated-here w horizon k x page slots row (sound.heap n) active free few in
-    stays-on value_of since w horizon n pages pages' entries (with_updated slots k x page row) sound puts a.sound
-    (updates-page value_of since w horizon k x page slots row old (sound.heap n) free few there value key a)
+    let a = updated-here w k x page slots row (sound.heap n) active free few in
+    stays-on value_of since w n pages pages' entries (with_updated slots k x page row) sound puts a.sound
+    (updates-page value_of since w k x page slots row old (sound.heap n) free few there value key a)
 
 pub thinning-stays : (value_of : Row → ℤ) (since : Option ℕ) (w : Window) (horizon n : ℕ) (pages pages' : List (List Slot)) (entries : List Entry) (after : List Slot)
-    → EntriesAreSound value_of since w horizon pages entries → IsThinned w horizon (slots_on pages n) after → Puts pages pages' n after
-    → StaysSound value_of since w horizon pages pages' entries entries
+    → EntriesAreSound value_of since w pages entries → IsThinned w horizon (slots_on pages n) after → Puts pages pages' n after
+    → StaysSound value_of since w pages pages' entries entries
 thinning-stays value_of since w horizon n pages pages' entries after sound p puts =
-    stays-on value_of since w horizon n pages pages' entries after sound puts (thinned-sound w horizon (slots_on pages n) after (sound.heap n) p)
+    stays-on value_of since w n pages pages' entries after sound puts (thinned-sound w horizon (slots_on pages n) after (sound.heap n) p)
     (thins-page value_of since w horizon (slots_on pages n) after (sound.heap n) p)
 
 pub pruning-stays : (value_of : Row → ℤ) (since : Option ℕ) (w : Window) (horizon n : ℕ) (pages pages' : List (List Slot)) (entries : List Entry) (after : List Slot)
-    → EntriesAreSound value_of since w horizon pages entries → IsPruned w horizon (slots_on pages n) after → Puts pages pages' n after
-    → StaysSound value_of since w horizon pages pages' entries entries
+    → EntriesAreSound value_of since w pages entries → IsPruned w horizon (slots_on pages n) after → Puts pages pages' n after
+    → StaysSound value_of since w pages pages' entries entries
 pruning-stays value_of since w horizon n pages pages' entries after sound p puts =
     thinning-stays value_of since w horizon n pages pages' entries after sound (pruned-thins w horizon (slots_on pages n) after p (sound.heap n)) puts
 
-pub growing-stays : (value_of : Row → ℤ) (since : Option ℕ) (w : Window) (horizon n : ℕ) (pages pages' : List (List Slot)) (entries : List Entry)
-    → EntriesAreSound value_of since w horizon pages entries → Puts pages pages' n (slots_on pages n) → StaysSound value_of since w horizon pages pages' entries entries
-growing-stays value_of since w horizon n pages pages' entries sound puts =
-    stays-on value_of since w horizon n pages pages' entries (slots_on pages n) sound puts (sound.heap n) (page-same value_of since w w (slots_on pages n) (λ k. ⊥) (λ root k i. i) (λ k t at excused. excused))
+pub growing-stays : (value_of : Row → ℤ) (since : Option ℕ) (w : Window) (n : ℕ) (pages pages' : List (List Slot)) (entries : List Entry)
+    → EntriesAreSound value_of since w pages entries → Puts pages pages' n (slots_on pages n) → StaysSound value_of since w pages pages' entries entries
+growing-stays value_of since w n pages pages' entries sound puts =
+    stays-on value_of since w n pages pages' entries (slots_on pages n) sound puts (sound.heap n) (page-same value_of since w w (slots_on pages n) (λ k. ⊥) (λ root k i. i) (λ k t at excused. excused))
 
-pub adding-stays : (value_of : Row → ℤ) (since : Option ℕ) (w : Window) (horizon x n : ℕ) (pages pages' : List (List Slot)) (entries entries' : List Entry) (updated : Bool) (row : Row)
-    → EntriesAreSound value_of since w horizon pages entries → IsActive w x → free_number (slots_on pages n) ≤ 291
+pub adding-stays : (value_of : Row → ℤ) (since : Option ℕ) (w : Window) (x n : ℕ) (pages pages' : List (List Slot)) (entries entries' : List Entry) (updated : Bool) (row : Row)
+    → EntriesAreSound value_of since w pages entries → IsActive w x → free_number (slots_on pages n) ≤ 291
     → Puts pages pages' n (with_root (slots_on pages n) updated x n row) → AddsEntry entries entries' (entry_for value_of row n (free_number (slots_on pages n)))
-    → StaysSound value_of since w horizon pages pages' entries entries'
-adding-stays value_of since w horizon x n pages pages' entries entries' updated row sound active few puts adds =
+    → StaysSound value_of since w pages pages' entries entries'
+adding-stays value_of since w x n pages pages' entries entries' updated row sound active few puts adds =
     let slots = slots_on pages n in
     let k = free_number slots in
     let new : Version = record { header = root_header updated x n k; row = row } in
     let after = with_root slots updated x n row in
-    let a = root-added w horizon x n slots updated row (sound.heap n) active few in
+    let a = root-added w x n slots updated row (sound.heap n) active few in
     let added : slot_at after k ≡ Some (Normal new) = slot_at-with_added slots (Normal new) in
-    let step = adds-page value_of since w horizon slots after (sound.heap n) a in
+    let step = adds-page value_of since w slots after (sound.heap n) a in
     let goes = puts-pages value_of since w pages pages' n after (λ m i. (m ≡ n) × (i ≡ k)) puts (record {
       stays = step.stays;
       chains = λ root i t within at. ⊎_elim (λ was. inl was) (λ here. inr (refl, here)) (step.chains root i t within at);
     }) in
     record {
       sound = record {
-        heap = heap-puts w horizon n pages pages' after sound.heap puts a.sound;
+        heap = heap-puts w n pages pages' after sound.heap puts a.sound;
         index = add-sound value_of since w w pages pages' entries sound.index (entry_for value_of row n k) entries' goes adds (free-unled slots)
             (inl (subst (λ s. is_root s k ≡ true) (sym puts.put) (in-root w after k k a.chains.0)))
             (subst (λ s. (i : ℕ) (t : Version) → IsIn w s k i → version_at s i ≡ Some t → IsOf (value_of t.row) t.row.key (entry_for value_of row n k)) (sym puts.put)
-            (λ i t within at. own-chain value_of w horizon n slots after new a added i t within at));
+            (λ i t within at. own-chain value_of w n slots after new a added i t within at));
       };
       led = stay-led value_of since w w pages pages' entries sound.index (λ m i. (m ≡ n) × (i ≡ k)) goes entries';
     }

@@ -1,5 +1,5 @@
--- What becomes of transactions and of the horizon leaves the entries right: chains only break.
-use Rattle.std.proofs.Common.{◌≡◌, ◌≤◌, ℕ, ℤ, zero, suc, false, List, Option, Some, None, sym, ◌∙◌, ⊎_elim}
+-- What becomes of transactions leaves the entries right: chains only break.
+use Rattle.std.proofs.Common.{◌≡◌, ℕ, ℤ, zero, suc, false, List, Option, Some, None, sym, ◌∙◌, ⊎_elim}
 use Rattle.std.specs.List.{Contains}
 use Rattle.std.proofs.lemmas.Bool.{cases_Bool}
 use Rattle.xid_circle.specs.Following.{ReachesIn}
@@ -7,7 +7,7 @@ use Rattle.tuple_header.specs.declared.version.Row.{Row}
 use Rattle.page_slots.specs.declared.slot.Slot.{Slot}
 use Rattle.commit_status.specs.declared.status.Status.{Status}
 use Rattle.commit_status.specs.declared.status.Status.TheVariants.{InProgress, Committed, Aborted}
-use Rattle.commit_status.specs.Window.{Window, IsWindow, IsActive, IsCommitted, IsAborted, IsUpToNext, turns}
+use Rattle.commit_status.specs.Window.{Window, IsWindow, IsActive, IsCommitted, IsAborted}
 use Rattle.commit_status.specs.Changes.{Gives, Finishes}
 use Rattle.commit_status.proofs.Giving.{gives-status}
 use Rattle.commit_status.proofs.Finishing.{finishes-other}
@@ -18,7 +18,7 @@ use Rattle.sound_page.specs.Sound.{IsIn}
 use Rattle.sound_page.proofs.Links.{link-of}
 use Rattle.sound_page.proofs.Undone.{has-aborted, aborted-has}
 use Rattle.tuple_writes.specs.Laws.{DeletedWhatWasMade, AloneDeletedTheirs}
-use Rattle.tuple_writes.proofs.Statuses.{successor-from, replaced-live, giving-sound, committing-sound, aborting-sound, later-sound, aborted-other}
+use Rattle.tuple_writes.proofs.Statuses.{successor-from, replaced-live, giving-sound, committing-sound, aborting-sound, aborted-other}
 use Rattle.index_nodes.specs.declared.entry.Entry.{Entry}
 use Rattle.index_lookup.specs.Pages.{slots_on}
 use Rattle.sound_entries.specs.Entries.{SoundHeap, EntriesAreSound, StaysSound}
@@ -51,9 +51,9 @@ module _ (w v : Window) (aborted : (x : ℕ) → IsAborted w x → IsAborted v x
   excused-stays (Some since) slots n t at (IsDead.never_was thawed gone) = IsDead.never_was thawed (aborted t.header.xmin.0 gone)
   excused-stays (Some since) slots n t at (IsDead.is_past done before) = IsDead.is_past (committed t.header.xmax.0 done) before
 
-  pub statuses-stay : (value_of : Row → ℤ) (since : Option ℕ) (horizon later : ℕ) (pages : List (List Slot)) (entries : List Entry) → EntriesAreSound value_of since w horizon pages entries → SoundHeap v later pages
-      → StaysSound value_of since v later pages pages entries entries
-  statuses-stay value_of since horizon later pages entries sound heap = record {
+  pub statuses-stay : (value_of : Row → ℤ) (since : Option ℕ) (pages : List (List Slot)) (entries : List Entry) → EntriesAreSound value_of since w pages entries → SoundHeap v pages
+      → StaysSound value_of since v pages pages entries entries
+  statuses-stay value_of since pages entries sound heap = record {
     sound = record { heap = heap; index = stay-sound value_of since w v pages pages entries sound.index goes };
     led = stay-led value_of since w v pages pages entries sound.index (λ m k. ⊥) goes entries;
   }
@@ -61,32 +61,25 @@ module _ (w v : Window) (aborted : (x : ℕ) → IsAborted w x → IsAborted v x
       goes : (m : ℕ) → PageGoesOn value_of since w v (slots_on pages m) (slots_on pages m) (λ k. ⊥)
       goes m = page-same value_of since w v (slots_on pages m) (λ k. ⊥) (in-back (slots_on pages m)) (excused-stays since (slots_on pages m))
 
-pub giving-stays : (value_of : Row → ℤ) (since : Option ℕ) (w v : Window) (horizon : ℕ) (parent : Option ℕ) (pages : List (List Slot)) (entries : List Entry)
-    → EntriesAreSound value_of since w horizon pages entries → IsWindow w → IsWindow v → Gives w v parent → StaysSound value_of since v horizon pages pages entries entries
-giving-stays value_of since w v horizon parent pages entries sound before after gives =
-    statuses-stay w v (λ x gone. gives-status w v parent x before after gives ∙ gone) (λ x done. gives-status w v parent x before after gives ∙ done) value_of since horizon horizon pages entries sound
-    (λ n. giving-sound w v horizon parent (slots_on pages n) before after gives (sound.heap n))
+pub giving-stays : (value_of : Row → ℤ) (since : Option ℕ) (w v : Window) (parent : Option ℕ) (pages : List (List Slot)) (entries : List Entry)
+    → EntriesAreSound value_of since w pages entries → IsWindow w → IsWindow v → Gives w v parent → StaysSound value_of since v pages pages entries entries
+giving-stays value_of since w v parent pages entries sound before after gives =
+    statuses-stay w v (λ x gone. gives-status w v parent x before after gives ∙ gone) (λ x done. gives-status w v parent x before after gives ∙ done) value_of since pages entries sound
+    (λ n. giving-sound w v parent (slots_on pages n) before after gives (sound.heap n))
 
 done-other : (w v : Window) (ids : List ℕ) (status : Status) (x : ℕ) → ((y : ℕ) → Contains ids y → IsActive w y) → Finishes w v ids status → IsCommitted w x → IsCommitted v x
 done-other w v ids status x active f done = finishes-other w v ids status x f (λ c. let e : Committed ≡ InProgress = sym done ∙ (active x c).unfinished in cc) ∙ done
 
-pub committing-stays : (value_of : Row → ℤ) (since : Option ℕ) (w v : Window) (horizon : ℕ) (ids : List ℕ) (pages : List (List Slot)) (entries : List Entry)
-    → EntriesAreSound value_of since w horizon pages entries → ((x : ℕ) → Contains ids x → IsActive w x) → Finishes w v ids Committed
-    → ((n : ℕ) → DeletedWhatWasMade w (slots_on pages n) ids) → StaysSound value_of since v horizon pages pages entries entries
-committing-stays value_of since w v horizon ids pages entries sound active f theirs =
-    statuses-stay w v (λ x gone. aborted-other w v ids Committed x active f gone) (λ x done. done-other w v ids Committed x active f done) value_of since horizon horizon pages entries sound
-    (λ n. committing-sound w v horizon ids (slots_on pages n) active f (theirs n) (sound.heap n))
+pub committing-stays : (value_of : Row → ℤ) (since : Option ℕ) (w v : Window) (ids : List ℕ) (pages : List (List Slot)) (entries : List Entry)
+    → EntriesAreSound value_of since w pages entries → ((x : ℕ) → Contains ids x → IsActive w x) → Finishes w v ids Committed
+    → ((n : ℕ) → DeletedWhatWasMade w (slots_on pages n) ids) → StaysSound value_of since v pages pages entries entries
+committing-stays value_of since w v ids pages entries sound active f theirs =
+    statuses-stay w v (λ x gone. aborted-other w v ids Committed x active f gone) (λ x done. done-other w v ids Committed x active f done) value_of since pages entries sound
+    (λ n. committing-sound w v ids (slots_on pages n) active f (theirs n) (sound.heap n))
 
-pub aborting-stays : (value_of : Row → ℤ) (since : Option ℕ) (w v : Window) (horizon : ℕ) (ids : List ℕ) (pages : List (List Slot)) (entries : List Entry)
-    → EntriesAreSound value_of since w horizon pages entries → ((x : ℕ) → Contains ids x → IsActive w x) → Finishes w v ids Aborted
-    → ((n : ℕ) → AloneDeletedTheirs w (slots_on pages n) ids) → StaysSound value_of since v horizon pages pages entries entries
-aborting-stays value_of since w v horizon ids pages entries sound active f theirs =
-    statuses-stay w v (λ x gone. aborted-other w v ids Aborted x active f gone) (λ x done. done-other w v ids Aborted x active f done) value_of since horizon horizon pages entries sound
-    (λ n. aborting-sound w v horizon ids (slots_on pages n) active f (theirs n) (sound.heap n))
-
-pub later-stays : (value_of : Row → ℤ) (since : Option ℕ) (w : Window) (horizon later : ℕ) (pages : List (List Slot)) (entries : List Entry)
-    → EntriesAreSound value_of since w horizon pages entries → IsWindow w → IsUpToNext w horizon → IsUpToNext w later → turns w.first horizon ≤ turns w.first later
-    → StaysSound value_of since w later pages pages entries entries
-later-stays value_of since w horizon later pages entries sound is uh ul low =
-    statuses-stay w w (λ x gone. gone) (λ x done. done) value_of since horizon later pages entries sound
-    (λ n. later-sound w horizon later (slots_on pages n) is uh ul low (sound.heap n))
+pub aborting-stays : (value_of : Row → ℤ) (since : Option ℕ) (w v : Window) (ids : List ℕ) (pages : List (List Slot)) (entries : List Entry)
+    → EntriesAreSound value_of since w pages entries → ((x : ℕ) → Contains ids x → IsActive w x) → Finishes w v ids Aborted
+    → ((n : ℕ) → AloneDeletedTheirs w (slots_on pages n) ids) → StaysSound value_of since v pages pages entries entries
+aborting-stays value_of since w v ids pages entries sound active f theirs =
+    statuses-stay w v (λ x gone. aborted-other w v ids Aborted x active f gone) (λ x done. done-other w v ids Aborted x active f done) value_of since pages entries sound
+    (λ n. aborting-sound w v ids (slots_on pages n) active f (theirs n) (sound.heap n))

@@ -26,7 +26,7 @@ pub record NotedIsSeen (w : Window) (s : Snap) (own : List ℕ) (pages : PagesVi
   pub alive : (p : Tid) → IsNotedVisible pages.marks p.page → slot_in (page_slots_of pages) p ≢ Some Dead
   pub seen : (p : Tid) (t : Version) → IsNotedVisible pages.marks p.page → version_in (page_slots_of pages) p ≡ Some t → IsVisible w s own t.header
 
-module _ (value_of : Row → ℤ) (since : Option ℕ) (w : Window) (horizon : ℕ) (pages : PagesView) (entries : List Entry) (s : Snap) (own : List ℕ) (sound : EntriesAreSound value_of since w horizon (page_slots_of pages) entries)
+module _ (value_of : Row → ℤ) (since : Option ℕ) (w : Window) (pages : PagesView) (entries : List Entry) (s : Snap) (own : List ℕ) (sound : EntriesAreSound value_of since w (page_slots_of pages) entries)
     (active : (x : ℕ) → Contains own x → IsActive w x) (sees_none : SeesNoExcused w since s own) (value : ℤ) (key : ℕ) where
   -- what an entry of the key leads to, and the reader sees
   led-to : (e : Entry) (n : ℕ) (t : Version) → Contains entries e → (e.value ≡ value) × (e.key ≡ key) → IsIn w (slots_on (page_slots_of pages) e.tid.page) e.tid.slot n → version_at (slots_on (page_slots_of pages) e.tid.page) n ≡ Some t
@@ -40,12 +40,12 @@ module _ (value_of : Row → ℤ) (since : Option ℕ) (w : Window) (horizon : �
         there = at;
         has = seen;
       } in
-      (p, t, (visible-found value_of since w horizon (page_slots_of pages) entries sound s own active sees_none value key p t).1 i)
+      (p, t, (visible-found value_of since w (page_slots_of pages) entries sound s own active sees_none value key p t).1 i)
 
   by-place : (e : Entry) → Contains entries e → (e.value ≡ value) × (e.key ≡ key) → NotedIsSeen w s own pages → PlaceShows w (IsVisible w s own) pages e.tid → SomeOnHeap value_of (page_slots_of pages) value key (IsVisible w s own)
   by-place e there of noted (inl page) = ⊎_elim
       (λ root.
-      let first = first-in w horizon (slots_on (page_slots_of pages) e.tid.page) e.tid.slot (sound.heap e.tid.page) root in
+      let first = first-in w (slots_on (page_slots_of pages) e.tid.page) e.tid.slot (sound.heap e.tid.page) root in
       led-to e first.place first.version there of first.within first.there (noted.seen (record { page = e.tid.page; slot = first.place }) first.version page first.there))
       (λ dead. absurd (noted.alive e.tid page dead))
       (sound.index.leads e there)
@@ -58,9 +58,9 @@ module _ (value_of : Row → ℤ) (since : Option ℕ) (w : Window) (horizon : �
 
   pub on_heap-shows : (p : Tid) (t : Version) → IsOnHeap value_of (page_slots_of pages) value key (λ t. IsVisible w s own t.header) p t → KeyShows w (IsVisible w s own) pages entries value key
   on_heap-shows p t here =
-      let i = (visible-found value_of since w horizon (page_slots_of pages) entries sound s own active sees_none value key p t).0 here in
+      let i = (visible-found value_of since w (page_slots_of pages) entries sound s own active sees_none value key p t).0 here in
       let slots = slots_on (page_slots_of pages) i.entry.tid.page in
-      let l = in-leads w horizon slots i.entry.tid.slot p.slot (sound.heap i.entry.tid.page) i.leads.chain in
+      let l = in-leads w slots i.entry.tid.slot p.slot (sound.heap i.entry.tid.page) i.leads.chain in
       let n = place-of p.slot l.chain l.holds in
       record {
         entry = i.entry;

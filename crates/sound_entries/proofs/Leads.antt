@@ -32,23 +32,23 @@ use Rattle.sound_entries.specs.Leading.{IsUndone, SeesNoExcused, HasOneEntry, Is
 -- On one page.
 
 -- what is in a chain is a version
-pub chained-version : (w : Window) (horizon : ℕ) (slots : List Slot) (root n : ℕ) → SoundPage w horizon slots → IsIn w slots root n → SomeVersion slots n
-chained-version w horizon slots root n sound i =
-    let l = in-leads w horizon slots root n sound i in
+pub chained-version : (w : Window) (slots : List Slot) (root n : ℕ) → SoundPage w slots → IsIn w slots root n → SomeVersion slots n
+chained-version w slots root n sound i =
+    let l = in-leads w slots root n sound i in
     let p = place-of n l.chain l.holds in
     let v = member-version _ slots root l.chain p.0 l.is_chain p.1 in
     record { version = v.version; there = subst (λ k. version_at slots k ≡ Some v.version) p.2 v.there }
 
-root-of : (w : Window) (horizon : ℕ) (slots : List Slot) (n : ℕ) (t : Version) → SoundPage w horizon slots → version_at slots n ≡ Some t → ¬ IsUndone w t.header → SomeRoot w slots n
-root-of w horizon slots n t sound at done = ⊎_elim
+root-of : (w : Window) (slots : List Slot) (n : ℕ) (t : Version) → SoundPage w slots → version_at slots n ≡ Some t → ¬ IsUndone w t.header → SomeRoot w slots n
+root-of w slots n t sound at done = ⊎_elim
     (λ heap_only. ⊎_elim (λ undone. absurd (done (record { thawed = undone.0; aborted = undone.1 }))) (λ r. r) (sound.owned n t at heap_only))
     (λ plain. record { root = n; leads = record { entry = n; leads = entry-normal slots n t at plain; later = record { turns = 0; along = refl } } })
     (cases_Bool (is_heap_only t.header))
 
 -- a version that an id touched which isn't aborted was made
-pub touched-made : (w : Window) (horizon : ℕ) (slots : List Slot) (n x : ℕ) (t : Version) → SoundPage w horizon slots → version_at slots n ≡ Some t → ¬ IsAborted w x
+pub touched-made : (w : Window) (slots : List Slot) (n x : ℕ) (t : Version) → SoundPage w slots → version_at slots n ≡ Some t → ¬ IsAborted w x
     → Touches x t.header → ¬ IsUndone w t.header
-touched-made w horizon slots n x t sound at alive touch undone = ⊎_elim
+touched-made w slots n x t sound at alive touch undone = ⊎_elim
     (λ made. alive (subst (IsAborted w) made.1 undone.aborted))
     (λ gone. alive (subst (IsAborted w) gone.1 (sound.undone n t at undone.thawed undone.aborted gone.0)))
     (touch-cases t.header x touch)
@@ -64,8 +64,8 @@ pub record FirstIn (w : Window) (slots : List Slot) (root : ℕ) : Type 0 where
   pub within : IsIn w slots root place
   pub there : version_at slots place ≡ Some version
 
-pub first-in : (w : Window) (horizon : ℕ) (slots : List Slot) (n : ℕ) → SoundPage w horizon slots → is_root slots n ≡ true → FirstIn w slots n
-first-in w horizon slots n sound root = by (slot_at slots n) refl root
+pub first-in : (w : Window) (slots : List Slot) (n : ℕ) → SoundPage w slots → is_root slots n ≡ true → FirstIn w slots n
+first-in w slots n sound root = by (slot_at slots n) refl root
   where
     plain : (b : Bool) → not b ≡ true → (if b then None else Some n) ≡ Some n
     plain true e = absurd (cc)
@@ -89,7 +89,7 @@ first-in w horizon slots n sound root = by (slot_at slots n) refl root
 
 -- On all pages.
 
-module _ (value_of : Row → ℤ) (since : Option ℕ) (w : Window) (horizon : ℕ) (pages : List (List Slot)) (entries : List Entry) (sound : EntriesAreSound value_of since w horizon pages entries) where
+module _ (value_of : Row → ℤ) (since : Option ℕ) (w : Window) (pages : List (List Slot)) (entries : List Entry) (sound : EntriesAreSound value_of since w pages entries) where
   led-or : (p : Tid) (t : Version) → ¬ IsExcused w since t → IsExcused w since t ⊎ SomeEntry entries p → SomeEntry entries p
   led-or p t needed led = ⊎_elim (λ excused. absurd (needed excused)) (λ some. some) led
 
@@ -99,7 +99,7 @@ module _ (value_of : Row → ℤ) (since : Option ℕ) (w : Window) (horizon : �
   pub led_by_one : (p : Tid) (t : Version) → version_in pages p ≡ Some t → ¬ IsUndone w t.header → ¬ IsExcused w since t → HasOneEntry w pages entries p (value_of t.row) t.row.key
   led_by_one p t at done needed =
       let slots = slots_on pages p.page in
-      let r = root-of w horizon slots p.slot t (sound.heap p.page) at done in
+      let r = root-of w slots p.slot t (sound.heap p.page) at done in
       let root : Tid = record { page = p.page; slot = r.root } in
       let s = led-or root t needed (sound.index.led root p.slot t r.leads at) in
       let page : p.page ≡ s.entry.tid.page = sym (ap (λ (q : Tid). q.page) s.at) in
@@ -137,15 +137,15 @@ module _ (value_of : Row → ℤ) (since : Option ℕ) (w : Window) (horizon : �
       unread x gone (Reads.by_itself c) = let e : Aborted ≡ InProgress = sym gone ∙ (active x c).unfinished in absurd (cc)
       unread x gone (Reads.by_others sees done) = let e : Aborted ≡ Committed = sym gone ∙ committed-to w x done in absurd (cc)
 
-pub root-led : (value_of : Row → ℤ) (w : Window) (horizon : ℕ) (pages : List (List Slot)) (entries : List Entry) (p : Tid) → EntriesAreSound value_of None w horizon pages entries
+pub root-led : (value_of : Row → ℤ) (w : Window) (pages : List (List Slot)) (entries : List Entry) (p : Tid) → EntriesAreSound value_of None w pages entries
     → is_root_in (slot_in pages p) ≡ true → SomeEntry entries p
-root-led value_of w horizon pages entries p sound root =
-    let first = first-in w horizon (slots_on pages p.page) p.slot (sound.heap p.page) root in
+root-led value_of w pages entries p sound root =
+    let first = first-in w (slots_on pages p.page) p.slot (sound.heap p.page) root in
     ⊎_elim (λ none. absurd none) (λ some. some) (sound.index.led p first.place first.version first.within first.there)
 
-pub touched-found : (value_of : Row → ℤ) (w : Window) (horizon : ℕ) (pages : List (List Slot)) (entries : List Entry) → EntriesAreSound value_of None w horizon pages entries
+pub touched-found : (value_of : Row → ℤ) (w : Window) (pages : List (List Slot)) (entries : List Entry) → EntriesAreSound value_of None w pages entries
     → (x : ℕ) → ¬ IsAborted w x → (value : ℤ) (key : ℕ) (p : Tid) (t : Version)
     → IsOnHeap value_of pages value key (λ t. Touches x t.header) p t ↔ IsByIndex w pages entries value key (λ t. Touches x t.header) p t
-touched-found value_of w horizon pages entries sound x alive value key p t =
-    found value_of None w horizon pages entries sound (λ t. Touches x t.header)
-    (λ q u at touch. (touched-made w horizon (slots_on pages q.page) q.slot x u (sound.heap q.page) at alive touch, λ none. none)) value key p t
+touched-found value_of w pages entries sound x alive value key p t =
+    found value_of None w pages entries sound (λ t. Touches x t.header)
+    (λ q u at touch. (touched-made w (slots_on pages q.page) q.slot x u (sound.heap q.page) at alive touch, λ none. none)) value key p t

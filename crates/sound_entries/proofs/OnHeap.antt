@@ -39,25 +39,25 @@ listed-in w slots root i chain may is within = ⊎_elim
     none-some (slice_get chain 0) (get_or chain 0 0) (is.start ∙ ap (option_and_then (start_in slots root)) dead) (slice_get-get_or chain 0 0 some))
     may
 
-fetched-none : (w : Window) (horizon : ℕ) (seen : Header → Type 0) (slots : List Slot) (root n : ℕ) (t : Version) → SoundPage w horizon slots → Fetched (has_aborted w) seen slots root None
+fetched-none : (w : Window) (seen : Header → Type 0) (slots : List Slot) (root n : ℕ) (t : Version) → SoundPage w slots → Fetched (has_aborted w) seen slots root None
     → IsIn w slots root n → version_at slots n ≡ Some t → ¬ seen t.header
-fetched-none w horizon seen slots root n t sound (chain, is, none) within at has =
-    let l = in-leads w horizon slots root n sound within in
+fetched-none w seen slots root n t sound (chain, is, none) within at has =
+    let l = in-leads w slots root n sound within in
     let one = chain-one (has_aborted w) slots root l.chain chain l.is_chain is in
     let p = place-of n chain (subst (λ c. Contains c n) one l.holds) in
     none p.0 t p.1 (ap (version_at slots) p.2 ∙ at) has
 
-pub found-on_heap : (value_of : Row → ℤ) (since : Option ℕ) (w : Window) (horizon : ℕ) (pages : List (List Slot)) (entries : List Entry) (s : Snap) (own : List ℕ) → EntriesAreSound value_of since w horizon pages entries
+pub found-on_heap : (value_of : Row → ℤ) (since : Option ℕ) (w : Window) (pages : List (List Slot)) (entries : List Entry) (s : Snap) (own : List ℕ) → EntriesAreSound value_of since w pages entries
     → ((x : ℕ) → Contains own x → IsActive w x) → SeesNoExcused w since s own → (value : ℤ) (key : ℕ) (answer : Option Row) → FirstFound w (IsVisible w s own) pages entries value key answer
     → MatchOption answer
     ((p : Tid) (t : Version) → ¬ IsOnHeap value_of pages value key (λ t. IsVisible w s own t.header) p t)
     (λ row. (p : Tid) × (t : Version) × IsOnHeap value_of pages value key (λ t. IsVisible w s own t.header) p t × (row ≡ t.row))
-found-on_heap value_of since w horizon pages entries s own sound active sees_none value key None none = λ p t here.
-    let i = (visible-found value_of since w horizon pages entries sound s own active sees_none value key p t).0 here in
+found-on_heap value_of since w pages entries s own sound active sees_none value key None none = λ p t here.
+    let i = (visible-found value_of since w pages entries sound s own active sees_none value key p t).0 here in
     let slots = slots_on pages i.entry.tid.page in
-    fetched-none w horizon (IsVisible w s own) slots i.entry.tid.slot p.slot t (sound.heap i.entry.tid.page) (none i.entry i.leads.there i.of) i.leads.chain
+    fetched-none w (IsVisible w s own) slots i.entry.tid.slot p.slot t (sound.heap i.entry.tid.page) (none i.entry i.leads.there i.of) i.leads.chain
     (ap (λ n. version_at (slots_on pages n) p.slot) (sym i.leads.page) ∙ i.there) i.has
-found-on_heap value_of since w horizon pages entries s own sound active sees_none value key (Some row) f =
+found-on_heap value_of since w pages entries s own sound active sees_none value key (Some row) f =
     let slots = slots_on pages f.entry.tid.page in
     let chain = f.fetched.0 in
     let first = f.fetched.2.1 in
@@ -70,29 +70,29 @@ found-on_heap value_of since w horizon pages entries s own sound active sees_non
       there = first.there;
       has = first.is_seen;
     } in
-    (p, f.version, (visible-found value_of since w horizon pages entries sound s own active sees_none value key p f.version).1 i, f.is_row)
+    (p, f.version, (visible-found value_of since w pages entries sound s own active sees_none value key p f.version).1 i, f.is_row)
 
-pub the_row-found : (value_of : Row → ℤ) (since : Option ℕ) (w : Window) (horizon : ℕ) (pages : List (List Slot)) (entries : List Entry) (s : Snap) (own : List ℕ) → EntriesAreSound value_of since w horizon pages entries
+pub the_row-found : (value_of : Row → ℤ) (since : Option ℕ) (w : Window) (pages : List (List Slot)) (entries : List Entry) (s : Snap) (own : List ℕ) → EntriesAreSound value_of since w pages entries
     → ((x : ℕ) → Contains own x → IsActive w x) → SeesNoExcused w since s own → (value : ℤ) (key : ℕ)
     → ((p q : Tid) (t u : Version) → IsOnHeap value_of pages value key (λ t. IsVisible w s own t.header) p t → IsOnHeap value_of pages value key (λ t. IsVisible w s own t.header) q u → p ≡ q)
     → (answer : Option Row) → FirstFound w (IsVisible w s own) pages entries value key answer
     → (p : Tid) (t : Version) → IsOnHeap value_of pages value key (λ t. IsVisible w s own t.header) p t → answer ≡ Some t.row
-the_row-found value_of since w horizon pages entries s own sound active sees_none value key one None f p t here =
-    absurd (found-on_heap value_of since w horizon pages entries s own sound active sees_none value key None f p t here)
-the_row-found value_of since w horizon pages entries s own sound active sees_none value key one (Some row) f p t here =
-    let got = found-on_heap value_of since w horizon pages entries s own sound active sees_none value key (Some row) f in
+the_row-found value_of since w pages entries s own sound active sees_none value key one None f p t here =
+    absurd (found-on_heap value_of since w pages entries s own sound active sees_none value key None f p t here)
+the_row-found value_of since w pages entries s own sound active sees_none value key one (Some row) f p t here =
+    let got = found-on_heap value_of since w pages entries s own sound active sees_none value key (Some row) f in
     let same = one got.0 p got.1 t got.2 here in
     let version : got.1 ≡ t = same_Some got.1 t (sym got.2.there ∙ ap (version_in pages) same ∙ here.there) in
     ap (λ (r : Row). Some r) (got.3 ∙ ap (λ (v : Version). v.row) version)
 
-pub place-on_heap : (value_of : Row → ℤ) (since : Option ℕ) (w : Window) (horizon : ℕ) (pages : List (List Slot)) (entries : List Entry) (s : Snap) (own : List ℕ) → EntriesAreSound value_of since w horizon pages entries
+pub place-on_heap : (value_of : Row → ℤ) (since : Option ℕ) (w : Window) (pages : List (List Slot)) (entries : List Entry) (s : Snap) (own : List ℕ) → EntriesAreSound value_of since w pages entries
     → ((x : ℕ) → Contains own x → IsActive w x) → SeesNoExcused w since s own → (value : ℤ) (key : ℕ) (answer : Option Tid) → FirstPlace w (IsVisible w s own) pages entries value key answer
     → MatchOption answer
     ((p : Tid) (t : Version) → ¬ IsOnHeap value_of pages value key (λ t. IsVisible w s own t.header) p t)
     (λ p. (t : Version) × IsOnHeap value_of pages value key (λ t. IsVisible w s own t.header) p t)
-place-on_heap value_of since w horizon pages entries s own sound active sees_none value key None none =
-    found-on_heap value_of since w horizon pages entries s own sound active sees_none value key None none
-place-on_heap value_of since w horizon pages entries s own sound active sees_none value key (Some q) f =
+place-on_heap value_of since w pages entries s own sound active sees_none value key None none =
+    found-on_heap value_of since w pages entries s own sound active sees_none value key None none
+place-on_heap value_of since w pages entries s own sound active sees_none value key (Some q) f =
     let slots = slots_on pages f.entry.tid.page in
     let at = f.seen_at in
     let chain = at.chain in
@@ -106,14 +106,14 @@ place-on_heap value_of since w horizon pages entries s own sound active sees_non
       there = seen-there w (IsVisible w s own) pages f.entry.tid q at;
       has = seen.first.is_seen;
     } in
-    (t, (visible-found value_of since w horizon pages entries sound s own active sees_none value key q t).1 i)
+    (t, (visible-found value_of since w pages entries sound s own active sees_none value key q t).1 i)
 
 -- Ids that made or deleted a version.
 
-some-on_heap : (value_of : Row → ℤ) (w : Window) (horizon : ℕ) (pages : List (List Slot)) (entries : List Entry) (P : Header → Type 0) → EntriesAreSound value_of None w horizon pages entries
+some-on_heap : (value_of : Row → ℤ) (w : Window) (pages : List (List Slot)) (entries : List Entry) (P : Header → Type 0) → EntriesAreSound value_of None w pages entries
     → ((p : Tid) (t : Version) → version_in pages p ≡ Some t → P t.header → ¬ IsUndone w t.header)
     → (value : ℤ) (key : ℕ) → SomeOf w P pages entries value key ↔ SomeOnHeap value_of pages value key P
-some-on_heap value_of w horizon pages entries P sound made value key = (
+some-on_heap value_of w pages entries P sound made value key = (
   (λ s.
       let slots = slots_on pages s.entry.tid.page in
       let a = s.at.some in
@@ -129,12 +129,12 @@ some-on_heap value_of w horizon pages entries P sound made value key = (
         there = a.there;
         has = a.has;
       } in
-      (p, a.version, (found value_of None w horizon pages entries sound (λ t. P t.header) (λ p t at has. (made p t at has, λ none. none)) value key p a.version).1 i)),
+      (p, a.version, (found value_of None w pages entries sound (λ t. P t.header) (λ p t at has. (made p t at has, λ none. none)) value key p a.version).1 i)),
   (λ h.
       let p = h.0 in
-      let i = (found value_of None w horizon pages entries sound (λ t. P t.header) (λ p t at has. (made p t at has, λ none. none)) value key p h.1).0 h.2 in
+      let i = (found value_of None w pages entries sound (λ t. P t.header) (λ p t at has. (made p t at has, λ none. none)) value key p h.1).0 h.2 in
       let slots = slots_on pages i.entry.tid.page in
-      let l = in-leads w horizon slots i.entry.tid.slot p.slot (sound.heap i.entry.tid.page) i.leads.chain in
+      let l = in-leads w slots i.entry.tid.slot p.slot (sound.heap i.entry.tid.page) i.leads.chain in
       let q = place-of p.slot l.chain l.holds in
       record {
         entry = i.entry;
@@ -154,18 +154,18 @@ some-on_heap value_of w horizon pages entries P sound made value key = (
       }),
 )
 
-pub newer_commit-on_heap : (value_of : Row → ℤ) (w : Window) (horizon : ℕ) (pages : List (List Slot)) (entries : List Entry) (s : Snap) (x : ℕ) → EntriesAreSound value_of None w horizon pages entries
+pub newer_commit-on_heap : (value_of : Row → ℤ) (w : Window) (pages : List (List Slot)) (entries : List Entry) (s : Snap) (x : ℕ) → EntriesAreSound value_of None w pages entries
     → (value : ℤ) (key : ℕ) → SomeOf w (IsNewerCommitIn w s x) pages entries value key ↔ SomeOnHeap value_of pages value key (IsNewerCommitIn w s x)
-newer_commit-on_heap value_of w horizon pages entries s x sound value key = some-on_heap value_of w horizon pages entries (IsNewerCommitIn w s x) sound
-    (λ p t at newer_commit. touched-made w horizon (slots_on pages p.page) p.slot x t (sound.heap p.page) at (alive (committed-to w x newer_commit.1)) newer_commit.0) value key
+newer_commit-on_heap value_of w pages entries s x sound value key = some-on_heap value_of w pages entries (IsNewerCommitIn w s x) sound
+    (λ p t at newer_commit. touched-made w (slots_on pages p.page) p.slot x t (sound.heap p.page) at (alive (committed-to w x newer_commit.1)) newer_commit.0) value key
   where
     alive : IsCommitted w x → ¬ IsAborted w x
     alive done gone = let e : Committed ≡ Aborted = sym done ∙ gone in cc
 
-pub other_writer-on_heap : (value_of : Row → ℤ) (w : Window) (horizon : ℕ) (pages : List (List Slot)) (entries : List Entry) (own : List ℕ) (x : ℕ) → EntriesAreSound value_of None w horizon pages entries
+pub other_writer-on_heap : (value_of : Row → ℤ) (w : Window) (pages : List (List Slot)) (entries : List Entry) (own : List ℕ) (x : ℕ) → EntriesAreSound value_of None w pages entries
     → (value : ℤ) (key : ℕ) → SomeOf w (IsOtherWriterIn w own x) pages entries value key ↔ SomeOnHeap value_of pages value key (IsOtherWriterIn w own x)
-other_writer-on_heap value_of w horizon pages entries own x sound value key = some-on_heap value_of w horizon pages entries (IsOtherWriterIn w own x) sound
-    (λ p t at held. touched-made w horizon (slots_on pages p.page) p.slot x t (sound.heap p.page) at (alive (active-to w x held.active).unfinished) held.touch) value key
+other_writer-on_heap value_of w pages entries own x sound value key = some-on_heap value_of w pages entries (IsOtherWriterIn w own x) sound
+    (λ p t at held. touched-made w (slots_on pages p.page) p.slot x t (sound.heap p.page) at (alive (active-to w x held.active).unfinished) held.touch) value key
   where
     alive : IsInProgress w x → ¬ IsAborted w x
     alive active gone = let e : InProgress ≡ Aborted = sym active ∙ gone in cc

@@ -25,9 +25,9 @@ no-version : {P : Type 0} (n : ℕ) (t : Version) → version_at [] n ≡ Some t
 no-version zero t at = absurd (cc)
 no-version (suc n) t at = absurd (cc)
 
-pub nothing-sound : (value_of : Row → ℤ) (since : Option ℕ) (w : Window) (horizon : ℕ) → EntriesAreSound value_of since w horizon [] []
-nothing-sound value_of since w horizon = record {
-  heap = λ n. empty-page w horizon;
+pub nothing-sound : (value_of : Row → ℤ) (since : Option ℕ) (w : Window) → EntriesAreSound value_of since w [] []
+nothing-sound value_of since w = record {
+  heap = λ n. empty-page w;
   index = record {
     leads = λ e there. none-among e there;
     led = λ p n t i at. no-version n t at;
@@ -38,9 +38,9 @@ nothing-sound value_of since w horizon = record {
 
 -- Entries that lead to dead slots go.
 
-pub going-stays : (value_of : Row → ℤ) (since : Option ℕ) (w : Window) (horizon : ℕ) (pages : List (List Slot)) (entries entries' : List Entry) (dead : List Tid) → EntriesAreSound value_of since w horizon pages entries
-    → Loses entries entries' dead → ((p : Tid) → Contains dead p → slot_in pages p ≡ Some Dead) → StaysSound value_of since w horizon pages pages entries entries'
-going-stays value_of since w horizon pages entries entries' dead sound loses are_dead = record {
+pub going-stays : (value_of : Row → ℤ) (since : Option ℕ) (w : Window) (pages : List (List Slot)) (entries entries' : List Entry) (dead : List Tid) → EntriesAreSound value_of since w pages entries
+    → Loses entries entries' dead → ((p : Tid) → Contains dead p → slot_in pages p ≡ Some Dead) → StaysSound value_of since w pages pages entries entries'
+going-stays value_of since w pages entries entries' dead sound loses are_dead = record {
   sound = record {
     heap = sound.heap;
     index = record {

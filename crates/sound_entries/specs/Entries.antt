@@ -18,8 +18,8 @@ use Rattle.index_nodes.specs.Sets.{IsOf}
 use Rattle.index_lookup.specs.Pages.{slots_on, slot_in}
 
 -- each page is sound
-abbrev pub SoundHeap : Window → ℕ → List (List Slot) → Type 0
-SoundHeap w horizon pages = (n : ℕ) → SoundPage w horizon (slots_on pages n)
+abbrev pub SoundHeap : Window → List (List Slot) → Type 0
+SoundHeap w pages = (n : ℕ) → SoundPage w (slots_on pages n)
 
 -- what an entry leads to: a version that isn't heap-only, a redirect, or a dead slot
 abbrev pub MayBeTarget : Option Slot → Type 0
@@ -47,8 +47,8 @@ pub record SoundEntries (value_of : Row → ℤ) (since : Option ℕ) (w : Windo
   pub alike : (e : Entry) (n : ℕ) (t : Version) → Contains entries e → IsIn w (slots_on pages e.tid.page) e.tid.slot n
       → version_at (slots_on pages e.tid.page) n ≡ Some t → IsExcused w since t ⊎ IsOf (value_of t.row) t.row.key e
 
-pub record EntriesAreSound (value_of : Row → ℤ) (since : Option ℕ) (w : Window) (horizon : ℕ) (pages : List (List Slot)) (entries : List Entry) : Type 0 where
-  pub heap : SoundHeap w horizon pages
+pub record EntriesAreSound (value_of : Row → ℤ) (since : Option ℕ) (w : Window) (pages : List (List Slot)) (entries : List Entry) : Type 0 where
+  pub heap : SoundHeap w pages
   pub index : SoundEntries value_of since w pages entries
 
 -- The law of each step, for a slot that an entry leads to before and after: it holds the same version, by its row and its
@@ -62,6 +62,6 @@ abbrev pub KeepsTargets : List (List Slot) → List (List Slot) → List Entry �
 KeepsTargets pages pages' entries entries' = (e : Entry) → Contains entries e → Contains entries' e → KeepsTarget (slot_in pages e.tid) (slot_in pages' e.tid)
 
 -- a step leaves the table sound, and keeps that law
-pub record StaysSound (value_of : Row → ℤ) (since : Option ℕ) (v : Window) (horizon : ℕ) (pages pages' : List (List Slot)) (entries entries' : List Entry) : Type 0 where
-  pub sound : EntriesAreSound value_of since v horizon pages' entries'
+pub record StaysSound (value_of : Row → ℤ) (since : Option ℕ) (v : Window) (pages pages' : List (List Slot)) (entries entries' : List Entry) : Type 0 where
+  pub sound : EntriesAreSound value_of since v pages' entries'
   pub led : KeepsTargets pages pages' entries entries'

@@ -8,7 +8,7 @@ use Rattle.page_slots.specs.declared.slot.Slot.TheVariants.{Dead}
 use Rattle.page_slots.specs.Slots.{free_number}
 use Rattle.commit_status.specs.declared.status.Status.{Status}
 use Rattle.commit_status.specs.declared.status.Status.TheVariants.{InProgress, Committed, Aborted}
-use Rattle.commit_status.specs.Window.{Window, IsWindow, IsActive, IsAborted, IsUpToNext, next_id, turns}
+use Rattle.commit_status.specs.Window.{Window, IsWindow, IsActive, IsAborted, next_id}
 use Rattle.commit_status.specs.Changes.{Gives, Finishes}
 use Rattle.snapshot.specs.Snap.{Snap, taken, empty_at}
 use Rattle.snapshot.specs.Laws.{AreOpen, IsInWindow}
@@ -33,30 +33,30 @@ use Rattle.tuple_header.specs.declared.version.TheConstants.{MOST_SLOTS}
 
 -- a version that is neither undone nor excused is in the chain of exactly one entry, which has its value and its key
 abbrev pub LedByEntry : Type 0
-LedByEntry = (value_of : Row → ℤ) (since : Option ℕ) (w : Window) (horizon : ℕ) (pages : List (List Slot)) (entries : List Entry) (p : Tid) (t : Version) → EntriesAreSound value_of since w horizon pages entries
+LedByEntry = (value_of : Row → ℤ) (since : Option ℕ) (w : Window) (pages : List (List Slot)) (entries : List Entry) (p : Tid) (t : Version) → EntriesAreSound value_of since w pages entries
     → version_in pages p ≡ Some t → ¬ IsUndone w t.header → ¬ IsExcused w since t → HasOneEntry w pages entries p (value_of t.row) t.row.key
 
 -- in an index that always was exact each root and redirect has an entry
 abbrev pub EachRootHasEntry : Type 0
-EachRootHasEntry = (value_of : Row → ℤ) (w : Window) (horizon : ℕ) (pages : List (List Slot)) (entries : List Entry) (p : Tid) → EntriesAreSound value_of None w horizon pages entries
+EachRootHasEntry = (value_of : Row → ℤ) (w : Window) (pages : List (List Slot)) (entries : List Entry) (p : Tid) → EntriesAreSound value_of None w pages entries
     → is_root_in (slot_in pages p) ≡ true → SomeEntry entries p
 
 -- a reader whose own ids are in progress, and who sees no excused version, finds the same by the index as on the heap
 abbrev pub FoundByIndex : Type 0
-FoundByIndex = (value_of : Row → ℤ) (since : Option ℕ) (w : Window) (horizon : ℕ) (pages : List (List Slot)) (entries : List Entry) (s : Snap) (own : List ℕ) → EntriesAreSound value_of since w horizon pages entries
+FoundByIndex = (value_of : Row → ℤ) (since : Option ℕ) (w : Window) (pages : List (List Slot)) (entries : List Entry) (s : Snap) (own : List ℕ) → EntriesAreSound value_of since w pages entries
     → ((x : ℕ) → Contains own x → IsActive w x) → SeesNoExcused w since s own → (value : ℤ) (key : ℕ) (p : Tid) (t : Version)
     → IsOnHeap value_of pages value key (λ t. IsVisible w s own t.header) p t ↔ IsByIndex w pages entries value key (λ t. IsVisible w s own t.header) p t
 
 -- by an index that always was exact the same is found of what an id made or deleted, that is committed or in progress
 abbrev pub TouchedByIndex : Type 0
-TouchedByIndex = (value_of : Row → ℤ) (w : Window) (horizon : ℕ) (pages : List (List Slot)) (entries : List Entry) (x : ℕ) → EntriesAreSound value_of None w horizon pages entries
+TouchedByIndex = (value_of : Row → ℤ) (w : Window) (pages : List (List Slot)) (entries : List Entry) (x : ℕ) → EntriesAreSound value_of None w pages entries
     → ¬ IsAborted w x → (value : ℤ) (key : ℕ) (p : Tid) (t : Version)
     → IsOnHeap value_of pages value key (λ t. Touches x t.header) p t ↔ IsByIndex w pages entries value key (λ t. Touches x t.header) p t
 
 -- Where the entries are sound and no excused version is seen, what is found is what stands on the heap: a row of a version there that
 -- is seen, where there is one.
 abbrev pub FoundIsOnHeap : Type 0
-FoundIsOnHeap = (value_of : Row → ℤ) (since : Option ℕ) (w : Window) (horizon : ℕ) (pages : List (List Slot)) (entries : List Entry) (s : Snap) (own : List ℕ) → EntriesAreSound value_of since w horizon pages entries
+FoundIsOnHeap = (value_of : Row → ℤ) (since : Option ℕ) (w : Window) (pages : List (List Slot)) (entries : List Entry) (s : Snap) (own : List ℕ) → EntriesAreSound value_of since w pages entries
     → ((x : ℕ) → Contains own x → IsActive w x) → SeesNoExcused w since s own → (value : ℤ) (key : ℕ) (answer : Option Row) → FirstFound w (IsVisible w s own) pages entries value key answer
     → MatchOption answer
     ((p : Tid) (t : Version) → ¬ IsOnHeap value_of pages value key (λ t. IsVisible w s own t.header) p t)
@@ -64,7 +64,7 @@ FoundIsOnHeap = (value_of : Row → ℤ) (since : Option ℕ) (w : Window) (hori
 
 -- Where at most one version of the value and the key is seen, its row is found.
 abbrev pub TheRowIsFound : Type 0
-TheRowIsFound = (value_of : Row → ℤ) (since : Option ℕ) (w : Window) (horizon : ℕ) (pages : List (List Slot)) (entries : List Entry) (s : Snap) (own : List ℕ) → EntriesAreSound value_of since w horizon pages entries
+TheRowIsFound = (value_of : Row → ℤ) (since : Option ℕ) (w : Window) (pages : List (List Slot)) (entries : List Entry) (s : Snap) (own : List ℕ) → EntriesAreSound value_of since w pages entries
     → ((x : ℕ) → Contains own x → IsActive w x) → SeesNoExcused w since s own → (value : ℤ) (key : ℕ)
     → ((p q : Tid) (t u : Version) → IsOnHeap value_of pages value key (λ t. IsVisible w s own t.header) p t → IsOnHeap value_of pages value key (λ t. IsVisible w s own t.header) q u → p ≡ q)
     → (answer : Option Row) → FirstFound w (IsVisible w s own) pages entries value key answer
@@ -72,7 +72,7 @@ TheRowIsFound = (value_of : Row → ℤ) (since : Option ℕ) (w : Window) (hori
 
 -- Where the entries are sound and no excused version is seen, this is the place of a version on the heap that is seen, where there is one.
 abbrev pub PlaceIsOnHeap : Type 0
-PlaceIsOnHeap = (value_of : Row → ℤ) (since : Option ℕ) (w : Window) (horizon : ℕ) (pages : List (List Slot)) (entries : List Entry) (s : Snap) (own : List ℕ) → EntriesAreSound value_of since w horizon pages entries
+PlaceIsOnHeap = (value_of : Row → ℤ) (since : Option ℕ) (w : Window) (pages : List (List Slot)) (entries : List Entry) (s : Snap) (own : List ℕ) → EntriesAreSound value_of since w pages entries
     → ((x : ℕ) → Contains own x → IsActive w x) → SeesNoExcused w since s own → (value : ℤ) (key : ℕ) (answer : Option Tid) → FirstPlace w (IsVisible w s own) pages entries value key answer
     → MatchOption answer
     ((p : Tid) (t : Version) → ¬ IsOnHeap value_of pages value key (λ t. IsVisible w s own t.header) p t)
@@ -80,11 +80,11 @@ PlaceIsOnHeap = (value_of : Row → ℤ) (since : Option ℕ) (w : Window) (hori
 
 -- Where the entries are sound and the index always was exact, such ids are those of versions on the heap.
 abbrev pub NewerCommitIsOnHeap : Type 0
-NewerCommitIsOnHeap = (value_of : Row → ℤ) (w : Window) (horizon : ℕ) (pages : List (List Slot)) (entries : List Entry) (s : Snap) (x : ℕ) → EntriesAreSound value_of None w horizon pages entries
+NewerCommitIsOnHeap = (value_of : Row → ℤ) (w : Window) (pages : List (List Slot)) (entries : List Entry) (s : Snap) (x : ℕ) → EntriesAreSound value_of None w pages entries
     → (value : ℤ) (key : ℕ) → SomeOf w (IsNewerCommitIn w s x) pages entries value key ↔ SomeOnHeap value_of pages value key (IsNewerCommitIn w s x)
 
 abbrev pub OtherWriterIsOnHeap : Type 0
-OtherWriterIsOnHeap = (value_of : Row → ℤ) (w : Window) (horizon : ℕ) (pages : List (List Slot)) (entries : List Entry) (own : List ℕ) (x : ℕ) → EntriesAreSound value_of None w horizon pages entries
+OtherWriterIsOnHeap = (value_of : Row → ℤ) (w : Window) (pages : List (List Slot)) (entries : List Entry) (own : List ℕ) (x : ℕ) → EntriesAreSound value_of None w pages entries
     → (value : ℤ) (key : ℕ) → SomeOf w (IsOtherWriterIn w own x) pages entries value key ↔ SomeOnHeap value_of pages value key (IsOtherWriterIn w own x)
 
 -- An index that is exact from an id on.
@@ -112,73 +112,68 @@ FinishingKeepsSince = (w v : Window) (ids : List ℕ) (status : Status) (since :
 
 -- a table without pages is sound, with an index without entries
 abbrev pub NoEntriesAreSound : Type 0
-NoEntriesAreSound = (value_of : Row → ℤ) (since : Option ℕ) (w : Window) (horizon : ℕ) → EntriesAreSound value_of since w horizon [] []
+NoEntriesAreSound = (value_of : Row → ℤ) (since : Option ℕ) (w : Window) → EntriesAreSound value_of since w [] []
 
 -- an id in progress adds a root, with an entry of its own
 abbrev pub AddingKeepsEntries : Type 0
-AddingKeepsEntries = (value_of : Row → ℤ) (since : Option ℕ) (w : Window) (horizon x n : ℕ) (pages pages' : List (List Slot)) (entries entries' : List Entry) (updated : Bool) (row : Row)
-    → EntriesAreSound value_of since w horizon pages entries → IsActive w x → free_number (slots_on pages n) ≤ MOST_SLOTS
+AddingKeepsEntries = (value_of : Row → ℤ) (since : Option ℕ) (w : Window) (x n : ℕ) (pages pages' : List (List Slot)) (entries entries' : List Entry) (updated : Bool) (row : Row)
+    → EntriesAreSound value_of since w pages entries → IsActive w x → free_number (slots_on pages n) ≤ MOST_SLOTS
     → Puts pages pages' n (with_root (slots_on pages n) updated x n row) → AddsEntry entries entries' (entry_for value_of row n (free_number (slots_on pages n)))
-    → StaysSound value_of since w horizon pages pages' entries entries'
+    → StaysSound value_of since w pages pages' entries entries'
 
 -- an id in progress takes a version away
 abbrev pub TakingKeepsEntries : Type 0
-TakingKeepsEntries = (value_of : Row → ℤ) (since : Option ℕ) (w : Window) (horizon n k x page place : ℕ) (pages pages' : List (List Slot)) (entries : List Entry)
-    → EntriesAreSound value_of since w horizon pages entries → IsActive w x → IsDeletable w (slots_on pages n) k
+TakingKeepsEntries = (value_of : Row → ℤ) (since : Option ℕ) (w : Window) (n k x page place : ℕ) (pages pages' : List (List Slot)) (entries : List Entry)
+    → EntriesAreSound value_of since w pages entries → IsActive w x → IsDeletable w (slots_on pages n) k
     → Puts pages pages' n (with_replaced (slots_on pages n) k x page place false)
-    → StaysSound value_of since w horizon pages pages' entries entries
+    → StaysSound value_of since w pages pages' entries entries
 
 -- an id in progress replaces a version by a heap-only one of the same value and key
 abbrev pub UpdatingKeepsEntries : Type 0
-UpdatingKeepsEntries = (value_of : Row → ℤ) (since : Option ℕ) (w : Window) (horizon n k x page : ℕ) (pages pages' : List (List Slot)) (entries : List Entry) (row : Row) (old : Version)
-    → EntriesAreSound value_of since w horizon pages entries → IsActive w x → IsDeletable w (slots_on pages n) k → free_number (slots_on pages n) ≤ MOST_SLOTS
+UpdatingKeepsEntries = (value_of : Row → ℤ) (since : Option ℕ) (w : Window) (n k x page : ℕ) (pages pages' : List (List Slot)) (entries : List Entry) (row : Row) (old : Version)
+    → EntriesAreSound value_of since w pages entries → IsActive w x → IsDeletable w (slots_on pages n) k → free_number (slots_on pages n) ≤ MOST_SLOTS
     → version_in pages (record { page = n; slot = k }) ≡ Some old → value_of row ≡ value_of old.row → row.key ≡ old.row.key
     → Puts pages pages' n (with_updated (slots_on pages n) k x page row)
-    → StaysSound value_of since w horizon pages pages' entries entries
+    → StaysSound value_of since w pages pages' entries entries
 
 -- a page is pruned
 abbrev pub PruningKeepsEntries : Type 0
 PruningKeepsEntries = (value_of : Row → ℤ) (since : Option ℕ) (w : Window) (horizon n : ℕ) (pages pages' : List (List Slot)) (entries : List Entry) (after : List Slot)
-    → EntriesAreSound value_of since w horizon pages entries → IsPruned w horizon (slots_on pages n) after → Puts pages pages' n after
-    → StaysSound value_of since w horizon pages pages' entries entries
+    → EntriesAreSound value_of since w pages entries → IsPruned w horizon (slots_on pages n) after → Puts pages pages' n after
+    → StaysSound value_of since w pages pages' entries entries
 
 -- or by a part of that, as by any plan that checks
 abbrev pub ThinningKeepsEntries : Type 0
 ThinningKeepsEntries = (value_of : Row → ℤ) (since : Option ℕ) (w : Window) (horizon n : ℕ) (pages pages' : List (List Slot)) (entries : List Entry) (after : List Slot)
-    → EntriesAreSound value_of since w horizon pages entries → IsThinned w horizon (slots_on pages n) after → Puts pages pages' n after
-    → StaysSound value_of since w horizon pages pages' entries entries
+    → EntriesAreSound value_of since w pages entries → IsThinned w horizon (slots_on pages n) after → Puts pages pages' n after
+    → StaysSound value_of since w pages pages' entries entries
 
 -- a page without slots comes into use
 abbrev pub PagesGrowSound : Type 0
-PagesGrowSound = (value_of : Row → ℤ) (since : Option ℕ) (w : Window) (horizon n : ℕ) (pages pages' : List (List Slot)) (entries : List Entry)
-    → EntriesAreSound value_of since w horizon pages entries → Puts pages pages' n (slots_on pages n) → StaysSound value_of since w horizon pages pages' entries entries
+PagesGrowSound = (value_of : Row → ℤ) (since : Option ℕ) (w : Window) (n : ℕ) (pages pages' : List (List Slot)) (entries : List Entry)
+    → EntriesAreSound value_of since w pages entries → Puts pages pages' n (slots_on pages n) → StaysSound value_of since w pages pages' entries entries
 
 -- entries that lead to dead slots go, all of them or some
 abbrev pub EntriesGoSound : Type 0
-EntriesGoSound = (value_of : Row → ℤ) (since : Option ℕ) (w : Window) (horizon : ℕ) (pages : List (List Slot)) (entries entries' : List Entry) (dead : List Tid)
-    → EntriesAreSound value_of since w horizon pages entries → Loses entries entries' dead → ((p : Tid) → Contains dead p → slot_in pages p ≡ Some Dead)
-    → StaysSound value_of since w horizon pages pages entries entries'
+EntriesGoSound = (value_of : Row → ℤ) (since : Option ℕ) (w : Window) (pages : List (List Slot)) (entries entries' : List Entry) (dead : List Tid)
+    → EntriesAreSound value_of since w pages entries → Loses entries entries' dead → ((p : Tid) → Contains dead p → slot_in pages p ≡ Some Dead)
+    → StaysSound value_of since w pages pages entries entries'
 
--- What becomes of transactions, and of the horizon, keeps it too.
+-- What becomes of transactions keeps it too.
 
 abbrev pub GivingKeepsEntries : Type 0
-GivingKeepsEntries = (value_of : Row → ℤ) (since : Option ℕ) (w v : Window) (horizon : ℕ) (parent : Option ℕ) (pages : List (List Slot)) (entries : List Entry)
-    → EntriesAreSound value_of since w horizon pages entries → IsWindow w → IsWindow v → Gives w v parent → StaysSound value_of since v horizon pages pages entries entries
+GivingKeepsEntries = (value_of : Row → ℤ) (since : Option ℕ) (w v : Window) (parent : Option ℕ) (pages : List (List Slot)) (entries : List Entry)
+    → EntriesAreSound value_of since w pages entries → IsWindow w → IsWindow v → Gives w v parent → StaysSound value_of since v pages pages entries entries
 
 abbrev pub CommittingKeepsEntries : Type 0
-CommittingKeepsEntries = (value_of : Row → ℤ) (since : Option ℕ) (w v : Window) (horizon : ℕ) (ids : List ℕ) (pages : List (List Slot)) (entries : List Entry)
-    → EntriesAreSound value_of since w horizon pages entries → ((x : ℕ) → Contains ids x → IsActive w x) → Finishes w v ids Committed
-    → ((n : ℕ) → DeletedWhatWasMade w (slots_on pages n) ids) → StaysSound value_of since v horizon pages pages entries entries
+CommittingKeepsEntries = (value_of : Row → ℤ) (since : Option ℕ) (w v : Window) (ids : List ℕ) (pages : List (List Slot)) (entries : List Entry)
+    → EntriesAreSound value_of since w pages entries → ((x : ℕ) → Contains ids x → IsActive w x) → Finishes w v ids Committed
+    → ((n : ℕ) → DeletedWhatWasMade w (slots_on pages n) ids) → StaysSound value_of since v pages pages entries entries
 
 abbrev pub AbortingKeepsEntries : Type 0
-AbortingKeepsEntries = (value_of : Row → ℤ) (since : Option ℕ) (w v : Window) (horizon : ℕ) (ids : List ℕ) (pages : List (List Slot)) (entries : List Entry)
-    → EntriesAreSound value_of since w horizon pages entries → ((x : ℕ) → Contains ids x → IsActive w x) → Finishes w v ids Aborted
-    → ((n : ℕ) → AloneDeletedTheirs w (slots_on pages n) ids) → StaysSound value_of since v horizon pages pages entries entries
-
-abbrev pub LaterHorizonKeepsEntries : Type 0
-LaterHorizonKeepsEntries = (value_of : Row → ℤ) (since : Option ℕ) (w : Window) (horizon later : ℕ) (pages : List (List Slot)) (entries : List Entry)
-    → EntriesAreSound value_of since w horizon pages entries → IsWindow w → IsUpToNext w horizon → IsUpToNext w later → turns w.first horizon ≤ turns w.first later
-    → StaysSound value_of since w later pages pages entries entries
+AbortingKeepsEntries = (value_of : Row → ℤ) (since : Option ℕ) (w v : Window) (ids : List ℕ) (pages : List (List Slot)) (entries : List Entry)
+    → EntriesAreSound value_of since w pages entries → ((x : ℕ) → Contains ids x → IsActive w x) → Finishes w v ids Aborted
+    → ((n : ℕ) → AloneDeletedTheirs w (slots_on pages n) ids) → StaysSound value_of since v pages pages entries entries
 
 -- The law of each step holds of two steps, one after the other, where entries only come.
 abbrev pub LedByTwoSteps : Type 0

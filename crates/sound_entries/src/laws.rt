@@ -1,6 +1,6 @@
 //! The laws of sound entries. Each function does nothing: its contract is the law.
 
-ghost use Rattle.sound_entries.specs.Laws.{LedByEntry, EachRootHasEntry, FoundByIndex, TouchedByIndex, FoundIsOnHeap, TheRowIsFound, PlaceIsOnHeap, NewerCommitIsOnHeap, OtherWriterIsOnHeap, WhoMayScanSeesNoExcused, WhoBeginsMayScan, GivingKeepsSince, FinishingKeepsSince, NoEntriesAreSound, AddingKeepsEntries, TakingKeepsEntries, UpdatingKeepsEntries, PruningKeepsEntries, ThinningKeepsEntries, PagesGrowSound, EntriesGoSound, GivingKeepsEntries, CommittingKeepsEntries, AbortingKeepsEntries, LaterHorizonKeepsEntries, LedByTwoSteps};
+ghost use Rattle.sound_entries.specs.Laws.{LedByEntry, EachRootHasEntry, FoundByIndex, TouchedByIndex, FoundIsOnHeap, TheRowIsFound, PlaceIsOnHeap, NewerCommitIsOnHeap, OtherWriterIsOnHeap, WhoMayScanSeesNoExcused, WhoBeginsMayScan, GivingKeepsSince, FinishingKeepsSince, NoEntriesAreSound, AddingKeepsEntries, TakingKeepsEntries, UpdatingKeepsEntries, PruningKeepsEntries, ThinningKeepsEntries, PagesGrowSound, EntriesGoSound, GivingKeepsEntries, CommittingKeepsEntries, AbortingKeepsEntries, LedByTwoSteps};
 
 /// A version that is neither undone nor excused is in the chain of exactly one entry, which has its value and its key.
 pub fn led_by_entry()
@@ -125,11 +125,6 @@ pub fn committing_keeps_entries()
 /// or by one of them.
 pub fn aborting_keeps_entries()
     ensures { AbortingKeepsEntries }
-{}
-
-/// The table stays sound under a later horizon.
-pub fn later_horizon_keeps_entries()
-    ensures { LaterHorizonKeepsEntries }
 {}
 
 /// What an entry leads to after two steps is what the law of one step says, if both steps keep it.

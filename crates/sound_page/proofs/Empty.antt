@@ -25,8 +25,8 @@ no-chain : {P : Type 0} (w : Window) (root n : ℕ) → IsIn w [] root n → P
 no-chain w zero n i = absurd (none-some i.entry i.leads)
 no-chain w (suc root) n i = absurd (none-some i.entry i.leads)
 
-pub empty-page : (w : Window) (horizon : ℕ) → SoundPage w horizon []
-empty-page w horizon = record {
+pub empty-page : (w : Window) → SoundPage w []
+empty-page w = record {
   few = omega arith;
   made = λ n t at done. no-version n t at;
   undone = λ n t at thawed gone some. no-version n t at;

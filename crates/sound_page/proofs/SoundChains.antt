@@ -52,19 +52,19 @@ chain-exists aborted slots n few =
         (cases_Bool (list_any (nat_eq m) visited))
 
 -- the last of a chain leads nowhere
-end-none : (w : Window) (horizon : ℕ) (slots : List Slot) (n : ℕ) (chain : List ℕ) (last : ℕ) (o : Option ℕ) → SoundPage w horizon slots → IsChain (has_aborted w) slots n chain
+end-none : (w : Window) (slots : List Slot) (n : ℕ) (chain : List ℕ) (last : ℕ) (o : Option ℕ) → SoundPage w slots → IsChain (has_aborted w) slots n chain
     → last + 1 ≡ length chain → link w slots (get_or chain last 0) ≡ o → IsEnd chain o → o ≡ None
-end-none w horizon slots n chain last None sound c size e end = refl
-end-none w horizon slots n chain last (Some y) sound c size e end =
+end-none w slots n chain last None sound c size e end = refl
+end-none w slots n chain last (Some y) sound c size e end =
     let p = any-place y chain end in
     let r = reaches-places w slots n chain p.0 last c (let b = p.1 in omega arith) (omega arith) in
     absurd (sound.ends (get_or chain last 0) y e (subst (λ x. Reaches (link w slots) x (get_or chain last 0)) p.2 r))
 
-pub chain-ends : (w : Window) (horizon : ℕ) (slots : List Slot) (n : ℕ) (chain : List ℕ) (last : ℕ) → SoundPage w horizon slots → IsChain (has_aborted w) slots n chain
+pub chain-ends : (w : Window) (slots : List Slot) (n : ℕ) (chain : List ℕ) (last : ℕ) → SoundPage w slots → IsChain (has_aborted w) slots n chain
     → last + 1 ≡ length chain → link w slots (get_or chain last 0) ≡ None
-chain-ends w horizon slots n chain last sound c size =
+chain-ends w slots n chain last sound c size =
     let place : length chain - 1 ≡ last = omega arith in
-    end-none w horizon slots n chain last (link w slots (get_or chain last 0)) sound c size refl
+    end-none w slots n chain last (link w slots (get_or chain last 0)) sound c size refl
     (subst (λ k. IsEnd chain (link w slots (get_or chain k 0))) place (c.end (omega arith)))
 
 -- what a chain's slot comes to is in the chain
@@ -72,19 +72,19 @@ pub record IsLater (chain : List ℕ) (i j x : ℕ) : Type 0 where
   pub within : i + j < length chain
   pub is : x ≡ get_or chain (i + j) 0
 
-pub exact : (w : Window) (horizon : ℕ) (slots : List Slot) (n : ℕ) (chain : List ℕ) (i j x : ℕ) → SoundPage w horizon slots → IsChain (has_aborted w) slots n chain
+pub exact : (w : Window) (slots : List Slot) (n : ℕ) (chain : List ℕ) (i j x : ℕ) → SoundPage w slots → IsChain (has_aborted w) slots n chain
     → i < length chain → ReachesIn (link w slots) j (get_or chain i 0) x → IsLater chain i j x
-exact w horizon slots n chain i zero x sound c within along =
+exact w slots n chain i zero x sound c within along =
     let e : i ≡ i + 0 = omega arith in
     record { within = omega arith; is = sym along ∙ ap (λ k. get_or chain k 0) e }
-exact w horizon slots n chain i (suc j) x sound c within along = ⊎_elim
+exact w slots n chain i (suc j) x sound c within along = ⊎_elim
     (λ more.
     let same : along.0 ≡ get_or chain (i + 1) 0 = same_Some along.0 (get_or chain (i + 1) 0) (sym along.1 ∙ c.linked i more) in
-    let rest = exact w horizon slots n chain (i + 1) j x sound c more (subst (λ k. ReachesIn (link w slots) j k x) same along.2) in
+    let rest = exact w slots n chain (i + 1) j x sound c more (subst (λ k. ReachesIn (link w slots) j k x) same along.2) in
     let e : i + 1 + j ≡ i + suc j = omega arith in
     record { within = subst (λ k. k < length chain) e rest.within; is = rest.is ∙ ap (λ k. get_or chain k 0) e })
     (λ past.
-    let none = chain-ends w horizon slots n chain i sound c (omega arith) in
+    let none = chain-ends w slots n chain i sound c (omega arith) in
     let f : None ≡ Some along.0 = sym none ∙ along.1 in
     absurd (cc))
     (cases_lt (i + 1) (length chain))
@@ -130,8 +130,8 @@ first-entry slots n f starts first = by (slot_at slots n) starts first
         there false e = absurd (cc)
     by (Some Dead) s e = absurd (cc)
 
-pub entry-first : (w : Window) (horizon : ℕ) (slots : List Slot) (n e : ℕ) → SoundPage w horizon slots → chain_start_of slots n ≡ Some e → first_of slots n ≡ Some e
-entry-first w horizon slots n e sound leads = by (slot_at slots n) refl leads
+pub entry-first : (w : Window) (slots : List Slot) (n e : ℕ) → SoundPage w slots → chain_start_of slots n ≡ Some e → first_of slots n ≡ Some e
+entry-first w slots n e sound leads = by (slot_at slots n) refl leads
   where
     by : (o : Option Slot) → slot_at slots n ≡ o → chain_start_in n o ≡ Some e → option_and_then (start_in slots n) o ≡ Some e
     by None at f = absurd (cc)
@@ -146,11 +146,11 @@ entry-first w horizon slots n e sound leads = by (slot_at slots n) refl leads
         ap (λ (o : Option Version). if is_some o then Some k else None) target.there ∙ f
     by (Some Dead) at f = absurd (cc)
 
-pub in-leads : (w : Window) (horizon : ℕ) (slots : List Slot) (root n : ℕ) → SoundPage w horizon slots → IsIn w slots root n → LeadsTo (has_aborted w) slots root n
-in-leads w horizon slots root n sound i =
+pub in-leads : (w : Window) (slots : List Slot) (root n : ℕ) → SoundPage w slots → IsIn w slots root n → LeadsTo (has_aborted w) slots root n
+in-leads w slots root n sound i =
     let c = chain-exists (has_aborted w) slots root sound.few in
-    let first = chain-first (has_aborted w) slots root i.entry c.chain c.is (entry-first w horizon slots root i.entry sound i.leads) in
-    let later = exact w horizon slots root c.chain 0 i.later.turns n sound c.is first.0 (subst (λ k. ReachesIn (link w slots) i.later.turns k n) (sym first.1) i.later.along) in
+    let first = chain-first (has_aborted w) slots root i.entry c.chain c.is (entry-first w slots root i.entry sound i.leads) in
+    let later = exact w slots root c.chain 0 i.later.turns n sound c.is first.0 (subst (λ k. ReachesIn (link w slots) i.later.turns k n) (sym first.1) i.later.along) in
     record { starts = entry-root slots root i.entry i.leads; chain = c.chain; is_chain = c.is; holds = at-place n c.chain (0 + i.later.turns) later.within (sym later.is) }
 
 pub leads-in : (w : Window) (slots : List Slot) (root n : ℕ) → LeadsTo (has_aborted w) slots root n → IsIn w slots root n
@@ -164,5 +164,5 @@ leads-in w slots root n l =
       later = subst (λ k. Reaches (link w slots) (get_or l.chain 0 0) k) p.2 (reaches-places w slots root l.chain 0 p.0 l.is_chain (omega arith) p.1);
     }
 
-pub sound-unshared : (w : Window) (horizon : ℕ) (slots : List Slot) → SoundPage w horizon slots → NoSharedSlots (has_aborted w) slots
-sound-unshared w horizon slots sound a b n x y = sound.alone a b n (leads-in w slots a n x) (leads-in w slots b n y)
+pub sound-unshared : (w : Window) (slots : List Slot) → SoundPage w slots → NoSharedSlots (has_aborted w) slots
+sound-unshared w slots sound a b n x y = sound.alone a b n (leads-in w slots a n x) (leads-in w slots b n y)

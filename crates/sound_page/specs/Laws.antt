@@ -11,11 +11,11 @@ use Rattle.sound_page.specs.Readers.{IsPageReader, IsOpenReader}
 
 -- a page without slots is sound
 abbrev pub EmptyPageIsSound : Type 0
-EmptyPageIsSound = (w : Window) (horizon : ℕ) → SoundPage w horizon []
+EmptyPageIsSound = (w : Window) → SoundPage w []
 
 -- no slot is in two chains
 abbrev pub SoundIsUnshared : Type 0
-SoundIsUnshared = (w : Window) (horizon : ℕ) (slots : List Slot) → SoundPage w horizon slots → NoSharedSlots (has_aborted w) slots
+SoundIsUnshared = (w : Window) (slots : List Slot) → SoundPage w slots → NoSharedSlots (has_aborted w) slots
 
 -- who has a snapshot and own ids reads as is asked of a reader
 abbrev pub OpenReadersAreReaders : Type 0

@@ -43,7 +43,7 @@ pub record SomeNext (w : Window) (slots : List Slot) (n : ℕ) : Type 0 where
   pub place : ℕ
   pub next : link w slots n ≡ Some place
 
-pub record SoundPage (w : Window) (horizon : ℕ) (slots : List Slot) : Type 0 where
+pub record SoundPage (w : Window) (slots : List Slot) : Type 0 where
   pub few : length slots ≤ MOST_SLOTS
   -- a committed deleter deleted what was made
   pub made : (n : ℕ) (t : Version) → version_at slots n ≡ Some t → IsCommitted w t.header.xmax.0 → IsFrozen t.header ⊎ IsCommitted w t.header.xmin.0

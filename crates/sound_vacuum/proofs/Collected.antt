@@ -230,22 +230,22 @@ module _ (h h' : HeapView) (i : ℕ) (dead : List Tid) (from : Option Entry) (pr
     fresh = λ e there absent. absurd (absent (only-go n e there));
   }
 
-  piece-of : (horizon : ℕ) → SoundTable h horizon → AreDead (slots_of h) dead → (n : ℕ) → EntriesAreSound (value_in n) (since_at h.indexes n) h.statuses horizon (slots_of h) (entries_in h.indexes n)
-      → StaysSound (value_in n) (since_at h.indexes n) h.statuses horizon (slots_of h) (slots_of h) (entries_in h.indexes n) (entries_in h'.indexes n)
-  piece-of horizon s are n = on-index
-      (λ k old new. EntriesAreSound (value_in k) (since_at h.indexes k) h.statuses horizon (slots_of h) old → StaysSound (value_in k) (since_at h.indexes k) h.statuses horizon (slots_of h) (slots_of h) old new)
-      (λ sound. piece-stays (value_in i) (since_at h.indexes i) h.statuses horizon (slots_of h) (entries_in h.indexes i) (entries_in h'.indexes i) dead from progress sound v.removes are)
-      (λ k es sound. going-stays (value_in k) (since_at h.indexes k) h.statuses horizon (slots_of h) es es sound (λ e there. there) (λ e there root. there))
+  piece-of : SoundTable h → AreDead (slots_of h) dead → (n : ℕ) → EntriesAreSound (value_in n) (since_at h.indexes n) h.statuses (slots_of h) (entries_in h.indexes n)
+      → StaysSound (value_in n) (since_at h.indexes n) h.statuses (slots_of h) (slots_of h) (entries_in h.indexes n) (entries_in h'.indexes n)
+  piece-of s are n = on-index
+      (λ k old new. EntriesAreSound (value_in k) (since_at h.indexes k) h.statuses (slots_of h) old → StaysSound (value_in k) (since_at h.indexes k) h.statuses (slots_of h) (slots_of h) old new)
+      (λ sound. piece-stays (value_in i) (since_at h.indexes i) h.statuses (slots_of h) (entries_in h.indexes i) (entries_in h'.indexes i) dead from progress sound v.removes are)
+      (λ k es sound. going-stays (value_in k) (since_at h.indexes k) h.statuses (slots_of h) es es sound (λ e there. there) (λ e there root. there))
       n
 
-  pub swept-stays-table : (horizon : ℕ) → SoundTable h horizon → AreDead (slots_of h) dead → StaysSoundTable h h' horizon
-  swept-stays-table horizon s are = table-stays h h' horizon
-      (subst (λ pages. SoundHeap h'.statuses horizon pages) (sym same-slots) (subst (λ (w : Window). SoundHeap w horizon (slots_of h)) (sym same-table) s.heap))
+  pub swept-stays-table : SoundTable h → AreDead (slots_of h) dead → StaysSoundTable h h'
+  swept-stays-table s are = table-stays h h'
+      (subst (λ pages. SoundHeap h'.statuses pages) (sym same-slots) (subst (λ (w : Window). SoundHeap w (slots_of h)) (sym same-table) s.heap))
       v.in_use v.since
       (λ n used.
-      subst (λ pages. StaysSound (value_in n) (since_at h.indexes n) h'.statuses horizon (slots_of h) pages (entries_in h.indexes n) (entries_in h'.indexes n)) (sym same-slots)
-      (subst (λ (w : Window). StaysSound (value_in n) (since_at h.indexes n) w horizon (slots_of h) (slots_of h) (entries_in h.indexes n) (entries_in h'.indexes n)) (sym same-table)
-      (piece-of horizon s are n (index-sound h horizon s n used))))
+      subst (λ pages. StaysSound (value_in n) (since_at h.indexes n) h'.statuses (slots_of h) pages (entries_in h.indexes n) (entries_in h'.indexes n)) (sym same-slots)
+      (subst (λ (w : Window). StaysSound (value_in n) (since_at h.indexes n) w (slots_of h) (slots_of h) (entries_in h.indexes n) (entries_in h'.indexes n)) (sym same-table)
+      (piece-of s are n (index-sound h s n used))))
 
   pub swept-unseen : (s : Snap) (own : List ℕ) → FindsTheSame h h' s own
   swept-unseen s own q r =

@@ -111,13 +111,13 @@ module _ (h h' : HeapView) (p horizon : ℕ) (n : Notes h h' p horizon) where
   pub notes-page : slots_on (slots_of h) p ≡ n.page.slots
   notes-page = slots-there h.pages.pages p n.page n.at
 
-  pub then-noted : (g : HeapView) → SoundTable g horizon → g.statuses ≡ h.statuses → (same : h.indexes ≡ g.indexes) → StaysSoundTable g h horizon
+  pub then-noted : (g : HeapView) → SoundTable g → g.statuses ≡ h.statuses → (same : h.indexes ≡ g.indexes) → StaysSoundTable g h
       → ((s : Snap) (own : List ℕ) → IsTableReader g horizon s own → IsTableReader h horizon s own × FindsTheSame g h s own)
       → MapsAreTrue h.statuses horizon h'.pages.pages h'.pages.marks → IsSafe g h' horizon
   then-noted g sound ids same stays unseen maps = record {
     ids = notes-flag.statuses ∙ sym ids;
-    table = stays-then g h h' horizon sound (same-come g.indexes h.indexes (same-entries g.indexes h.indexes same)) stays
-        (flagged-stays h h' p n.mark notes-flag horizon stays.sound);
+    table = stays-then g h h' sound (same-come g.indexes h.indexes (same-entries g.indexes h.indexes same)) stays
+        (flagged-stays h h' p n.mark notes-flag stays.sound);
     maps = subst (λ (w : Window). MapsAreTrue w horizon h'.pages.pages h'.pages.marks) (sym notes-flag.statuses) maps;
     unseen = λ s own reader.
         let first = unseen s own reader in
@@ -160,7 +160,7 @@ module _ (h h' : HeapView) (i : ℕ) (dead : List Tid) (from : Option Entry) (pr
   pub sweep-safe : (horizon : ℕ) → CanVacuum h horizon → AreDead (slots_of h) dead → IsSafe h h' horizon
   sweep-safe horizon can are = record {
     ids = sweep-table;
-    table = swept-stays-table h h' i dead from progress s horizon can.sound are;
+    table = swept-stays-table h h' i dead from progress s can.sound are;
     maps = subst (λ (g : HeapView). MapsAreTrue g.statuses horizon g.pages.pages g.pages.marks) (sym s.is) can.maps;
     unseen = λ snap own reader. (
       subst (λ (g : HeapView). IsTableReader g horizon snap own) (sym s.is) reader,
@@ -184,7 +184,7 @@ module _ (h h' : HeapView) (v v' : VacuumView) (horizon p : ℕ) (can : CanVacuu
 
   pub free-safe : AllAreSwept h v.store → IsSafe h h' horizon
   free-safe swept = then-noted f.freed h' p horizon f.notes h can.sound (sym free-table) (ap (λ (g : HeapView). g.indexes) f.frees.is)
-      (freed-stays-table h f.freed p f.numbers f.frees horizon can.sound (swept-unled h v.store p f.numbers swept freed-collected))
+      (freed-stays-table h f.freed p f.numbers f.frees can.sound (swept-unled h v.store p f.numbers swept freed-collected))
       (λ s own reader. (freed-reader-table h f.freed p f.numbers f.frees horizon s own reader, freed-unseen h f.freed p f.numbers f.frees s own))
       (freed-maps h f.freed horizon p f.numbers h'.pages.pages h.pages.marks h'.pages.marks f.notes.page f.notes.mark can.maps f.frees
       (record {

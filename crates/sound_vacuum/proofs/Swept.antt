@@ -22,11 +22,11 @@ use Rattle.root_index.specs.Pieces.{RemovesPiece}
 use Rattle.sound_vacuum.specs.Sweeping.{AreDead, IsSweptBefore, IsSweptTo, RemovesPieces, KeepsDead, RemovesEntries}
 
 -- Some of the entries to dead slots go.
-pub going-stays : (value_of : Row → ℤ) (since : Option ℕ) (w : Window) (horizon : ℕ) (pages : List (List Slot)) (entries entries' : List Entry) → EntriesAreSound value_of since w horizon pages entries
+pub going-stays : (value_of : Row → ℤ) (since : Option ℕ) (w : Window) (pages : List (List Slot)) (entries entries' : List Entry) → EntriesAreSound value_of since w pages entries
     → ((e : Entry) → Contains entries' e → Contains entries e)
     → ((e : Entry) → Contains entries e → is_root_in (slot_in pages e.tid) ≡ true → Contains entries' e)
-    → StaysSound value_of since w horizon pages pages entries entries'
-going-stays value_of since w horizon pages entries entries' sound old stays = record {
+    → StaysSound value_of since w pages pages entries entries'
+going-stays value_of since w pages entries entries' sound old stays = record {
   sound = record {
     heap = sound.heap;
     index = record {
@@ -49,11 +49,11 @@ going-stays value_of since w horizon pages entries entries' sound old stays = re
 dead-no_root : (o : Option Slot) → o ≡ Some Dead → is_root_in o ≡ true → ⊥
 dead-no_root o at root = let e : false ≡ true = sym (ap is_root_in at) ∙ root in cc
 
-pub piece-stays : (value_of : Row → ℤ) (since : Option ℕ) (w : Window) (horizon : ℕ) (pages : List (List Slot)) (entries entries' : List Entry) (dead : List Tid) (from : Option Entry) (progress : Progress)
-    → EntriesAreSound value_of since w horizon pages entries → RemovesPiece entries entries' dead from progress → AreDead pages dead
-    → StaysSound value_of since w horizon pages pages entries entries'
-piece-stays value_of since w horizon pages entries entries' dead from progress sound removes are_dead =
-    going-stays value_of since w horizon pages entries entries' sound
+pub piece-stays : (value_of : Row → ℤ) (since : Option ℕ) (w : Window) (pages : List (List Slot)) (entries entries' : List Entry) (dead : List Tid) (from : Option Entry) (progress : Progress)
+    → EntriesAreSound value_of since w pages entries → RemovesPiece entries entries' dead from progress → AreDead pages dead
+    → StaysSound value_of since w pages pages entries entries'
+piece-stays value_of since w pages entries entries' dead from progress sound removes are_dead =
+    going-stays value_of since w pages entries entries' sound
     (λ e there. ((removes.members e).0 there).0)
     (λ e there root. (removes.members e).1 (there, λ all. dead-no_root (slot_in pages e.tid) (are_dead e.tid all.2) root))
 

@@ -53,9 +53,9 @@ StepsKeepDeadSlots = (h h' : HeapView) → StepsBetween h h' → KeepsDeadSlots 
 -- A piece of index i.
 
 abbrev pub SweepingStaysSoundTable : Type 0
-SweepingStaysSoundTable = (h h' : HeapView) (horizon i : ℕ) (dead : List Tid) (from : Option Entry)
-    (progress : Progress) → SoundTable h horizon → AreDead (slots_of h) dead
-    → SweepsAt h h' i dead from progress → StaysSoundTable h h' horizon
+SweepingStaysSoundTable = (h h' : HeapView) (i : ℕ) (dead : List Tid) (from : Option Entry)
+    (progress : Progress) → SoundTable h → AreDead (slots_of h) dead
+    → SweepsAt h h' i dead from progress → StaysSoundTable h h'
 
 abbrev pub SweepingIsUnseen : Type 0
 SweepingIsUnseen = (h h' : HeapView) (i : ℕ) (dead : List Tid) (from : Option Entry)

@@ -21,11 +21,11 @@ AreDead pages dead = (p : Tid) → Contains dead p → slot_in pages p ≡ Some 
 
 -- The table stays sound when a piece of an index is gone through.
 abbrev pub SweepingStaysSound : Type 0
-SweepingStaysSound = (value_of : Row → ℤ) (since : Option ℕ) (w : Window) (horizon : ℕ) (pages : List (List Slot))
+SweepingStaysSound = (value_of : Row → ℤ) (since : Option ℕ) (w : Window) (pages : List (List Slot))
     (entries entries' : List Entry) (dead : List Tid) (from : Option Entry) (progress : Progress)
-    → EntriesAreSound value_of since w horizon pages entries → RemovesPiece entries entries' dead from progress
+    → EntriesAreSound value_of since w pages entries → RemovesPiece entries entries' dead from progress
     → AreDead pages dead
-    → StaysSound value_of since w horizon pages pages entries entries'
+    → StaysSound value_of since w pages pages entries entries'
 
 -- Of the entries that the sweep has come to none leads to a dead place: those that a piece which begins after `from` has behind it.
 abbrev pub IsSweptBefore : List Entry → List Tid → Option Entry → Type 0

@@ -196,12 +196,12 @@ module _ (w v : Window) (c : ℕ) (is : IsWindow w) (up : IsUpToNext w c) (t : T
 same-slots : (h h' : HeapView) (c : ℕ) → ForgetsBefore h h' c → slots_of h' ≡ slots_of h
 same-slots h h' c f = ap slots_of f.is
 
-pub forgotten-table : (h h' : HeapView) (horizon c : ℕ) → SoundTable h horizon → IsWindow h.statuses → IsUpToNext h.statuses c
+pub forgotten-table : (h h' : HeapView) (c : ℕ) → SoundTable h → IsWindow h.statuses → IsUpToNext h.statuses c
     → ((n : ℕ) → AreYoung h.statuses c (slots_on (slots_of h) n)) → ((n : ℕ) → IsExactSince h.statuses (since_at h.indexes n))
-    → ForgetsBefore h h' c → SoundTable h' horizon
-forgotten-table h h' horizon c sound is up young exact f = record {
-  heap = subst (λ pages. SoundHeap h'.statuses horizon pages) (sym (same-slots h h' c f))
-      (λ n. forgetting-sound h.statuses h'.statuses c horizon (slots_on (slots_of h) n) is (truncated-window h.statuses h'.statuses c is f.truncates up) f.truncates up (young n) (sound.heap n));
+    → ForgetsBefore h h' c → SoundTable h'
+forgotten-table h h' c sound is up young exact f = record {
+  heap = subst (λ pages. SoundHeap h'.statuses pages) (sym (same-slots h h' c f))
+      (λ n. forgetting-sound h.statuses h'.statuses c (slots_on (slots_of h) n) is (truncated-window h.statuses h'.statuses c is f.truncates up) f.truncates up (young n) (sound.heap n));
   indexes = λ n used.
       let was : IsInUse h.indexes n = subst (λ (o : Option (List Entry)). IsSome o) (f.entries n) used in
       let kept = entries-kept h.statuses h'.statuses c is up f.truncates n (since_at h.indexes n) (slots_of h) (entries_in h.indexes n) young (exact n) (sound.indexes n was) in

@@ -32,7 +32,7 @@ use Rattle.table_integrity.proofs.Sights.{active-unread, new-unseen, new-seen, t
 -- Nobody can tell.
 
 -- what is cut from one page, no reader finds
-removed-found : (h : HeapView) (store' : Tid → Option Version) (n horizon : ℕ) (s : Snap) (own : List ℕ) → SoundTable h horizon → IsTableReader h horizon s own
+removed-found : (h : HeapView) (store' : Tid → Option Version) (n horizon : ℕ) (s : Snap) (own : List ℕ) → SoundTable h → IsTableReader h horizon s own
     → RemovesOn (version_in (slots_of h)) store' n (IsCut h.statuses horizon (slots_on (slots_of h) n))
     → (p : Tid) (r : Row) → FindsRowAt h s own p r ↔ FindsAt (IsVisible h.statuses s own) store' p r
 removed-found h store' n horizon s own sound reader removes p r = (
@@ -47,12 +47,12 @@ removed-found h store' n horizon s own sound reader removes p r = (
     slots : List Slot
     slots = slots_on (slots_of h) n
 
-pub pruning-unseen : (h h' : HeapView) (number horizon : ℕ) (s : Snap) (own : List ℕ) → SoundTable h horizon → Prunes h h' number horizon → IsTableReader h horizon s own → FindsTheSame h h' s own
+pub pruning-unseen : (h h' : HeapView) (number horizon : ℕ) (s : Snap) (own : List ℕ) → SoundTable h → Prunes h h' number horizon → IsTableReader h horizon s own → FindsTheSame h h' s own
 pruning-unseen h h' number horizon s own sound prunes reader p r =
     subst (λ (w : Window). FindsRowAt h s own p r ↔ FindsAt (IsVisible w s own) (version_in (slots_of h')) p r) (sym (ap (λ (g : HeapView). g.statuses) prunes.is))
     (removed-found h (version_in (slots_of h')) number horizon s own sound reader (prunes-stand h h' number horizon prunes) p r)
 
-pub applying-unseen : (h h' : HeapView) (number horizon change : ℕ) (actions : List (ℕ × Action)) (s : Snap) (own : List ℕ) → SoundTable h horizon → Applies h h' number horizon change actions
+pub applying-unseen : (h h' : HeapView) (number horizon change : ℕ) (actions : List (ℕ × Action)) (s : Snap) (own : List ℕ) → SoundTable h → Applies h h' number horizon change actions
     → IsTableReader h horizon s own → FindsTheSame h h' s own
 applying-unseen h h' number horizon change actions s own sound applies reader p r =
     subst (λ (w : Window). FindsRowAt h s own p r ↔ FindsAt (IsVisible w s own) (version_in (slots_of h')) p r) (sym (ap (λ (g : HeapView). g.statuses) applies.is))
@@ -90,7 +90,7 @@ deleting-unseen h h' horizon own own' place t x s ids writer may d reader foreig
     (taken-same (ReadsIn h'.statuses s ids) h.statuses t x place false (gone-unread h h' horizon own own' x s ids writer d.takes_ids reader foreign) may.untaken
     (unread h h' horizon own own' x s ids writer d.takes_ids reader foreign)))
 
-pub updating-unseen : (h h' : HeapView) (horizon : ℕ) (own own' : Own) (place : Tid) (t : Version) (row : Row) (x : ℕ) (s : Snap) (ids : List ℕ) → SoundTable h horizon → WritesUnder h h' own
+pub updating-unseen : (h h' : HeapView) (horizon : ℕ) (own own' : Own) (place : Tid) (t : Version) (row : Row) (x : ℕ) (s : Snap) (ids : List ℕ) → SoundTable h → WritesUnder h h' own
     → MayDelete h place t → Updates h h' own own' place row horizon x → IsTableReader h horizon s ids → ¬ Contains ids x → FindsTheSame h h' s ids
 updating-unseen h h' horizon own own' place t row x s ids sound writer may u reader foreign p r =
     let ready = version_in (slots_of u.ready) in
@@ -118,7 +118,7 @@ module _ (h h' : HeapView) (horizon : ℕ) (own own' : Own) (x : ℕ) (s : Snap)
   own-some = active-some h'.statuses x (takes-active h.statuses h'.statuses own own' x writer.before writer.after takes writer.active x
       (takes-mine h.statuses h'.statuses own own' x writer.before writer.after takes))
 
-pub insert-found : (h h' : HeapView) (horizon : ℕ) (own own' : Own) (row : Row) (x : ℕ) (s : Snap) → SoundTable h horizon → WritesUnder h h' own
+pub insert-found : (h h' : HeapView) (horizon : ℕ) (own own' : Own) (row : Row) (x : ℕ) (s : Snap) → SoundTable h → WritesUnder h h' own
     → Inserts h h' own own' row x → IsAuthor h horizon s own.ids → FindsOneMore (FindsRowAt h s own.ids) (FindsRowAt h' s own'.ids) row
 insert-found h h' horizon own own' row x s sound writer i author =
     let new = root_version h false x row i.number in
@@ -131,7 +131,7 @@ insert-found h h' horizon own own' row x s sound writer i author =
           (new-seen (ReadsIn h'.statuses s own'.ids) x row new (root-new h false x row i.number) (own-read h h' horizon own own' x s writer i.takes_ids author));
     }
 
-pub delete-found : (h h' : HeapView) (horizon : ℕ) (own own' : Own) (place : Tid) (t : Version) (x : ℕ) (s : Snap) → SoundTable h horizon → WritesUnder h h' own
+pub delete-found : (h h' : HeapView) (horizon : ℕ) (own own' : Own) (place : Tid) (t : Version) (x : ℕ) (s : Snap) → SoundTable h → WritesUnder h h' own
     → MayDelete h place t → Deletes h h' own own' place x → IsAuthor h horizon s own.ids → (p : Tid) (r : Row) → FindsRowAt h' s own'.ids p r ↔ Elsewhere place (FindsRowAt h s own.ids) p r
 delete-found h h' horizon own own' place t x s sound writer may d author =
     alters-hidden (version_in (slots_of h)) (version_in (slots_of h')) (IsVisible h.statuses s own.ids) (IsVisible h'.statuses s own'.ids)
@@ -139,7 +139,7 @@ delete-found h h' horizon own own' place t x s sound writer may d author =
     (taken-unseen (ReadsIn h'.statuses s own'.ids) t x place false (own-some h h' horizon own own' x s writer d.takes_ids author)
     (own-read h h' horizon own own' x s writer d.takes_ids author))
 
-pub update-found : (h h' : HeapView) (horizon : ℕ) (own own' : Own) (place : Tid) (t : Version) (row : Row) (x : ℕ) (s : Snap) → SoundTable h horizon → WritesUnder h h' own
+pub update-found : (h h' : HeapView) (horizon : ℕ) (own own' : Own) (place : Tid) (t : Version) (row : Row) (x : ℕ) (s : Snap) → SoundTable h → WritesUnder h h' own
     → MayDelete h place t → Updates h h' own own' place row horizon x → IsAuthor h horizon s own.ids → FindsOneMore (Elsewhere place (FindsRowAt h s own.ids)) (FindsRowAt h' s own'.ids) row
 update-found h h' horizon own own' place t row x s sound writer may u author = record {
   place = m.to;

@@ -64,15 +64,15 @@ module _ (a b : IndexesView) (row : Row) (place : Tid) (enters : Enters a b row 
 
 -- A table by its pages and each of its indexes.
 
-pub index-sound : (h : HeapView) (horizon : ℕ) → SoundTable h horizon → (n : ℕ) → IsInUse h.indexes n
-    → EntriesAreSound (value_in n) (since_at h.indexes n) h.statuses horizon (slots_of h) (entries_in h.indexes n)
-index-sound h horizon s n used = record { heap = s.heap; index = s.indexes n used }
+pub index-sound : (h : HeapView) → SoundTable h → (n : ℕ) → IsInUse h.indexes n
+    → EntriesAreSound (value_in n) (since_at h.indexes n) h.statuses (slots_of h) (entries_in h.indexes n)
+index-sound h s n used = record { heap = s.heap; index = s.indexes n used }
 
-pub table-stays : (h h' : HeapView) (horizon : ℕ) → SoundHeap h'.statuses horizon (slots_of h') → ((n : ℕ) → IsInUse h.indexes n ↔ IsInUse h'.indexes n)
+pub table-stays : (h h' : HeapView) → SoundHeap h'.statuses (slots_of h') → ((n : ℕ) → IsInUse h.indexes n ↔ IsInUse h'.indexes n)
     → ((n : ℕ) → since_at h'.indexes n ≡ since_at h.indexes n)
-    → ((n : ℕ) → IsInUse h.indexes n → StaysSound (value_in n) (since_at h.indexes n) h'.statuses horizon (slots_of h) (slots_of h') (entries_in h.indexes n) (entries_in h'.indexes n))
-    → StaysSoundTable h h' horizon
-table-stays h h' horizon heap in_use since each = record {
+    → ((n : ℕ) → IsInUse h.indexes n → StaysSound (value_in n) (since_at h.indexes n) h'.statuses (slots_of h) (slots_of h') (entries_in h.indexes n) (entries_in h'.indexes n))
+    → StaysSoundTable h h'
+table-stays h h' heap in_use since each = record {
   sound = record {
     heap = heap;
     indexes = λ n used. subst (λ (id : Option ℕ). SoundEntries (value_in n) id h'.statuses (slots_of h') (entries_in h'.indexes n)) (sym (since n)) (each n ((in_use n).1 used)).sound.index;
@@ -83,17 +83,17 @@ table-stays h h' horizon heap in_use since each = record {
 }
 
 -- where the entries are as they were
-pub same-stays : (h h' : HeapView) (horizon : ℕ) → SameEntries h.indexes h'.indexes → SoundHeap h'.statuses horizon (slots_of h')
-    → ((n : ℕ) → IsInUse h.indexes n → StaysSound (value_in n) (since_at h.indexes n) h'.statuses horizon (slots_of h) (slots_of h') (entries_in h.indexes n) (entries_in h.indexes n))
-    → StaysSoundTable h h' horizon
-same-stays h h' horizon same heap each = table-stays h h' horizon heap (same-used h.indexes h'.indexes same) same.since (λ n used.
-    subst (λ (es : List Entry). StaysSound (value_in n) (since_at h.indexes n) h'.statuses horizon (slots_of h) (slots_of h') (entries_in h.indexes n) es) (sym (same-in h.indexes h'.indexes same n))
+pub same-stays : (h h' : HeapView) → SameEntries h.indexes h'.indexes → SoundHeap h'.statuses (slots_of h')
+    → ((n : ℕ) → IsInUse h.indexes n → StaysSound (value_in n) (since_at h.indexes n) h'.statuses (slots_of h) (slots_of h') (entries_in h.indexes n) (entries_in h.indexes n))
+    → StaysSoundTable h h'
+same-stays h h' same heap each = table-stays h h' heap (same-used h.indexes h'.indexes same) same.since (λ n used.
+    subst (λ (es : List Entry). StaysSound (value_in n) (since_at h.indexes n) h'.statuses (slots_of h) (slots_of h') (entries_in h.indexes n) es) (sym (same-in h.indexes h'.indexes same n))
     (each n used))
 
 -- One step after another, where entries only come.
-pub stays-then : (a b c : HeapView) (horizon : ℕ) → SoundTable a horizon → OnlyCome a.indexes b.indexes
-    → StaysSoundTable a b horizon → StaysSoundTable b c horizon → StaysSoundTable a c horizon
-stays-then a b c horizon sound more first second = record {
+pub stays-then : (a b c : HeapView) → SoundTable a → OnlyCome a.indexes b.indexes
+    → StaysSoundTable a b → StaysSoundTable b c → StaysSoundTable a c
+stays-then a b c sound more first second = record {
   sound = second.sound;
   in_use = λ n. (λ used. (second.in_use n).0 ((first.in_use n).0 used), λ used. (first.in_use n).1 ((second.in_use n).1 used));
   since = λ n. second.since n ∙ first.since n;

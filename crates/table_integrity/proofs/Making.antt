@@ -52,7 +52,7 @@ made-by w pages number e o =
       is = o.is;
     }
 
-module _ (h : HeapView) (horizon number : ℕ) (entries : List Entry) (sound : SoundTable h horizon) (nobody : AllHaveEnded h)
+module _ (h : HeapView) (number : ℕ) (entries : List Entry) (sound : SoundTable h) (nobody : AllHaveEnded h)
     (lists_current : ListsCurrent h.statuses (slots_of h) number entries) where
   abbrev w : Window
   w = h.statuses
@@ -72,7 +72,7 @@ module _ (h : HeapView) (horizon number : ℕ) (entries : List Entry) (sound : S
       → version_at (slots_on pages e.tid.page) n ≡ Some t → IsCurrent w t.header → e ≡ index_entry_of number t.row e.tid
   one-version e n t there i at current =
       let m = by-version e there in
-      let one : m.version ≡ t = chain-one_current w horizon (slots_on pages e.tid.page) e.tid.slot m.slot n m.version t (sound.heap e.tid.page) nobody.window m.in_chain i m.there at m.current current in
+      let one : m.version ≡ t = chain-one_current w (slots_on pages e.tid.page) e.tid.slot m.slot n m.version t (sound.heap e.tid.page) nobody.window m.in_chain i m.there at m.current current in
       m.is ∙ ap (λ (v : Version). index_entry_of number v.row e.tid) one
 
   made-entries : SoundEntries (value_in number) (Some (next_id w)) w pages entries
@@ -81,7 +81,7 @@ module _ (h : HeapView) (horizon number : ℕ) (entries : List Entry) (sound : S
     led = λ p n t i at. ⊎_elim
         (λ dead. inl dead)
         (λ current.
-        let some = lists_current.each p t (record { slot = n; leads = in-leads w horizon (slots_on pages p.page) p.slot n (sound.heap p.page) i; there = at; current = current }) in
+        let some = lists_current.each p t (record { slot = n; leads = in-leads w (slots_on pages p.page) p.slot n (sound.heap p.page) i; there = at; current = current }) in
         inr (record { entry = some.0; there = some.1; at = some.2 }))
         (dead-or p.page n t at);
     one = λ e f there among same.
@@ -112,9 +112,9 @@ sound-as h h' column n since entries m same_since same_entries sound =
     (subst (λ pages. SoundEntries (value_in n) since h'.statuses pages (unwrap_or entries [])) (sym (same-slots h h' column m))
     (subst (λ w. SoundEntries (value_in n) since w (slots_of h) (unwrap_or entries [])) (sym m.statuses) sound)))
 
-pub made-sound : (h h' : HeapView) (horizon column : ℕ) → SoundTable h horizon → AllHaveEnded h → MakesIndex h h' column → SoundTable h' horizon
-made-sound h h' horizon column sound nobody m = record {
-  heap = subst (λ w. SoundHeap w horizon (slots_of h')) (sym m.statuses) (subst (λ pages. SoundHeap h.statuses horizon pages) (sym (same-slots h h' column m)) sound.heap);
+pub made-sound : (h h' : HeapView) (column : ℕ) → SoundTable h → AllHaveEnded h → MakesIndex h h' column → SoundTable h'
+made-sound h h' column sound nobody m = record {
+  heap = subst (λ w. SoundHeap w (slots_of h')) (sym m.statuses) (subst (λ pages. SoundHeap h.statuses pages) (sym (same-slots h h' column m)) sound.heap);
   indexes = λ n used. ⊎_elim
       (λ new. subst (λ i. SoundEntries (value_in i) (since_at h'.indexes i) h'.statuses (slots_of h') (entries_in h'.indexes i)) (sym new) made)
       (λ other. sound-as h h' column n (since_at h.indexes n) (entries_at h.indexes n) m (m.others_since n other) (m.others n other)
@@ -124,12 +124,12 @@ made-sound h h' horizon column sound nobody m = record {
   where
     made : SoundEntries (value_in (suc column)) (since_at h'.indexes (suc column)) h'.statuses (slots_of h') (entries_in h'.indexes (suc column))
     made = sound-as h h' column (suc column) (Some (next_id h.statuses)) (Some m.entries) m m.since m.made
-        (made-entries h horizon (suc column) m.entries sound nobody m.lists)
+        (made-entries h (suc column) m.entries sound nobody m.lists)
 
 -- what entries lead to is as it was
-pub made-led : (h h' : HeapView) (horizon column : ℕ) → SoundTable h horizon → MakesIndex h h' column
+pub made-led : (h h' : HeapView) (column : ℕ) → SoundTable h → MakesIndex h h' column
     → (n : ℕ) → KeepsTargets (slots_of h) (slots_of h') (entries_in h.indexes n) (entries_in h'.indexes n)
-made-led h h' horizon column sound m n e there among =
+made-led h h' column sound m n e there among =
     subst (λ pages. KeepsTarget (slot_in (slots_of h) e.tid) (slot_in pages e.tid)) (sym (same-slots h h' column m))
     (stays-same (slot_in (slots_of h) e.tid) ((sound.indexes n (used-by h.indexes n e there)).leads e there))
 

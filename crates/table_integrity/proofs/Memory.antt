@@ -20,12 +20,11 @@ module _ (w v : Window) (ids : SameIds w v) where
   pub same-status : (x : ℕ) → status_of v x ≡ status_of w x
   same-status x = status-same w.first v.first w.stop_age v.stop_age w.spare v.spare w.entries v.entries x ids.first ids.entries
 
-  pub same-sound : (horizon : ℕ) (slots : List Slot) → SoundPage w horizon slots → SoundPage v horizon slots
-  same-sound horizon slots sound = goes_on-sound w v horizon horizon slots (record {
+  pub same-sound : (slots : List Slot) → SoundPage w slots → SoundPage v slots
+  same-sound slots sound = goes_on-sound w v slots (record {
     aborted = λ n t at e. same-status t.header.xmax.0 ∙ e;
     aborted_maker = λ n t at thawed e. same-status t.header.xmin.0 ∙ e;
     committed = λ n t at thawed e. same-status t.header.xmin.0 ∙ e;
-    past = λ x done p. p;
     made = λ n t at done. ⊎_elim (λ f. inl f) (λ c. inr (same-status t.header.xmin.0 ∙ c)) (sound.made n t at (sym (same-status t.header.xmax.0) ∙ done));
     undone = λ n t at thawed gone some. same-status t.header.xmax.0 ∙ sound.undone n t at thawed (sym (same-status t.header.xmin.0) ∙ gone) some;
   }) sound

@@ -75,23 +75,23 @@ dead-or_current w h is ended made = deleted (status_of w h.xmax.0) refl
 -- Along a chain.
 
 -- what leads to a version that was made, was deleted
-link-deleted : (w : Window) (horizon : ℕ) (slots : List Slot) (a b : ℕ) (t u : Version) → SoundPage w horizon slots → link w slots a ≡ Some b
+link-deleted : (w : Window) (slots : List Slot) (a b : ℕ) (t u : Version) → SoundPage w slots → link w slots a ≡ Some b
     → version_at slots a ≡ Some t → version_at slots b ≡ Some u → IsFrozen u.header ⊎ IsCommitted w u.header.xmin.0 → IsCommitted w t.header.xmax.0
-link-deleted w horizon slots a b t u sound next at to made =
+link-deleted w slots a b t u sound next at to made =
     let l = link-of (has_aborted w) slots a b next in
     let old : l.old ≡ t = same_Some l.old t (sym l.from ∙ at) in
     let new : l.new ≡ u = same_Some l.new u (sym l.to ∙ to) in
     let id : u.header.xmin.0 ≡ t.header.xmax.0 = ap (λ (v : Version). v.header.xmin.0) (sym new) ∙ l.made ∙ ap (λ (v : Version). v.header.xmax.0) old in
     ⊎_elim (λ frozen. absurd (sound.unfrozen a b u next to frozen)) (λ done. subst (IsCommitted w) id done) made
 
-along-deleted : (w : Window) (horizon : ℕ) (slots : List Slot) (i a b : ℕ) (t u : Version) → SoundPage w horizon slots → ReachesIn (link w slots) (suc i) a b
+along-deleted : (w : Window) (slots : List Slot) (i a b : ℕ) (t u : Version) → SoundPage w slots → ReachesIn (link w slots) (suc i) a b
     → version_at slots a ≡ Some t → version_at slots b ≡ Some u → IsFrozen u.header ⊎ IsCommitted w u.header.xmin.0 → IsCommitted w t.header.xmax.0
-along-deleted w horizon slots zero a b t u sound along at to made =
-    link-deleted w horizon slots a along.0 t u sound along.1 at (ap (version_at slots) along.2 ∙ to) made
-along-deleted w horizon slots (suc i) a b t u sound along at to made =
+along-deleted w slots zero a b t u sound along at to made =
+    link-deleted w slots a along.0 t u sound along.1 at (ap (version_at slots) along.2 ∙ to) made
+along-deleted w slots (suc i) a b t u sound along at to made =
     let l = link-of (has_aborted w) slots a along.0 along.1 in
-    let gone = along-deleted w horizon slots i along.0 b l.new u sound along.2 l.to to made in
-    link-deleted w horizon slots a along.0 t l.new sound along.1 at l.to (sound.made along.0 l.new l.to gone)
+    let gone = along-deleted w slots i along.0 b l.new u sound along.2 l.to to made in
+    link-deleted w slots a along.0 t l.new sound along.1 at l.to (sound.made along.0 l.new l.to gone)
 
 -- of two that one comes to from a third, one is the other, or one comes from one to the other
 data Way (next : ℕ → Option ℕ) (a b : ℕ) : Type 0 where
@@ -108,13 +108,13 @@ way next (suc i) (suc j) start a b to_a to_b =
     way next i j to_a.0 a b to_a.2 (subst (λ x. ReachesIn next j x b) one to_b.2)
 
 -- two current versions of one chain are one
-pub chain-one_current : (w : Window) (horizon : ℕ) (slots : List Slot) (root a b : ℕ) (t u : Version) → SoundPage w horizon slots → IsWindow w
+pub chain-one_current : (w : Window) (slots : List Slot) (root a b : ℕ) (t u : Version) → SoundPage w slots → IsWindow w
     → IsIn w slots root a → IsIn w slots root b → version_at slots a ≡ Some t → version_at slots b ≡ Some u → IsCurrent w t.header → IsCurrent w u.header → t ≡ u
-chain-one_current w horizon slots root a b t u sound is in_a in_b at_a at_b one other =
+chain-one_current w slots root a b t u sound is in_a in_b at_a at_b one other =
     let start : in_b.entry ≡ in_a.entry = same_Some in_b.entry in_a.entry (sym in_b.leads ∙ in_a.leads) in
     by (way (link w slots) in_a.later.turns in_b.later.turns in_a.entry a b in_a.later.along (subst (λ x. ReachesIn (link w slots) in_b.later.turns x b) start in_b.later.along))
   where
     by : Way (link w slots) a b → t ≡ u
     by (Way.same e) = same_Some t u (sym at_a ∙ ap (version_at slots) e ∙ at_b)
-    by (Way.onward i along) = absurd (current-kept w t.header is one (along-deleted w horizon slots i a b t u sound along at_a at_b (current-made w u.header other)))
-    by (Way.back i along) = absurd (current-kept w u.header is other (along-deleted w horizon slots i b a u t sound along at_b at_a (current-made w t.header one)))
+    by (Way.onward i along) = absurd (current-kept w t.header is one (along-deleted w slots i a b t u sound along at_a at_b (current-made w u.header other)))
+    by (Way.back i along) = absurd (current-kept w u.header is other (along-deleted w slots i b a u t sound along at_b at_a (current-made w t.header one)))

@@ -43,19 +43,19 @@ elsewhere-same h s own place t key at of p r other = (
   (λ pair. pair.0),
 )
 
-pub insert-puts : (h h' : HeapView) (horizon : ℕ) (own own' : Own) (row : Row) (x : ℕ) (s : Snap) → SoundTable h horizon → WritesUnder h h' own
+pub insert-puts : (h h' : HeapView) (horizon : ℕ) (own own' : Own) (row : Row) (x : ℕ) (s : Snap) → SoundTable h → WritesUnder h h' own
     → Inserts h h' own own' row x → IsAuthor h horizon s own.ids → FindsNone (FindsRowAt h s own.ids) row.key → PutsRowOfKey (FindsRowAt h s own.ids) (FindsRowAt h' s own'.ids) row
 insert-puts h h' horizon own own' row x s sound writer i author none =
     one-row (FindsRowAt h s own.ids) (FindsRowAt h s own.ids) (FindsRowAt h' s own'.ids) row (λ p r other. (λ f. f, λ f. f)) none (insert-found h h' horizon own own' row x s sound writer i author)
 
-pub update-puts : (h h' : HeapView) (horizon : ℕ) (own own' : Own) (place : Tid) (t : Version) (row : Row) (x : ℕ) (s : Snap) → SoundTable h horizon → WritesUnder h h' own
+pub update-puts : (h h' : HeapView) (horizon : ℕ) (own own' : Own) (place : Tid) (t : Version) (row : Row) (x : ℕ) (s : Snap) → SoundTable h → WritesUnder h h' own
     → MayDelete h place t → row.key ≡ t.row.key → Updates h h' own own' place row horizon x → IsAuthor h horizon s own.ids
     → FindsNoneElsewhere (FindsRowAt h s own.ids) row.key place → PutsRowOfKey (FindsRowAt h s own.ids) (FindsRowAt h' s own'.ids) row
 update-puts h h' horizon own own' place t row x s sound writer may key u author only =
     one-row (FindsRowAt h s own.ids) (Elsewhere place (FindsRowAt h s own.ids)) (FindsRowAt h' s own'.ids) row (elsewhere-same h s own.ids place t row.key may.there (sym key))
     (λ p r of old. old.1 (only p r of old.0)) (update-found h h' horizon own own' place t row x s sound writer may u author)
 
-pub delete-takes : (h h' : HeapView) (horizon : ℕ) (own own' : Own) (place : Tid) (t : Version) (x : ℕ) (s : Snap) → SoundTable h horizon → WritesUnder h h' own
+pub delete-takes : (h h' : HeapView) (horizon : ℕ) (own own' : Own) (place : Tid) (t : Version) (x : ℕ) (s : Snap) → SoundTable h → WritesUnder h h' own
     → MayDelete h place t → Deletes h h' own own' place x → IsAuthor h horizon s own.ids → FindsNoneElsewhere (FindsRowAt h s own.ids) t.row.key place
     → FindsNone (FindsRowAt h' s own'.ids) t.row.key × SameOfOthers (FindsRowAt h s own.ids) (FindsRowAt h' s own'.ids) t.row.key
 delete-takes h h' horizon own own' place t x s sound writer may d author only =

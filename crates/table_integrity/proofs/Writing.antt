@@ -36,13 +36,13 @@ still-untaken w v h same = ⊎_elim (λ none. inl none) (λ gone. inr (same h.xm
 
 -- One page changes. The ids are those of w, in which x is in progress.
 
-module _ (h h' : HeapView) (w : Window) (horizon x : ℕ) (s : SoundTable (with_table h w) horizon) (active : IsActive w x) where
-  pub root-stays : (updated : Bool) (row : Row) (n : ℕ) → PutsRoot h h' updated x row n → StaysSoundTable (with_table h w) (with_table h' w) horizon
-  root-stays updated row n r = table-stays (with_table h w) (with_table h' w) horizon
-      (heap-puts w horizon n (slots_of h) (slots_of h') (with_root slots updated x n row) s.heap puts (root-added w horizon x n slots updated row (s.heap n) active few).sound)
+module _ (h h' : HeapView) (w : Window) (x : ℕ) (s : SoundTable (with_table h w)) (active : IsActive w x) where
+  pub root-stays : (updated : Bool) (row : Row) (n : ℕ) → PutsRoot h h' updated x row n → StaysSoundTable (with_table h w) (with_table h' w)
+  root-stays updated row n r = table-stays (with_table h w) (with_table h' w)
+      (heap-puts w n (slots_of h) (slots_of h') (with_root slots updated x n row) s.heap puts (root-added w x n slots updated row (s.heap n) active few).sound)
       (enters-used h.indexes h'.indexes row (free_place h n) r.entries) r.entries.since
-      (λ i used. adding-stays (value_in i) (since_at h.indexes i) w horizon x n (slots_of h) (slots_of h') (entries_in h.indexes i) (entries_in h'.indexes i) updated row
-      (index-sound (with_table h w) horizon s i used) active few puts (adds i used))
+      (λ i used. adding-stays (value_in i) (since_at h.indexes i) w x n (slots_of h) (slots_of h') (entries_in h.indexes i) (entries_in h'.indexes i) updated row
+      (index-sound (with_table h w) s i used) active few puts (adds i used))
     where
       slots : List Slot
       slots = slots_on (slots_of h) n
@@ -65,54 +65,54 @@ module _ (h h' : HeapView) (w : Window) (horizon x : ℕ) (s : SoundTable (with_
     is-free : IsDeletable w (slots_on (slots_of h) place.page) place.slot
     is-free = record { version = t; there = at; made = made; untaken = untaken }
 
-    pub away-stays : (successor : Tid) → SetsXmax h h' place x successor → StaysSoundTable (with_table h w) (with_table h' w) horizon
+    pub away-stays : (successor : Tid) → SetsXmax h h' place x successor → StaysSoundTable (with_table h w) (with_table h' w)
     away-stays successor a =
         let slots = slots_on (slots_of h) place.page in
         let after = with_replaced slots place.slot x successor.page successor.slot false in
         let puts = subst (λ xs. Puts (slots_of h) (slots_of h') place.page (with_replaced xs place.slot x successor.page successor.slot false)) (sym (slots_on-page_on h place.page))
         (away-puts h h' place x successor a) in
-        same-stays (with_table h w) (with_table h' w) horizon a.entries
-        (heap-puts w horizon place.page (slots_of h) (slots_of h') after s.heap puts
-        (taken-away w horizon place.slot x successor.page successor.slot slots (s.heap place.page) active is-free).sound)
-        (λ i used. taking-stays (value_in i) (since_at h.indexes i) w horizon place.page place.slot x successor.page successor.slot (slots_of h) (slots_of h') (entries_in h.indexes i)
-        (index-sound (with_table h w) horizon s i used) active is-free puts)
+        same-stays (with_table h w) (with_table h' w) a.entries
+        (heap-puts w place.page (slots_of h) (slots_of h') after s.heap puts
+        (taken-away w place.slot x successor.page successor.slot slots (s.heap place.page) active is-free).sound)
+        (λ i used. taking-stays (value_in i) (since_at h.indexes i) w place.page place.slot x successor.page successor.slot (slots_of h) (slots_of h') (entries_in h.indexes i)
+        (index-sound (with_table h w) s i used) active is-free puts)
 
-    pub here-stays : (row : Row) → row.key ≡ t.row.key → KeepsValues h place row → HotUpdates h h' place x row → StaysSoundTable (with_table h w) (with_table h' w) horizon
+    pub here-stays : (row : Row) → row.key ≡ t.row.key → KeepsValues h place row → HotUpdates h h' place x row → StaysSoundTable (with_table h w) (with_table h' w)
     here-stays row key values a =
         let slots = slots_on (slots_of h) place.page in
         let same = sym (slots_on-page_on h place.page) in
         let few : free_number slots ≤ 291 = subst (λ xs. free_number xs ≤ 291) same a.within in
         let puts = subst (λ xs. Puts (slots_of h) (slots_of h') place.page (with_updated xs place.slot x place.page row)) same (here-puts h h' place x row a) in
-        same-stays (with_table h w) (with_table h' w) horizon a.entries
-        (heap-puts w horizon place.page (slots_of h) (slots_of h') (with_updated slots place.slot x place.page row) s.heap puts
-        (updated-here w horizon place.slot x place.page slots row (s.heap place.page) active is-free few).sound)
-        (λ i used. updating-stays (value_in i) (since_at h.indexes i) w horizon place.page place.slot x place.page (slots_of h) (slots_of h') (entries_in h.indexes i) row t
-        (index-sound (with_table h w) horizon s i used) active is-free few at (values t.row (row-there h place t at) i used) key puts)
+        same-stays (with_table h w) (with_table h' w) a.entries
+        (heap-puts w place.page (slots_of h) (slots_of h') (with_updated slots place.slot x place.page row) s.heap puts
+        (updated-here w place.slot x place.page slots row (s.heap place.page) active is-free few).sound)
+        (λ i used. updating-stays (value_in i) (since_at h.indexes i) w place.page place.slot x place.page (slots_of h) (slots_of h') (entries_in h.indexes i) row t
+        (index-sound (with_table h w) s i used) active is-free few at (values t.row (row-there h place t at) i used) key puts)
 
 -- A version is replaced: by a root on any page, or on its own page by a heap-only one where no value changes.
 
-pub by-root-stays : (h h' : HeapView) (w : Window) (horizon x : ℕ) (place : Tid) (row : Row) (n : ℕ) (t : Version) → SoundTable (with_table h w) horizon → IsActive w x
-    → version_in (slots_of h) place ≡ Some t → IsMade w t.header → HasNoXmax w t.header → ColdUpdates h h' place x row n → StaysSoundTable (with_table h w) (with_table h' w) horizon
-by-root-stays h h' w horizon x place row n t s active at made untaken r =
-    let first = root-stays h r.middle w horizon x s active true row n r.root in
+pub by-root-stays : (h h' : HeapView) (w : Window) (x : ℕ) (place : Tid) (row : Row) (n : ℕ) (t : Version) → SoundTable (with_table h w) → IsActive w x
+    → version_in (slots_of h) place ≡ Some t → IsMade w t.header → HasNoXmax w t.header → ColdUpdates h h' place x row n → StaysSoundTable (with_table h w) (with_table h' w)
+by-root-stays h h' w x place row n t s active at made untaken r =
+    let first = root-stays h r.middle w x s active true row n r.root in
     let still = by-root-still h (version_in (slots_of r.middle)) place (free_place h n) (root_version h true x row n) t (root-stands h r.middle true x row n r.root) at in
-    stays-then (with_table h w) (with_table r.middle w) (with_table h' w) horizon s (enters-come h.indexes r.middle.indexes row (free_place h n) r.root.entries) first
-    (away-stays r.middle h' w horizon x first.sound active place t still made untaken (free_place h n) r.away)
+    stays-then (with_table h w) (with_table r.middle w) (with_table h' w) s (enters-come h.indexes r.middle.indexes row (free_place h n) r.root.entries) first
+    (away-stays r.middle h' w x first.sound active place t still made untaken (free_place h n) r.away)
 
-pub replaced-stays : (h h' : HeapView) (w : Window) (horizon x : ℕ) (place : Tid) (row : Row) (t : Version) → SoundTable (with_table h w) horizon → IsActive w x
-    → version_in (slots_of h) place ≡ Some t → IsMade w t.header → HasNoXmax w t.header → row.key ≡ t.row.key → Replaces h h' place x row → StaysSoundTable (with_table h w) (with_table h' w) horizon
-replaced-stays h h' w horizon x place row t s active at made untaken key (Replaces.on_page room (UpdatesOnPage.heap_only values a)) =
-    here-stays h h' w horizon x s active place t at made untaken row key values a
-replaced-stays h h' w horizon x place row t s active at made untaken key (Replaces.on_page room (UpdatesOnPage.as_root changed r)) =
-    by-root-stays h h' w horizon x place row place.page t s active at made untaken r
-replaced-stays h h' w horizon x place row t s active at made untaken key (Replaces.elsewhere room n off goes r) =
-    by-root-stays h h' w horizon x place row n t s active at made untaken r
+pub replaced-stays : (h h' : HeapView) (w : Window) (x : ℕ) (place : Tid) (row : Row) (t : Version) → SoundTable (with_table h w) → IsActive w x
+    → version_in (slots_of h) place ≡ Some t → IsMade w t.header → HasNoXmax w t.header → row.key ≡ t.row.key → Replaces h h' place x row → StaysSoundTable (with_table h w) (with_table h' w)
+replaced-stays h h' w x place row t s active at made untaken key (Replaces.on_page room (UpdatesOnPage.heap_only values a)) =
+    here-stays h h' w x s active place t at made untaken row key values a
+replaced-stays h h' w x place row t s active at made untaken key (Replaces.on_page room (UpdatesOnPage.as_root changed r)) =
+    by-root-stays h h' w x place row place.page t s active at made untaken r
+replaced-stays h h' w x place row t s active at made untaken key (Replaces.elsewhere room n off goes r) =
+    by-root-stays h h' w x place row n t s active at made untaken r
 
 -- Writes.
 
 -- the ids are given, and nothing else
-given : (h : HeapView) (v : Window) (horizon : ℕ) → SoundTable h horizon → SoundTable (with_table h v) horizon → StaysSoundTable h (with_table h v) horizon
-given h v horizon before after =
+given : (h : HeapView) (v : Window) → SoundTable h → SoundTable (with_table h v) → StaysSoundTable h (with_table h v)
+given h v before after =
     record {
       sound = after;
       in_use = λ n. (λ used. used, λ used. used);
@@ -120,31 +120,31 @@ given h v horizon before after =
       led = λ n e there among. stays-same (slot_in (slots_of h) e.tid) ((before.indexes n (used-by h.indexes n e there)).leads e there);
     }
 
-pub inserted-stays : (h h' : HeapView) (horizon : ℕ) (own own' : Own) (row : Row) (x : ℕ) → SoundTable h horizon → WritesUnder h h' own
-    → Inserts h h' own own' row x → StaysSoundTable h h' horizon
-inserted-stays h h' horizon own own' row x s writer i =
-    let g = given-stays h h'.statuses horizon own own' x s writer.before writer.after writer.active i.takes_ids in
-    stays-then h (with_table h h'.statuses) h' horizon s (λ n e there. there) (given h h'.statuses horizon s g.0)
-    (root-stays h h' h'.statuses horizon x g.0 g.1 false row i.number i.root)
+pub inserted-stays : (h h' : HeapView) (own own' : Own) (row : Row) (x : ℕ) → SoundTable h → WritesUnder h h' own
+    → Inserts h h' own own' row x → StaysSoundTable h h'
+inserted-stays h h' own own' row x s writer i =
+    let g = given-stays h h'.statuses own own' x s writer.before writer.after writer.active i.takes_ids in
+    stays-then h (with_table h h'.statuses) h' s (λ n e there. there) (given h h'.statuses s g.0)
+    (root-stays h h' h'.statuses x g.0 g.1 false row i.number i.root)
 
-pub deleted-stays : (h h' : HeapView) (horizon : ℕ) (own own' : Own) (place : Tid) (t : Version) (x : ℕ) → SoundTable h horizon → WritesUnder h h' own → MayDelete h place t
-    → Deletes h h' own own' place x → StaysSoundTable h h' horizon
-deleted-stays h h' horizon own own' place t x s writer may d =
-    let g = given-stays h h'.statuses horizon own own' x s writer.before writer.after writer.active d.takes_ids in
+pub deleted-stays : (h h' : HeapView) (own own' : Own) (place : Tid) (t : Version) (x : ℕ) → SoundTable h → WritesUnder h h' own → MayDelete h place t
+    → Deletes h h' own own' place x → StaysSoundTable h h'
+deleted-stays h h' own own' place t x s writer may d =
+    let g = given-stays h h'.statuses own own' x s writer.before writer.after writer.active d.takes_ids in
     let same = takes-status h.statuses h'.statuses own own' x writer.before writer.after d.takes_ids in
-    stays-then h (with_table h h'.statuses) h' horizon s (λ n e there. there) (given h h'.statuses horizon s g.0)
-    (away-stays h h' h'.statuses horizon x g.0 g.1 place t may.there (still-made h.statuses h'.statuses t.header same may.made)
+    stays-then h (with_table h h'.statuses) h' s (λ n e there. there) (given h h'.statuses s g.0)
+    (away-stays h h' h'.statuses x g.0 g.1 place t may.there (still-made h.statuses h'.statuses t.header same may.made)
     (still-untaken h.statuses h'.statuses t.header same may.untaken) place d.away)
 
-pub updated-stays : (h h' : HeapView) (horizon : ℕ) (own own' : Own) (place : Tid) (t : Version) (row : Row) (x : ℕ) → SoundTable h horizon → WritesUnder h h' own → MayDelete h place t
-    → row.key ≡ t.row.key → Updates h h' own own' place row horizon x → StaysSoundTable h h' horizon
+pub updated-stays : (h h' : HeapView) (horizon : ℕ) (own own' : Own) (place : Tid) (t : Version) (row : Row) (x : ℕ) → SoundTable h → WritesUnder h h' own → MayDelete h place t
+    → row.key ≡ t.row.key → Updates h h' own own' place row horizon x → StaysSoundTable h h'
 updated-stays h h' horizon own own' place t row x s writer may key u =
     let ready = with_table u.ready h.statuses in
     let first = ready-stays h u.ready place horizon (rounded_size_of row) s u.readies in
-    let g = given-stays ready h'.statuses horizon own own' x first.sound writer.before writer.after writer.active u.takes_ids in
+    let g = given-stays ready h'.statuses own own' x first.sound writer.before writer.after writer.active u.takes_ids in
     let same = takes-status h.statuses h'.statuses own own' x writer.before writer.after u.takes_ids in
     let at = updates-ready h h' own own' place row horizon x t u may.there in
-    stays-then h ready h' horizon s (ready-come h u.ready place horizon (rounded_size_of row) u.readies) first
-    (stays-then ready (with_table ready h'.statuses) h' horizon first.sound (λ n e there. there) (given ready h'.statuses horizon first.sound g.0)
-    (replaced-stays u.ready h' h'.statuses horizon x place row t g.0 g.1 at (still-made h.statuses h'.statuses t.header same may.made)
+    stays-then h ready h' s (ready-come h u.ready place horizon (rounded_size_of row) u.readies) first
+    (stays-then ready (with_table ready h'.statuses) h' first.sound (λ n e there. there) (given ready h'.statuses first.sound g.0)
+    (replaced-stays u.ready h' h'.statuses x place row t g.0 g.1 at (still-made h.statuses h'.statuses t.header same may.made)
     (still-untaken h.statuses h'.statuses t.header same may.untaken) key u.replaces))

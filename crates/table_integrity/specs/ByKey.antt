@@ -34,15 +34,15 @@ pub record PutsRowOfKey (before after : Tid → Row → Type 0) (row : Row) : Ty
   pub others : SameOfOthers before after row.key
 
 abbrev pub InsertPutsRow : Type 0
-InsertPutsRow = (h h' : HeapView) (horizon : ℕ) (own own' : Own) (row : Row) (x : ℕ) (s : Snap) → SoundTable h horizon → WritesUnder h h' own
+InsertPutsRow = (h h' : HeapView) (horizon : ℕ) (own own' : Own) (row : Row) (x : ℕ) (s : Snap) → SoundTable h → WritesUnder h h' own
     → Inserts h h' own own' row x → IsAuthor h horizon s own.ids → FindsNone (FindsRowAt h s own.ids) row.key → PutsRowOfKey (FindsRowAt h s own.ids) (FindsRowAt h' s own'.ids) row
 
 abbrev pub UpdatePutsRow : Type 0
-UpdatePutsRow = (h h' : HeapView) (horizon : ℕ) (own own' : Own) (place : Tid) (t : Version) (row : Row) (x : ℕ) (s : Snap) → SoundTable h horizon → WritesUnder h h' own
+UpdatePutsRow = (h h' : HeapView) (horizon : ℕ) (own own' : Own) (place : Tid) (t : Version) (row : Row) (x : ℕ) (s : Snap) → SoundTable h → WritesUnder h h' own
     → MayDelete h place t → row.key ≡ t.row.key → Updates h h' own own' place row horizon x → IsAuthor h horizon s own.ids
     → FindsNoneElsewhere (FindsRowAt h s own.ids) row.key place → PutsRowOfKey (FindsRowAt h s own.ids) (FindsRowAt h' s own'.ids) row
 
 abbrev pub DeleteTakesRow : Type 0
-DeleteTakesRow = (h h' : HeapView) (horizon : ℕ) (own own' : Own) (place : Tid) (t : Version) (x : ℕ) (s : Snap) → SoundTable h horizon → WritesUnder h h' own
+DeleteTakesRow = (h h' : HeapView) (horizon : ℕ) (own own' : Own) (place : Tid) (t : Version) (x : ℕ) (s : Snap) → SoundTable h → WritesUnder h h' own
     → MayDelete h place t → Deletes h h' own own' place x → IsAuthor h horizon s own.ids → FindsNoneElsewhere (FindsRowAt h s own.ids) t.row.key place
     → FindsNone (FindsRowAt h' s own'.ids) t.row.key × SameOfOthers (FindsRowAt h s own.ids) (FindsRowAt h' s own'.ids) t.row.key

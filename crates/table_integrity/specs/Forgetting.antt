@@ -13,9 +13,9 @@ use Rattle.table_integrity.specs.Table.{SoundTable}
 
 -- the table stays sound, if no version there needs an id that is forgotten
 abbrev pub ForgettingKeepsTable : Type 0
-ForgettingKeepsTable = (h h' : HeapView) (horizon c : ℕ) → SoundTable h horizon → IsWindow h.statuses → IsUpToNext h.statuses c
+ForgettingKeepsTable = (h h' : HeapView) (c : ℕ) → SoundTable h → IsWindow h.statuses → IsUpToNext h.statuses c
     → ((n : ℕ) → AreYoung h.statuses c (slots_on (slots_of h) n)) → ((n : ℕ) → IsExactSince h.statuses (since_at h.indexes n))
-    → ForgetsBefore h h' c → SoundTable h' horizon
+    → ForgetsBefore h h' c → SoundTable h'
 
 -- the id from which on an index is exact stays remembered or next, with none in progress before it
 abbrev pub ForgettingKeepsSince : Type 0

@@ -20,11 +20,11 @@ pub record AllHaveEnded (h : HeapView) : Type 0 where
 
 -- the table stays sound,
 abbrev pub MakingLeavesTableSound : Type 0
-MakingLeavesTableSound = (h h' : HeapView) (horizon column : ℕ) → SoundTable h horizon → AllHaveEnded h → MakesIndex h h' column → SoundTable h' horizon
+MakingLeavesTableSound = (h h' : HeapView) (column : ℕ) → SoundTable h → AllHaveEnded h → MakesIndex h h' column → SoundTable h'
 
 -- what an entry leads to stays,
 abbrev pub MakingKeepsTargets : Type 0
-MakingKeepsTargets = (h h' : HeapView) (horizon column : ℕ) → SoundTable h horizon → MakesIndex h h' column
+MakingKeepsTargets = (h h' : HeapView) (column : ℕ) → SoundTable h → MakesIndex h h' column
     → (n : ℕ) → KeepsTargets (slots_of h) (slots_of h') (entries_in h.indexes n) (entries_in h'.indexes n)
 
 -- and each id from which on an index is exact is remembered or next, with none in progress before it

@@ -39,12 +39,12 @@ FindsTheSame h h' s own = (p : Tid) (row : Row) → FindsRowAt h s own p row ↔
 -- Nobody can tell.
 
 abbrev pub PruningIsUnseen : Type 0
-PruningIsUnseen = (h h' : HeapView) (number horizon : ℕ) (s : Snap) (own : List ℕ) → SoundTable h horizon → Prunes h h' number horizon → IsTableReader h horizon s own
+PruningIsUnseen = (h h' : HeapView) (number horizon : ℕ) (s : Snap) (own : List ℕ) → SoundTable h → Prunes h h' number horizon → IsTableReader h horizon s own
     → FindsTheSame h h' s own
 
 -- that a plan was applied, whoever made it
 abbrev pub ApplyingIsUnseen : Type 0
-ApplyingIsUnseen = (h h' : HeapView) (number horizon change : ℕ) (actions : List (ℕ × Action)) (s : Snap) (own : List ℕ) → SoundTable h horizon
+ApplyingIsUnseen = (h h' : HeapView) (number horizon change : ℕ) (actions : List (ℕ × Action)) (s : Snap) (own : List ℕ) → SoundTable h
     → Applies h h' number horizon change actions → IsTableReader h horizon s own → FindsTheSame h h' s own
 
 -- a write is seen by nobody who doesn't own its id
@@ -53,7 +53,7 @@ InsertingIsUnseen = (h h' : HeapView) (horizon : ℕ) (own own' : Own) (row : Ro
     → IsTableReader h horizon s ids → ¬ Contains ids x → FindsTheSame h h' s ids
 
 abbrev pub UpdatingIsUnseen : Type 0
-UpdatingIsUnseen = (h h' : HeapView) (horizon : ℕ) (own own' : Own) (place : Tid) (t : Version) (row : Row) (x : ℕ) (s : Snap) (ids : List ℕ) → SoundTable h horizon → WritesUnder h h' own
+UpdatingIsUnseen = (h h' : HeapView) (horizon : ℕ) (own own' : Own) (place : Tid) (t : Version) (row : Row) (x : ℕ) (s : Snap) (ids : List ℕ) → SoundTable h → WritesUnder h h' own
     → MayDelete h place t → Updates h h' own own' place row horizon x → IsTableReader h horizon s ids → ¬ Contains ids x → FindsTheSame h h' s ids
 
 abbrev pub DeletingIsUnseen : Type 0
@@ -80,16 +80,16 @@ abbrev pub Elsewhere : Tid → (Tid → Row → Type 0) → Tid → Row → Type
 Elsewhere place finds p row = finds p row × (p ≢ place)
 
 abbrev pub InsertIsFound : Type 0
-InsertIsFound = (h h' : HeapView) (horizon : ℕ) (own own' : Own) (row : Row) (x : ℕ) (s : Snap) → SoundTable h horizon → WritesUnder h h' own
+InsertIsFound = (h h' : HeapView) (horizon : ℕ) (own own' : Own) (row : Row) (x : ℕ) (s : Snap) → SoundTable h → WritesUnder h h' own
     → Inserts h h' own own' row x → IsAuthor h horizon s own.ids → FindsOneMore (FindsRowAt h s own.ids) (FindsRowAt h' s own'.ids) row
 
 -- the old row goes, and the new one comes
 abbrev pub UpdateIsFound : Type 0
-UpdateIsFound = (h h' : HeapView) (horizon : ℕ) (own own' : Own) (place : Tid) (t : Version) (row : Row) (x : ℕ) (s : Snap) → SoundTable h horizon → WritesUnder h h' own
+UpdateIsFound = (h h' : HeapView) (horizon : ℕ) (own own' : Own) (place : Tid) (t : Version) (row : Row) (x : ℕ) (s : Snap) → SoundTable h → WritesUnder h h' own
     → MayDelete h place t → Updates h h' own own' place row horizon x → IsAuthor h horizon s own.ids
     → FindsOneMore (Elsewhere place (FindsRowAt h s own.ids)) (FindsRowAt h' s own'.ids) row
 
 abbrev pub DeleteIsFound : Type 0
-DeleteIsFound = (h h' : HeapView) (horizon : ℕ) (own own' : Own) (place : Tid) (t : Version) (x : ℕ) (s : Snap) → SoundTable h horizon → WritesUnder h h' own
+DeleteIsFound = (h h' : HeapView) (horizon : ℕ) (own own' : Own) (place : Tid) (t : Version) (x : ℕ) (s : Snap) → SoundTable h → WritesUnder h h' own
     → MayDelete h place t → Deletes h h' own own' place x → IsAuthor h horizon s own.ids
     → (p : Tid) (r : Row) → FindsRowAt h' s own'.ids p r ↔ Elsewhere place (FindsRowAt h s own.ids) p r

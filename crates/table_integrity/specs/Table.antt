@@ -9,17 +9,17 @@ use Rattle.sound_entries.specs.Entries.{SoundHeap, SoundEntries, KeepsTargets}
 use Rattle.table_indexes.specs.Indexes.{entries_in, since_at, IsInUse}
 use Rattle.heap_write.specs.Heap.{HeapView, slots_of}
 
--- what a table keeps, at a horizon
-pub record SoundTable (h : HeapView) (horizon : ℕ) : Type 0 where
+-- what a table keeps
+pub record SoundTable (h : HeapView) : Type 0 where
   -- each page is sound
-  pub heap : SoundHeap h.statuses horizon (slots_of h)
+  pub heap : SoundHeap h.statuses (slots_of h)
   -- the entries of each index in use lead to the roots of chains of their values and keys, but for what is excused there
   pub indexes : (n : ℕ) → IsInUse h.indexes n → SoundEntries (value_in n) (since_at h.indexes n) h.statuses (slots_of h) (entries_in h.indexes n)
 
 -- a step leaves it so, with the same indexes in use, exact from the same ids on, and what an entry leads to stays, or becomes a
 -- redirect or dead
-pub record StaysSoundTable (h h' : HeapView) (horizon : ℕ) : Type 0 where
-  pub sound : SoundTable h' horizon
+pub record StaysSoundTable (h h' : HeapView) : Type 0 where
+  pub sound : SoundTable h'
   pub in_use : (n : ℕ) → IsInUse h.indexes n ↔ IsInUse h'.indexes n
   pub since : (n : ℕ) → since_at h'.indexes n ≡ since_at h.indexes n
   pub led : (n : ℕ) → KeepsTargets (slots_of h) (slots_of h') (entries_in h.indexes n) (entries_in h'.indexes n)

@@ -1,6 +1,6 @@
 //! What each step keeps of a table. Each function does nothing: its contract is the law.
 
-ghost use Rattle.table_integrity.specs.Laws.{InsertingKeepsTable, UpdatingKeepsTable, DeletingKeepsTable, FailingUpdateKeepsTable, PruningKeepsTable, ApplyingKeepsTable, KeepingKeepsTable, CommittingKeepsTable, AbortingKeepsTable, LaterHorizonKeepsTable, EmptyTableIsSound};
+ghost use Rattle.table_integrity.specs.Laws.{InsertingKeepsTable, UpdatingKeepsTable, DeletingKeepsTable, FailingUpdateKeepsTable, PruningKeepsTable, ApplyingKeepsTable, KeepingKeepsTable, CommittingKeepsTable, AbortingKeepsTable, EmptyTableIsSound};
 ghost use Rattle.table_integrity.specs.Making.{MakingLeavesTableSound, MakingKeepsTargets, MakingKeepsSince};
 ghost use Rattle.table_integrity.specs.Forgetting.{ForgettingKeepsTable, ForgettingKeepsSince, ForgettingKeepsScan};
 
@@ -48,11 +48,6 @@ pub fn committing_keeps_table()
 /// A table stays sound when ids are aborted whose versions nobody else has deleted.
 pub fn aborting_keeps_table()
     ensures { AbortingKeepsTable }
-{}
-
-/// A table stays sound under a later horizon.
-pub fn later_horizon_keeps_table()
-    ensures { LaterHorizonKeepsTable }
 {}
 
 /// A table without pages is sound.

@@ -63,9 +63,9 @@ change-forth w slots after n k a b c next =
     (λ there. successor-from (has_aborted w) after a b l.old u.new there u.there l.replaced l.place (u.same.heap_only ∙ l.heap_only) (u.same.inserter ∙ l.made))
     (c.kept a l.old l.from).1
 
-change-back : (w : Window) (horizon : ℕ) (slots after : List Slot) (n k a b : ℕ) → SoundPage w horizon slots → IsChange w slots after n k → link w after a ≡ Some b
+change-back : (w : Window) (slots after : List Slot) (n k a b : ℕ) → SoundPage w slots → IsChange w slots after n k → link w after a ≡ Some b
     → (link w slots a ≡ Some b) ⊎ IsNewLink w slots n k a b
-change-back w horizon slots after n k a b sound c next =
+change-back w slots after n k a b sound c next =
     ⊎_elim same (λ x. ⊎_elim altered (λ new. absurd (l.deleter new.deleter)) x) (c.was a l.old l.from)
   where
     l : IsLink (has_aborted w) after a b
@@ -99,24 +99,24 @@ change-back w horizon slots after n k a b sound c next =
           made = x.made;
         })) x.leads
 
-change-whole : (w : Window) (horizon : ℕ) (slots after : List Slot) (n k m : ℕ) (u : Version) → SoundPage w horizon slots → IsChange w slots after n k
+change-whole : (w : Window) (slots after : List Slot) (n k m : ℕ) (u : Version) → SoundPage w slots → IsChange w slots after n k
     → version_at after m ≡ Some u → is_replaced (has_aborted w) u.header ≡ true → SomeNext w after m
-change-whole w horizon slots after n k m u sound c at replaced = ⊎_elim
+change-whole w slots after n k m u sound c at replaced = ⊎_elim
     (λ from. let was = sound.whole m u from replaced in record { place = was.place; next = change-forth w slots after n k m was.place c was.next })
     (λ x. ⊎_elim
     (λ y. ⊎_elim (λ off. absurd (not-hot (has_aborted w) u.header off replaced)) (λ z. record { place = k; next = ap (link w after) y.here ∙ z.2 }) y.leads)
     (λ new. absurd (not-deleted (has_aborted w) u.header new.deleter replaced)) x)
     (c.was m u at)
 
-pub change-write : (w : Window) (horizon : ℕ) (slots after : List Slot) (n k : ℕ) → SoundPage w horizon slots → IsChange w slots after n k → IsWrite w slots after n k
-change-write w horizon slots after n k sound c = record {
+pub change-write : (w : Window) (slots after : List Slot) (n k : ℕ) → SoundPage w slots → IsChange w slots after n k → IsWrite w slots after n k
+change-write w slots after n k sound c = record {
   few = c.few;
   kept = λ m t at. (c.kept m t at).0;
   was = λ m u at. ⊎_elim (λ from. inl (record { old = u; there = from; same = same-version w u })) (λ x. ⊎_elim (λ y. inl y.had) (λ new. inr new) x) (c.was m u at);
   redirect_kept = c.redirect_kept;
   redirect_was = c.redirect_was;
   forth = λ a b next. change-forth w slots after n k a b c next;
-  back = λ a b next. change-back w horizon slots after n k a b sound c next;
-  whole = λ m u at replaced. change-whole w horizon slots after n k m u sound c at replaced;
+  back = λ a b next. change-back w slots after n k a b sound c next;
+  whole = λ m u at replaced. change-whole w slots after n k m u sound c at replaced;
   linked = c.linked;
 }

@@ -147,9 +147,9 @@ unmoved : (w : Window) (slots : List Slot) (i a b : ℕ) → version_at slots a 
 unmoved w slots zero a b fresh same = sym same
 unmoved w slots (suc i) a b fresh along = let v = from-version w slots a along.0 along.1 in none-some (version_at slots a) v.0 fresh v.1
 
-grown-ends : (w : Window) (horizon : ℕ) (slots after : List Slot) (n k a b : ℕ) → SoundPage w horizon slots → IsWrite w slots after n k
+grown-ends : (w : Window) (slots after : List Slot) (n k a b : ℕ) → SoundPage w slots → IsWrite w slots after n k
     → link w after a ≡ Some b → ¬ Reaches (link w after) b a
-grown-ends w horizon slots after n k a b sound g next r = ⊎_elim old new (g.back a b next)
+grown-ends w slots after n k a b sound g next r = ⊎_elim old new (g.back a b next)
   where
     not-new : {P : Type 0} → a ≡ k → version_at slots k ≡ None → P
     not-new to fresh = absurd (new-last w slots after n k a b g (ap (version_at slots) to ∙ fresh) next)
@@ -219,8 +219,8 @@ pub in-on : (w : Window) (slots : List Slot) (root n k : ℕ) → IsIn w slots r
 in-on w slots root n k i next = record { entry = i.entry; leads = i.leads; later = along-on (link w slots) i.later.turns i.entry n k i.later.along next }
 
 -- each slot of a chain holds a version
-in-version : (w : Window) (horizon : ℕ) (slots : List Slot) (root m : ℕ) → SoundPage w horizon slots → IsIn w slots root m → (t : Version) × (version_at slots m ≡ Some t)
-in-version w horizon slots root m sound i = behind i.later.turns i.entry first i.later.along
+in-version : (w : Window) (slots : List Slot) (root m : ℕ) → SoundPage w slots → IsIn w slots root m → (t : Version) × (version_at slots m ≡ Some t)
+in-version w slots root m sound i = behind i.later.turns i.entry first i.later.along
   where
     first : (t : Version) × (version_at slots i.entry ≡ Some t)
     first = ⊎_elim
@@ -258,21 +258,21 @@ apart slots after k a added r same =
     let e : true ≡ false = sym added.heap_only ∙ ap (λ (v : Version). is_heap_only v.header) one ∙ r.plain in
     absurd (cc)
 
-grown-alone : (w : Window) (horizon : ℕ) (slots after : List Slot) (n k a b m : ℕ) → SoundPage w horizon slots
+grown-alone : (w : Window) (slots after : List Slot) (n k a b m : ℕ) → SoundPage w slots
     → IsInBy w slots after n k a m → IsInBy w slots after n k b m → a ≡ b
-grown-alone w horizon slots after n k a b m sound (IsInBy.before x) (IsInBy.before y) = sound.alone a b m x y
-grown-alone w horizon slots after n k a b m sound (IsInBy.before x) (IsInBy.behind to added y) =
-    let v = in-version w horizon slots a m sound x in none-some (version_at slots m) v.0 (ap (version_at slots) to ∙ added.fresh) v.1
-grown-alone w horizon slots after n k a b m sound (IsInBy.before x) (IsInBy.itself same r) =
-    let v = in-version w horizon slots a m sound x in none-some (version_at slots m) v.0 (ap (version_at slots) same ∙ r.fresh) v.1
-grown-alone w horizon slots after n k a b m sound (IsInBy.behind to added x) (IsInBy.before y) =
-    let v = in-version w horizon slots b m sound y in none-some (version_at slots m) v.0 (ap (version_at slots) to ∙ added.fresh) v.1
-grown-alone w horizon slots after n k a b m sound (IsInBy.behind to added x) (IsInBy.behind again _ y) = sound.alone a b n x y
-grown-alone w horizon slots after n k a b m sound (IsInBy.behind to added x) (IsInBy.itself same r) = absurd (apart slots after k b added r (sym to ∙ same))
-grown-alone w horizon slots after n k a b m sound (IsInBy.itself same r) (IsInBy.before y) =
-    let v = in-version w horizon slots b m sound y in none-some (version_at slots m) v.0 (ap (version_at slots) same ∙ r.fresh) v.1
-grown-alone w horizon slots after n k a b m sound (IsInBy.itself same r) (IsInBy.behind to added y) = absurd (apart slots after k a added r (sym to ∙ same))
-grown-alone w horizon slots after n k a b m sound (IsInBy.itself x _) (IsInBy.itself y _) = sym x ∙ y
+grown-alone w slots after n k a b m sound (IsInBy.before x) (IsInBy.before y) = sound.alone a b m x y
+grown-alone w slots after n k a b m sound (IsInBy.before x) (IsInBy.behind to added y) =
+    let v = in-version w slots a m sound x in none-some (version_at slots m) v.0 (ap (version_at slots) to ∙ added.fresh) v.1
+grown-alone w slots after n k a b m sound (IsInBy.before x) (IsInBy.itself same r) =
+    let v = in-version w slots a m sound x in none-some (version_at slots m) v.0 (ap (version_at slots) same ∙ r.fresh) v.1
+grown-alone w slots after n k a b m sound (IsInBy.behind to added x) (IsInBy.before y) =
+    let v = in-version w slots b m sound y in none-some (version_at slots m) v.0 (ap (version_at slots) to ∙ added.fresh) v.1
+grown-alone w slots after n k a b m sound (IsInBy.behind to added x) (IsInBy.behind again _ y) = sound.alone a b n x y
+grown-alone w slots after n k a b m sound (IsInBy.behind to added x) (IsInBy.itself same r) = absurd (apart slots after k b added r (sym to ∙ same))
+grown-alone w slots after n k a b m sound (IsInBy.itself same r) (IsInBy.before y) =
+    let v = in-version w slots b m sound y in none-some (version_at slots m) v.0 (ap (version_at slots) same ∙ r.fresh) v.1
+grown-alone w slots after n k a b m sound (IsInBy.itself same r) (IsInBy.behind to added y) = absurd (apart slots after k a added r (sym to ∙ same))
+grown-alone w slots after n k a b m sound (IsInBy.itself x _) (IsInBy.itself y _) = sym x ∙ y
 
 -- a version that is neither frozen nor undone
 made-not_undone : (w : Window) (h : Header) → IsMade w h → ¬ (¬ IsFrozen h × IsAborted w h.xmin.0)
@@ -280,9 +280,9 @@ made-not_undone w h made gone = ⊎_elim (λ f. gone.0 f)
     (λ x. ⊎_elim (λ c. let e : Committed ≡ Aborted = sym c ∙ gone.1 in absurd (cc)) (λ p. let e : InProgress ≡ Aborted = sym p ∙ gone.1 in absurd (cc)) x) made
 
 -- the new heap-only version is in the chain of the one that it replaces
-grown-owned : (w : Window) (horizon : ℕ) (slots after : List Slot) (n k m : ℕ) → SoundPage w horizon slots → IsWrite w slots after n k
+grown-owned : (w : Window) (slots after : List Slot) (n k m : ℕ) → SoundPage w slots → IsWrite w slots after n k
     → IsNewLink w slots n k n m → link w after n ≡ Some m → SomeRoot w after m
-grown-owned w horizon slots after n k m sound g x next = ⊎_elim
+grown-owned w slots after n k m sound g x next = ⊎_elim
     (λ heap_only. ⊎_elim (λ gone. absurd (made-not_undone w x.old.header x.made gone))
     (λ r. record { root = r.root; leads = in-on w after r.root n m (in-forth w slots after n k r.root n g r.leads) next })
     (sound.owned n x.old x.there heap_only))
@@ -302,9 +302,9 @@ to-frozen w t u s f = s.frozen ∙ f
 from-frozen : (w : Window) (t u : Version) → IsSameVersion w t u → IsFrozen u.header → IsFrozen t.header
 from-frozen w t u s f = sym s.frozen ∙ f
 
-grown-made : (w : Window) (horizon : ℕ) (slots after : List Slot) (n k m : ℕ) (u : Version) → SoundPage w horizon slots → IsWrite w slots after n k
+grown-made : (w : Window) (slots after : List Slot) (n k m : ℕ) (u : Version) → SoundPage w slots → IsWrite w slots after n k
     → version_at after m ≡ Some u → IsCommitted w u.header.xmax.0 → IsFrozen u.header ⊎ IsCommitted w u.header.xmin.0
-grown-made w horizon slots after n k m u sound g at done = ⊎_elim old (λ new. absurd (committed-some w u.header.xmax.0 done new.deleter)) (g.was m u at)
+grown-made w slots after n k m u sound g at done = ⊎_elim old (λ new. absurd (committed-some w u.header.xmax.0 done new.deleter)) (g.was m u at)
   where
     old : HadVersion w slots m u → IsFrozen u.header ⊎ IsCommitted w u.header.xmin.0
     old h = ⊎_elim
@@ -313,9 +313,9 @@ grown-made w horizon slots after n k m u sound g at done = ⊎_elim old (λ new.
         (λ x. let e : Committed ≡ InProgress = sym done ∙ x.0 in absurd (cc))
         h.same.deleter
 
-grown-undone : (w : Window) (horizon : ℕ) (slots after : List Slot) (n k m : ℕ) (u : Version) → SoundPage w horizon slots → IsWrite w slots after n k
+grown-undone : (w : Window) (slots after : List Slot) (n k m : ℕ) (u : Version) → SoundPage w slots → IsWrite w slots after n k
     → version_at after m ≡ Some u → ¬ IsFrozen u.header → IsAborted w u.header.xmin.0 → u.header.xmax.0 ≢ 0 → IsAborted w u.header.xmax.0
-grown-undone w horizon slots after n k m u sound g at thawed gone some = ⊎_elim old (λ new. absurd (some new.deleter)) (g.was m u at)
+grown-undone w slots after n k m u sound g at thawed gone some = ⊎_elim old (λ new. absurd (some new.deleter)) (g.was m u at)
   where
     old : HadVersion w slots m u → IsAborted w u.header.xmax.0
     old h =
@@ -325,9 +325,9 @@ grown-undone w horizon slots after n k m u sound g at thawed gone some = ⊎_eli
         (λ x. absurd (made-not_undone w h.old.header x.1 undone))
         h.same.deleter
 
-grown-unfrozen : (w : Window) (horizon : ℕ) (slots after : List Slot) (n k a b : ℕ) (u : Version) → SoundPage w horizon slots → IsWrite w slots after n k
+grown-unfrozen : (w : Window) (slots after : List Slot) (n k a b : ℕ) (u : Version) → SoundPage w slots → IsWrite w slots after n k
     → link w after a ≡ Some b → version_at after b ≡ Some u → ¬ IsFrozen u.header
-grown-unfrozen w horizon slots after n k a b u sound g next at f = ⊎_elim old (λ new. let e : true ≡ false = sym f ∙ new.thawed in absurd (cc)) (g.was b u at)
+grown-unfrozen w slots after n k a b u sound g next at f = ⊎_elim old (λ new. let e : true ≡ false = sym f ∙ new.thawed in absurd (cc)) (g.was b u at)
   where
     old : HadVersion w slots b u → ⊥
     old h = ⊎_elim
@@ -344,23 +344,23 @@ grown-target w slots after n k j g t =
       made = ⊎_elim (λ f. inl (to-frozen w t.version h.new h.same f)) (λ c. inr (subst (IsCommitted w) (sym h.same.inserter) c)) t.made;
     }
 
-pub write-sound : (w : Window) (horizon : ℕ) (slots after : List Slot) (n k : ℕ) → SoundPage w horizon slots → IsWrite w slots after n k → SoundPage w horizon after
-write-sound w horizon slots after n k sound g = record {
+pub write-sound : (w : Window) (slots after : List Slot) (n k : ℕ) → SoundPage w slots → IsWrite w slots after n k → SoundPage w after
+write-sound w slots after n k sound g = record {
   few = g.few;
-  made = λ m u at done. grown-made w horizon slots after n k m u sound g at done;
-  undone = λ m u at thawed gone some. grown-undone w horizon slots after n k m u sound g at thawed gone some;
-  unfrozen = λ a b u next at. grown-unfrozen w horizon slots after n k a b u sound g next at;
+  made = λ m u at done. grown-made w slots after n k m u sound g at done;
+  undone = λ m u at thawed gone some. grown-undone w slots after n k m u sound g at thawed gone some;
+  unfrozen = λ a b u next at. grown-unfrozen w slots after n k a b u sound g next at;
   whole = g.whole;
-  ends = λ a b next. grown-ends w horizon slots after n k a b sound g next;
+  ends = λ a b next. grown-ends w slots after n k a b sound g next;
   redirects = λ m j at. grown-target w slots after n k j g (sound.redirects m j (g.redirect_was m j at));
   owned = λ m u at h. ⊎_elim
       (λ old. ⊎_elim
       (λ gone. inl (λ f. gone.0 (from-frozen w old.old u old.same f), subst (IsAborted w) (sym old.same.inserter) gone.1))
       (λ r. inr (record { root = r.root; leads = in-forth w slots after n k r.root m g r.leads }))
       (sound.owned m old.old old.there (sym old.same.heap_only ∙ h)))
-      (λ new. let x = g.linked m u at new.fresh h in inr (grown-owned w horizon slots after n k m sound g x.0 x.1))
+      (λ new. let x = g.linked m u at new.fresh h in inr (grown-owned w slots after n k m sound g x.0 x.1))
       (g.was m u at);
-  alone = λ a b m x y. grown-alone w horizon slots after n k a b m sound (in-back w slots after n k a m g x) (in-back w slots after n k b m g y);
+  alone = λ a b m x y. grown-alone w slots after n k a b m sound (in-back w slots after n k a m g x) (in-back w slots after n k b m g y);
 }
 
 -- Index entries.

@@ -59,17 +59,17 @@ new-root w slots after k v a plain g = (
         (λ other. none-some (version_at slots root) r.version r.fresh (version-as after slots root (Some r.version) (sym (a.others root other)) r.there))
         (cases_eq root k)
 
-pub root-added : (w : Window) (horizon x page : ℕ) (slots : List Slot) (updated : Bool) (row : Row) → SoundPage w horizon slots → IsActive w x → free_number slots ≤ 291
-    → AddsRoot w horizon slots (with_root slots updated x page row) (free_number slots)
-root-added w horizon x page slots updated row sound active few =
+pub root-added : (w : Window) (x page : ℕ) (slots : List Slot) (updated : Bool) (row : Row) → SoundPage w slots → IsActive w x → free_number slots ≤ 291
+    → AddsRoot w slots (with_root slots updated x page row) (free_number slots)
+root-added w x page slots updated row sound active few =
     let k = free_number slots in
     let v : Version = record { header = root_header updated x page k; row = row } in
     let a = added slots v sound.few few in
     let plain = root-plain updated x page k in
-    let g = change-write w horizon slots (with_added slots (Normal v)) k k sound
+    let g = change-write w slots (with_added slots (Normal v)) k k sound
     (adding w slots (with_added slots (Normal v)) k v a (record { inserter = active.unfinished; deleter = refl; thawed = root-thawed updated x page k }) plain) in
     record {
-      sound = write-sound w horizon slots (with_added slots (Normal v)) k k sound g;
+      sound = write-sound w slots (with_added slots (Normal v)) k k sound g;
       others = a.others;
       entries = write-entries w slots (with_added slots (Normal v)) k k g;
       chains = new-root w slots (with_added slots (Normal v)) k v a plain g;
@@ -116,9 +116,9 @@ none-new w slots after n t u a g root m i = by (in-back w slots after n n root m
         (λ other. none-some (version_at slots root) r.version r.fresh (version-as after slots root (Some r.version) (sym (a.others root other)) r.there))
         (cases_eq root n)
 
-pub taken-away : (w : Window) (horizon n x page place : ℕ) (slots : List Slot) → SoundPage w horizon slots → IsActive w x → IsDeletable w slots n
-    → SetsXmaxOnPage w horizon slots (with_replaced slots n x page place false) n
-taken-away w horizon n x page place slots sound active f =
+pub taken-away : (w : Window) (n x page place : ℕ) (slots : List Slot) → SoundPage w slots → IsActive w x → IsDeletable w slots n
+    → SetsXmaxOnPage w slots (with_replaced slots n x page place false) n
+taken-away w n x page place slots sound active f =
     let t = f.version in
     let u : Version = record t { header = replaced_header t.header x page place false } in
     let here = slot_at-from_version_at slots n t f.there in
@@ -131,9 +131,9 @@ taken-away w horizon n x page place slots sound active f =
       others = λ m other. replaced-other slots n x page place false t m here other;
       few = few;
     } in
-    let g = change-write w horizon slots after n n sound (taking w slots after n t u a (taken w n x page place false slots active f) (replaced-hot t.header x page place false)) in
+    let g = change-write w slots after n n sound (taking w slots after n t u a (taken w n x page place false slots active f) (replaced-hot t.header x page place false)) in
     record {
-      sound = write-sound w horizon slots after n n sound g;
+      sound = write-sound w slots after n n sound g;
       others = a.others;
       entries = write-entries w slots after n n g;
       chains = none-new w slots after n t u a g;
@@ -190,9 +190,9 @@ updated-slots slots n x page row t few place here =
       few = subst (λ (i : ℕ). i ≤ 291) (sym long) a.few;
     }
 
-pub updated-here : (w : Window) (horizon n x page : ℕ) (slots : List Slot) (row : Row) → SoundPage w horizon slots → IsActive w x → IsDeletable w slots n → free_number slots ≤ 291
-    → HotUpdatesPage w horizon slots (with_updated slots n x page row) n (free_number slots)
-updated-here w horizon n x page slots row sound active f place =
+pub updated-here : (w : Window) (n x page : ℕ) (slots : List Slot) (row : Row) → SoundPage w slots → IsActive w x → IsDeletable w slots n → free_number slots ≤ 291
+    → HotUpdatesPage w slots (with_updated slots n x page row) n (free_number slots)
+updated-here w n x page slots row sound active f place =
     let k = free_number slots in
     let t = f.version in
     let u : Version = record t { header = replaced_header t.header x page k true } in
@@ -200,11 +200,11 @@ updated-here w horizon n x page slots row sound active f place =
     let after = with_updated slots n x page row in
     let a = updated-slots slots n x page row t sound.few place (slot_at-from_version_at slots n t f.there) in
     let leads = leads-on w x page k t v active refl refl in
-    let g = change-write w horizon slots after n k sound
+    let g = change-write w slots after n k sound
     (replacing w slots after n k t u v a (taken w n x page k true slots active f) (record { inserter = active.unfinished; deleter = refl; thawed = refl }) leads) in
     let next = successor-from (has_aborted w) after n k u v (version_at-from_slot_at after n u a.put) (version_at-from_slot_at after k v a.added) leads.replaced leads.place leads.heap_only leads.inserter in
     record {
-      sound = write-sound w horizon slots after n k sound g;
+      sound = write-sound w slots after n k sound g;
       others = a.others;
       entries = write-entries w slots after n k g;
       chains = new-in w slots after n k t u v a next refl g;

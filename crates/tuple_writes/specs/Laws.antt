@@ -1,12 +1,12 @@
 -- Writes and what becomes of transactions keep a page sound.
 use Rattle.std.specs.Prelude.{◌≡◌, ◌≢◌, ◌⊎◌, ◌≤◌, ℕ, Bool, false, List, Option, Some, Contains}
-use Rattle.xid_circle.specs.Numbers.{Id, SlotNo}
+use Rattle.xid_circle.specs.Numbers.{SlotNo}
 use Rattle.page_slots.specs.declared.slot.Slot.{Slot}
 use Rattle.page_slots.specs.Slots.{slot_at, version_at, free_number, next_change}
 use Rattle.tuple_header.specs.Version.{Version}
 use Rattle.tuple_header.specs.declared.version.Row.{Row}
 use Rattle.commit_status.specs.declared.status.Status.TheVariants.{Committed, Aborted}
-use Rattle.commit_status.specs.Window.{Window, IsWindow, IsActive, IsCommitted, IsAborted, IsUpToNext, turns}
+use Rattle.commit_status.specs.Window.{Window, IsWindow, IsActive, IsCommitted, IsAborted}
 use Rattle.commit_status.specs.Changes.{Gives, Finishes}
 use Rattle.visibility.specs.Visible.{IsFrozen}
 use Rattle.sound_page.specs.Sound.{SoundPage}
@@ -17,48 +17,48 @@ use Rattle.tuple_header.specs.declared.version.TheConstants.{MOST_SLOTS}
 -- Writes by an id in progress.
 
 -- a new root
-pub record AddsRoot (w : Window) (horizon : ℕ) (slots after : List Slot) (k : ℕ) : Type 0 where
-  pub sound : SoundPage w horizon after
+pub record AddsRoot (w : Window) (slots after : List Slot) (k : ℕ) : Type 0 where
+  pub sound : SoundPage w after
   pub others : (m : ℕ) → m ≢ k → slot_at after m ≡ slot_at slots m
   pub entries : KeepsEntries w slots after
   pub chains : NewRoot w slots after k
 
 abbrev pub AddingKeepsSound : Type 0
-AddingKeepsSound = (w : Window) (horizon x page : ℕ) (slots : List Slot) (updated : Bool) (row : Row) → SoundPage w horizon slots → IsActive w x → free_number slots ≤ MOST_SLOTS
-    → AddsRoot w horizon slots (with_root slots updated x page row) (free_number slots)
+AddingKeepsSound = (w : Window) (x page : ℕ) (slots : List Slot) (updated : Bool) (row : Row) → SoundPage w slots → IsActive w x → free_number slots ≤ MOST_SLOTS
+    → AddsRoot w slots (with_root slots updated x page row) (free_number slots)
 
 -- a version taken away: deleted, or replaced by one elsewhere
-pub record SetsXmaxOnPage (w : Window) (horizon : ℕ) (slots after : List Slot) (n : ℕ) : Type 0 where
-  pub sound : SoundPage w horizon after
+pub record SetsXmaxOnPage (w : Window) (slots after : List Slot) (n : ℕ) : Type 0 where
+  pub sound : SoundPage w after
   pub others : (m : ℕ) → m ≢ n → slot_at after m ≡ slot_at slots m
   pub entries : KeepsEntries w slots after
   pub chains : NoNew w slots after
 
 abbrev pub SettingXmaxKeepsSound : Type 0
-SettingXmaxKeepsSound = (w : Window) (horizon n x page place : ℕ) (slots : List Slot) → SoundPage w horizon slots → IsActive w x → IsDeletable w slots n
-    → SetsXmaxOnPage w horizon slots (with_replaced slots n x page place false) n
+SettingXmaxKeepsSound = (w : Window) (n x page place : ℕ) (slots : List Slot) → SoundPage w slots → IsActive w x → IsDeletable w slots n
+    → SetsXmaxOnPage w slots (with_replaced slots n x page place false) n
 
 -- a version replaced by a heap-only one
-pub record HotUpdatesPage (w : Window) (horizon : Id) (slots after : List Slot) (n k : SlotNo) : Type 0 where
-  pub sound : SoundPage w horizon after
+pub record HotUpdatesPage (w : Window) (slots after : List Slot) (n k : SlotNo) : Type 0 where
+  pub sound : SoundPage w after
   pub others : (m : ℕ) → m ≢ n → m ≢ k → slot_at after m ≡ slot_at slots m
   pub entries : KeepsEntries w slots after
   pub chains : NewIn w slots after n k
 
 abbrev pub HotUpdatingKeepsSound : Type 0
-HotUpdatingKeepsSound = (w : Window) (horizon n x page : ℕ) (slots : List Slot) (row : Row) → SoundPage w horizon slots → IsActive w x → IsDeletable w slots n → free_number slots ≤ MOST_SLOTS
-    → HotUpdatesPage w horizon slots (with_updated slots n x page row) n (free_number slots)
+HotUpdatingKeepsSound = (w : Window) (n x page : ℕ) (slots : List Slot) (row : Row) → SoundPage w slots → IsActive w x → IsDeletable w slots n → free_number slots ≤ MOST_SLOTS
+    → HotUpdatesPage w slots (with_updated slots n x page row) n (free_number slots)
 
 -- each version taken away raises the change number
 abbrev pub SettingXmaxIsCounted : Type 0
 SettingXmaxIsCounted = (w : Window) (n x page place change : ℕ) (hot : Bool) (slots : List Slot) → IsActive w x → IsDeletable w slots n
     → replaced_change slots n x page place hot change ≡ next_change change
 
--- What becomes of transactions, and of the horizon.
+-- What becomes of transactions.
 
 -- an id is given
 abbrev pub GivingKeepsSound : Type 0
-GivingKeepsSound = (w v : Window) (horizon : ℕ) (parent : Option ℕ) (slots : List Slot) → IsWindow w → IsWindow v → Gives w v parent → SoundPage w horizon slots → SoundPage v horizon slots
+GivingKeepsSound = (w v : Window) (parent : Option ℕ) (slots : List Slot) → IsWindow w → IsWindow v → Gives w v parent → SoundPage w slots → SoundPage v slots
 
 -- whoever these ids deleted was made by a frozen or committed id, or by one of them
 abbrev pub DeletedWhatWasMade : Window → List Slot → List ℕ → Type 0
@@ -71,14 +71,9 @@ AloneDeletedTheirs w slots ids = (n : ℕ) (t : Version) → version_at slots n 
     → (t.header.xmax.0 ≡ 0) ⊎ (IsAborted w t.header.xmax.0 ⊎ Contains ids t.header.xmax.0)
 
 abbrev pub CommittingKeepsSound : Type 0
-CommittingKeepsSound = (w v : Window) (horizon : ℕ) (ids : List ℕ) (slots : List Slot) → ((x : ℕ) → Contains ids x → IsActive w x) → Finishes w v ids Committed
-    → DeletedWhatWasMade w slots ids → SoundPage w horizon slots → SoundPage v horizon slots
+CommittingKeepsSound = (w v : Window) (ids : List ℕ) (slots : List Slot) → ((x : ℕ) → Contains ids x → IsActive w x) → Finishes w v ids Committed
+    → DeletedWhatWasMade w slots ids → SoundPage w slots → SoundPage v slots
 
 abbrev pub AbortingKeepsSound : Type 0
-AbortingKeepsSound = (w v : Window) (horizon : ℕ) (ids : List ℕ) (slots : List Slot) → ((x : ℕ) → Contains ids x → IsActive w x) → Finishes w v ids Aborted
-    → AloneDeletedTheirs w slots ids → SoundPage w horizon slots → SoundPage v horizon slots
-
--- the horizon goes on
-abbrev pub LaterHorizonKeepsSound : Type 0
-LaterHorizonKeepsSound = (w : Window) (horizon later : ℕ) (slots : List Slot) → IsWindow w → IsUpToNext w horizon → IsUpToNext w later → turns w.first horizon ≤ turns w.first later
-    → SoundPage w horizon slots → SoundPage w later slots
+AbortingKeepsSound = (w v : Window) (ids : List ℕ) (slots : List Slot) → ((x : ℕ) → Contains ids x → IsActive w x) → Finishes w v ids Aborted
+    → AloneDeletedTheirs w slots ids → SoundPage w slots → SoundPage v slots

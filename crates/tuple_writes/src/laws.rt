@@ -1,6 +1,6 @@
 //! The laws of writes on a page, and of what becomes of transactions. Each function does nothing: its contract is the law.
 
-ghost use Rattle.tuple_writes.specs.Laws.{AddingKeepsSound, SettingXmaxKeepsSound, HotUpdatingKeepsSound, SettingXmaxIsCounted, GivingKeepsSound, CommittingKeepsSound, AbortingKeepsSound, LaterHorizonKeepsSound};
+ghost use Rattle.tuple_writes.specs.Laws.{AddingKeepsSound, SettingXmaxKeepsSound, HotUpdatingKeepsSound, SettingXmaxIsCounted, GivingKeepsSound, CommittingKeepsSound, AbortingKeepsSound};
 
 /// A sound page stays sound when an id in progress adds a root. Only the free slot changes, and its version is in no chain
 /// but its own; every index entry stays right.
@@ -40,9 +40,4 @@ pub fn committing_keeps_sound()
 /// by one of them.
 pub fn aborting_keeps_sound()
     ensures { AbortingKeepsSound }
-{}
-
-/// A page stays sound under a later horizon.
-pub fn later_horizon_keeps_sound()
-    ensures { LaterHorizonKeepsSound }
 {}

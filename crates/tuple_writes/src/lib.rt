@@ -6,7 +6,7 @@
 //! tested the room.
 //!
 //! The laws say that a sound page, as pruning asks for, stays sound, and index entries stay right, under each write by an
-//! id in progress, when ids are given or finish, and under a later horizon (`specs/Laws.antt`).
+//! id in progress, and when ids are given or finish (`specs/Laws.antt`).
 #![tactic(auto)]
 
 mod headers;

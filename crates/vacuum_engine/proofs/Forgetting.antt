@@ -171,8 +171,8 @@ module _ (st : State) (u : Window) (xs : IndexesView) (w : World) (v : VacuumVie
     deleters = λ k r at some. (young (record { page = n; slot = k }) r at).deleter some;
   }
 
-  table-sound : SoundTable after (horizon_of st)
-  table-sound = forgotten-table st.heap after (horizon_of st) c agrees.sound.table is up young-on agrees.sound.since (record { is = refl; truncates = t; entries = entries; since = sinces })
+  table-sound : SoundTable after
+  table-sound = forgotten-table st.heap after c agrees.sound.table is up young-on agrees.sound.since (record { is = refl; truncates = t; entries = entries; since = sinces })
 
   -- Readers.
 
@@ -272,7 +272,7 @@ module _ (st : State) (u : Window) (xs : IndexesView) (w : World) (v : VacuumVie
     by_key = (same-used 0).0 agrees.sound.by_key;
     since = λ n. subst (IsExactSince u) (sym (sinces n)) (forgotten-since before u c (since_at st.heap.indexes n) is up t (agrees.sound.since n));
     scans = session-scans;
-    table = subst (λ n. SoundTable after n) horizon-same table-sound;
+    table = table-sound;
   })
 
   -- What was noted of pages.
