@@ -1,12 +1,13 @@
-"""Cuts each worked script and each example after each of its bytes, and two pages, and has the program read what is left.
+"""Cuts scripts and two pages after each of their bytes, and has the program read what is left: test_cuts.py HEAPSH
 
-    test_cuts.py HEAPSH          in lines with long bodies, cuts near their ends alone; some 80 seconds
-    test_cuts.py HEAPSH --all    cuts after each byte; some 200 seconds
-
+The scripts are the worked ones, the examples, and of those that loops make (tests/scripts) the shortest and the longest of each kind.
 Of a cut script the lines before the cut are answered as they are in the whole one. A cut inside line N makes that the bad line N. A cut
-page is no page. Short scripts are also cut as the lines of one worker, for `heapsh threads`: there nothing is written where a line is bad.
-The answers of the whole are those beside the lines of the worked scripts (tests/scripts), and those on the pages of the examples.
+page is no page. Scripts are also cut as the lines of one worker, for `heapsh threads`: there nothing is written where a line is bad.
+The answers of the whole are those beside the lines of the worked scripts, and those on the pages of the examples.
+
+The program begins anew for each cut, without being loaded anew: cutting.c copies it where it is about to begin.
 """
+import functools
 import glob
 import os
 import re
@@ -14,20 +15,17 @@ import subprocess
 import sys
 import tempfile
 import time
-from typing import IO, Iterable, Iterator, List, NamedTuple, Optional, Tuple
+from multiprocessing import Pool
+from typing import IO, Iterable, Iterator, List, NamedTuple, Optional
 
-ROOT = os.path.dirname(os.path.dirname(os.path.dirname(os.path.abspath(__file__))))
+HERE = os.path.dirname(os.path.abspath(__file__))
+ROOT = os.path.dirname(os.path.dirname(HERE))
 sys.path[:0] = [os.path.join(ROOT, folder) for folder in ("examples", "tests/pages", "tests/scripts")]
 
 import check  # noqa: E402
+import made_scripts  # noqa: E402
 import page_format  # noqa: E402
 import worked  # noqa: E402
-
-# how far from the ends of its line a cut is made, but with --all
-NEAR = 64
-# how many bytes a script has at most that is cut as a worker's
-SHORT = 250
-
 
 class Script(NamedTuple):
     name: str
@@ -38,8 +36,13 @@ class Script(NamedTuple):
 
 class End(NamedTuple):
     status: int
-    output: str
-    errors: str
+    output: bytes
+    errors: bytes
+
+
+class Program(NamedTuple):
+    heapsh: str
+    library: str  # of cutting.c
 
 
 def whole_answers(text: str) -> List[str]:
@@ -53,9 +56,19 @@ def whole_answers(text: str) -> List[str]:
     return answers
 
 
+def script_of(case: worked.Case) -> Script:
+    return Script(case.name, case.text, case.answers, worked.bad_line(case.words))
+
+
 def worked_scripts() -> Iterator[Script]:
-    for case in worked.cases():
-        yield Script(case.name, case.text, case.answers, worked.bad_line(case.words))
+    return map(script_of, worked.cases())
+
+
+def made_by_loops() -> Iterator[Script]:
+    """The shortest and the longest script of each kind."""
+    for cases in (made_scripts.leaves, made_scripts.circle, made_scripts.broken_off):
+        by_length = sorted(cases(), key=lambda case: len(case.text))
+        yield from map(script_of, (by_length[0], by_length[-1]))
 
 
 def examples() -> Iterator[Script]:
@@ -68,77 +81,91 @@ def examples() -> Iterator[Script]:
 
 
 def for_threads(script: Script) -> Optional[Script]:
-    """The same as the lines of one worker, whose journal has each line beside its answer; none where it is long, or has other lines."""
+    """The same as the lines of one worker, whose journal has each line beside its answer; none where it has other lines."""
     heading, *lines = script.text.decode().splitlines()
-    is_short = script.bad_line is None and len(script.text) <= SHORT
-    if not is_short or any(re.match(r"ids|page|entries|vacuum finish", line) for line in lines):
+    if script.bad_line is not None or any(re.match(r"ids|page|entries|vacuum finish", line) for line in lines):
         return None
     text = "".join(f"{line}\n" for line in [heading, *(f"@3 {line}" for line in lines)])
     return Script(script.name, text.encode(), [f"> {line}\n{answer}" for line, answer in zip(lines, script.answers)], None)
 
 
-def end_of_cut(script: Script, cut: int, word: str) -> End:
-    """How the program has to end on the first bytes of a script."""
-    lines = script.text.count(b"\n", 0, cut)
-    is_torn = cut == 0 or script.text[cut - 1 : cut] != b"\n"
-    bad = lines + 1 if is_torn else None
-    if script.bad_line is not None and script.bad_line <= lines:
-        bad, lines = script.bad_line, script.bad_line - 1
-    answers = "" if bad and word == "threads" else "".join(script.answers[: max(lines - 1, 0)])
-    return End(1, answers, f"bad line {bad}\n") if bad else End(0, answers, "")
+def ends_of_cuts(script: Script, word: str) -> Iterator[End]:
+    """How the program has to end on all of the script's bytes, on one less, and so on."""
+    answered = [b""]
+    for answer in script.answers:
+        answered.append(answered[-1] + answer.encode())
+    for cut in range(len(script.text), -1, -1):
+        lines = script.text.count(b"\n", 0, cut)
+        is_torn = cut == 0 or script.text[cut - 1 : cut] != b"\n"
+        bad = lines + 1 if is_torn else None
+        if script.bad_line is not None and script.bad_line <= lines:
+            bad, lines = script.bad_line, script.bad_line - 1
+        output = b"" if bad and word == "threads" else answered[max(lines - 1, 0)]
+        yield End(1, output, f"bad line {bad}\n".encode()) if bad else End(0, output, b"")
 
 
-def cuts_of(text: bytes, whole: bool) -> Iterator[int]:
-    """After how many bytes a script is cut, from all of them down to none."""
-    for cut in range(len(text), -1, -1):
-        if whole or b"\n" in text[max(cut - NEAR, 0) : cut + NEAR] or cut < NEAR:
-            yield cut
+def ends_of_page(page: bytes, told: bytes) -> Iterator[End]:
+    """The same of a page, of whom the whole is told so."""
+    yield End(0, told, b"")
+    for _ in page:
+        yield End(1, b"", b"bad page Length\n")
 
 
-def read_back(file: IO[bytes]) -> str:
+def read_back(file: IO[bytes]) -> bytes:
     file.seek(0)
-    said = file.read().decode()
-    file.seek(0)
-    file.truncate()
-    return said
+    return file.read()
 
 
-def ends_of(heapsh: str, word: str, data: bytes, cuts: Iterable[int]) -> Iterator[Tuple[int, End]]:
-    """How the program ends on so many of the bytes, each time on fewer."""
+def ends_on(program: Program, word: str, data: bytes) -> Iterator[End]:
+    """How the program ends on all of the bytes, on one less, and so on."""
     with tempfile.TemporaryFile() as given, tempfile.TemporaryFile() as output, tempfile.TemporaryFile() as errors:
-        given.write(data)
-        for cut in cuts:
-            given.truncate(cut)
-            given.seek(0)
-            ran = subprocess.run([heapsh, word], stdin=given, stdout=output, stderr=errors, close_fds=False, check=False, timeout=60)
-            yield cut, End(ran.returncode, read_back(output), read_back(errors))
+        with tempfile.NamedTemporaryFile("r") as ends:
+            given.write(data)
+            given.flush()
+            env = {**os.environ, "LD_PRELOAD": program.library, "ENDS": ends.name}
+            subprocess.run([program.heapsh, word], stdin=given, stdout=output, stderr=errors, env=env, check=True)
+            wrote, said, at, told = read_back(output), read_back(errors), 0, 0
+            for line in ends:
+                status, end, words = map(int, line.split())
+                yield End(status, wrote[at:end], said[told:words])
+                at, told = end, words
 
 
-def try_script(heapsh: str, script: Script, whole: bool, word: str = "run") -> int:
-    cuts = list(cuts_of(script.text, whole))
-    for cut, end in ends_of(heapsh, word, script.text, cuts):
-        wanted = end_of_cut(script, cut, word)
-        assert end == wanted, f"{script.name} cut after {cut} bytes, {word}: {end}, and not {wanted}"
-    return len(cuts)
+def compare(name: str, ends: Iterable[End], wanted: Iterable[End]) -> int:
+    """How many ends there are, which are those that are wanted."""
+    ends, wanted = list(ends), list(wanted)
+    assert len(ends) == len(wanted), f"{name}: {len(ends)} ends of {len(wanted)}"
+    for cut, (end, other) in enumerate(zip(reversed(ends), reversed(wanted))):
+        assert end == other, f"{name} cut after {cut} bytes: {end}, and not {other}"
+    return len(ends)
 
 
-def try_page(heapsh: str, page: bytes) -> int:
-    for cut, end in ends_of(heapsh, "inspect", page, range(len(page), -1, -1)):
-        if cut == len(page):
-            assert end.status == 0 and end.output.startswith("page ") and not end.errors, f"a whole page: {end}"
-        else:
-            assert end == End(1, "", "bad page Length\n"), f"a page cut after {cut} bytes: {end}"
-    return len(page) + 1
+def try_script(program: Program, word: str, script: Script) -> int:
+    return compare(f"{word} of {script.name}", ends_on(program, word, script.text), ends_of_cuts(script, word))
+
+
+def try_page(program: Program, page: bytes) -> int:
+    whole = subprocess.run([program.heapsh, "inspect"], input=page, capture_output=True, check=True).stdout
+    assert whole.startswith(b"page "), f"of a whole page is told {whole}"
+    return compare("a page", ends_on(program, "inspect", page), ends_of_page(page, whole))
+
+
+def compiled(room: str) -> str:
+    library, compiler = f"{room}/cutting.so", os.environ.get("CC", "cc")
+    flags = ["-O2", "-Wall", "-Wextra", "-Werror", "-shared", "-fPIC"]
+    subprocess.run([compiler, *flags, f"{HERE}/cutting.c", "-o", library], check=True)
+    return library
 
 
 def main() -> None:
-    heapsh, whole, began = os.path.abspath(sys.argv[1]), "--all" in sys.argv[2:], time.monotonic()
-    scripts = [*worked_scripts(), *examples()]
-    pages = [page_format.VECTOR, page_format.SIX_SLOTS]
-    cuts = sum(try_script(heapsh, script, whole) for script in scripts)
+    began, scripts = time.monotonic(), [*worked_scripts(), *examples(), *made_by_loops()]
     workers = [script for script in map(for_threads, scripts) if script]
-    of_workers = sum(try_script(heapsh, script, whole, "threads") for script in workers)
-    of_pages = sum(try_page(heapsh, page) for page in pages)
+    pages = [page_format.VECTOR, page_format.SIX_SLOTS]
+    with tempfile.TemporaryDirectory() as room, Pool() as pool:
+        program = Program(os.path.abspath(sys.argv[1]), compiled(room))
+        cuts = sum(pool.imap_unordered(functools.partial(try_script, program, "run"), scripts))
+        of_workers = sum(pool.imap_unordered(functools.partial(try_script, program, "threads"), workers))
+        of_pages = sum(pool.imap_unordered(functools.partial(try_page, program), pages))
     print(
         f"test_cuts.py: {cuts} cuts of {len(scripts)} scripts, {of_workers} of {len(workers)} workers' and {of_pages} of {len(pages)}"
         f" pages end as they have to, in {time.monotonic() - began:.0f} seconds"

@@ -1,14 +1,13 @@
-"""Refuses each piece of memory that the program asks for, in turn: in a script with every kind of step, in one for threads, and of a page.
-
-    test_refused.py HEAPSH          the small scripts wholly, and 40 pieces of a large one; some 20 seconds
-    test_refused.py HEAPSH --all    each piece of the large one too
+"""Refuses each piece of memory that the program asks for, in turn: in a script with every kind of step, on a small table and on a large
+one, in a script for threads, and in a look into a page: test_refused.py HEAPSH
 
 A step whose growth is refused is answered `error 16 NoMemory`. Then the program shows ids, pages, entries and rows, which have to be those
 before the step, and the step is asked for again. What it and all lines behind it are answered has to be what a run with memory answers.
 Where the shell itself is refused, it ends with status 3 and `no memory`, after a beginning of the answers.
 
-By threads each step is asked for twice in a row, so that one comes again whose first asking is refused. One thread, to which the
-journal is given without the refused step, has to answer all other steps alike.
+By threads the refused step is asked for again at once, and then the worker reads all rows, by the heap and by each index. One thread, to
+which the journal is given without the refused step, has to answer all other steps alike, and looks at the entries there and at the end.
+What two workers are refused differs from run to run, so it is tried some times whether the same step is refused anew.
 
 Each time the entries are looked at as well: each leads to a version of its key, by a redirect or at once, or to a dead slot; and where
 it was there before the step, it leads to the same version, to a redirect that came in its place, or to a dead slot. So they are looked at
@@ -33,6 +32,11 @@ NO_MEMORY = "error 16 NoMemory\n"
 LEAST, MOST = -(2**63), 2**63 - 1
 INDEXES, READER = 5, 63
 THREADS_PAGES = 4
+# the session by which worker 0 reads; each further worker has the next one
+WORKERS_READER = 32
+# The main thread asks for some thirty pieces while it begins eight workers. So a step's piece may come so much earlier or later in
+# another run, in which all are tried, the nearest first; and so often by so many workers, until the step is refused anew.
+NEAR, ROUNDS = sorted(range(-30, 31), key=abs), {1: 30, 2: 1}
 
 
 class End(NamedTuple):
@@ -76,20 +80,39 @@ class Shell:
             return int.from_bytes(file.read(), sys.byteorder)
 
 
-def looks(pages: int, reader: int = READER) -> List[str]:
-    """Lines that show what the engine holds, and its rows by the heap and by each index, and change nothing."""
-    lines = ["ids", *(f"page {page}" for page in range(pages)), *(f"entries {index}" for index in range(INDEXES)), f"beginrc {reader}"]
-    lines += [f"openheap {reader}", *[f"next {reader} 0"] * pages, f"close {reader}"]
+def reads(pages: int, reader: int) -> List[str]:
+    """Lines by which a session reads all rows, by the heap and by each index."""
+    lines = [f"begin {reader}", f"openheap {reader}", *[f"next {reader} 0"] * pages, f"close {reader}"]
     for index in range(INDEXES):
         lines += [f"openindex {reader} {index} {LEAST} {MOST}", f"next {reader} 65535", f"close {reader}"]
     return [*lines, f"abort {reader}"]
 
 
+def looks(pages: int, reader: int = READER) -> List[str]:
+    """Lines that show what the engine holds, and its rows by the heap and by each index, and change nothing."""
+    entries = [f"entries {index}" for index in range(INDEXES)]
+    return ["ids", *(f"page {page}" for page in range(pages)), *entries, *reads(pages, reader)]
+
+
+Row = Tuple[int, ...]  # its key and columns
+
+
+class Rows(NamedTuple):
+    heap: List[Row]
+    by_index: List[Optional[List[Row]]]  # none of an index that is not in use, or too young
+
+
 class Seen(NamedTuple):
     slots: Dict[Tuple[int, int], List[str]]  # the words behind the number of each slot
     entries: List[List[Tuple[int, int, int, int]]]  # value, key, page and slot of each entry, by index
-    heap: List[Tuple[int, ...]]  # key and columns of each row
-    by_index: List[Optional[List[Tuple[int, ...]]]]
+    rows: Rows
+
+
+def rows_read(answers: List[str], pages: int) -> Rows:
+    """The rows in the answers to a session's reads."""
+    opened = answers[3 + pages : 3 + pages + 3 * INDEXES]
+    by_index = [rows_in(opened[at + 1]) if opened[at] == "ok\n" else None for at in range(0, 3 * INDEXES, 3)]
+    return Rows([row for answer in answers[2 : 2 + pages] for row in rows_in(answer)], by_index)
 
 
 def seen_in(answers: List[str], pages: int) -> Seen:
@@ -103,19 +126,25 @@ def seen_in(answers: List[str], pages: int) -> Seen:
     for answer in answers[1 + pages : 1 + pages + INDEXES]:
         told = [tuple(map(int, line.split()[1:])) for line in answer.splitlines()[1:]]
         entries.append([(value, key, page, slot) for value, key, page, slot in told])
-    rest = answers[1 + pages + INDEXES :]
-    heap = [row for answer in rest[2 : 2 + pages] for row in rows_in(answer)]
-    opened = rest[3 + pages : 3 + pages + 3 * INDEXES]
-    by_index = [rows_in(opened[at + 1]) if opened[at] == "ok\n" else None for at in range(0, 3 * INDEXES, 3)]
-    return Seen(slots, entries, heap, by_index)
+    return Seen(slots, entries, rows_read(answers[1 + pages + INDEXES :], pages))
 
 
-def rows_in(answer: str) -> List[Tuple[int, ...]]:
+def rows_in(answer: str) -> List[Row]:
     return [tuple(map(int, line.split()[1:6])) for line in answer.splitlines()[1:]]
+
+
+def check_rows(rows: Rows) -> None:
+    """Each index leads to the rows that the heap has, in the order of their values and keys."""
+    for index, found in enumerate(rows.by_index):
+        if found is not None:
+            assert sorted(found) == sorted(rows.heap), f"index {index} leads to other rows than the heap has"
+            values = [(row[index], row[0]) for row in found]
+            assert values == sorted(values), f"the rows by index {index} are in another order"
 
 
 def check_entries(seen: Seen, indexed: str) -> None:
     """The law of entries, of one state, and that each index leads to the rows that the heap has."""
+    check_rows(seen.rows)
     for index, entries in enumerate(seen.entries):
         places = [entry[2:] for entry in entries]
         assert len(set(places)) == len(places), f"two entries of index {index} lead to one slot"
@@ -128,12 +157,8 @@ def check_entries(seen: Seen, indexed: str) -> None:
         if index == 0 or indexed[index - 1] == "1":
             redirects = {place for place, words in seen.slots.items() if words[0] == "redirect"}
             assert redirects <= set(places), f"index {index} has no entry for a redirect"
-        rows = seen.by_index[index]
-        if rows is None:
-            continue
-        assert sorted(rows) == sorted(seen.heap), f"index {index} leads to other rows than the heap has"
-        values = [(row[0] if index == 0 else row[index], row[0]) for row in rows]
-        assert values == sorted(values) and set(values) <= {entry[:2] for entry in entries}, f"index {index} has other values"
+        values = {(row[index], row[0]) for row in seen.rows.by_index[index] or []}
+        assert values <= {entry[:2] for entry in entries}, f"index {index} has other values"
 
 
 def check_targets(before: Seen, after: Seen) -> None:
@@ -193,10 +218,13 @@ class Run:
         kind = line.split()[0]
         self.kinds[kind] = self.kinds.get(kind, 0) + 1
 
-    def told(self, tried: int) -> str:
+    def refuse_in_turn(self) -> str:
+        """Refuses each piece, and says what came of it."""
+        for piece in range(self.count):
+            self.refuse(piece)
         kinds = ", ".join(f"{kind} {count}" for kind, count in sorted(self.kinds.items()))
         return (
-            f"{tried} of {self.count} pieces, of {len(self.lines)} lines: {self.shell_refused} end the shell, {self.passed_over} are done"
+            f"{self.count} pieces, of {len(self.lines)} lines: {self.shell_refused} end the shell, {self.passed_over} are done"
             f" without, and refused are {kinds}"
         )
 
@@ -275,70 +303,116 @@ def of_no_session(turn: int) -> List[str]:
 
 
 def for_threads(workers: int) -> List[str]:
-    """A script for threads, each step twice. A worker has a session of its own, the first has the steps that are no session's besides."""
+    """A script for threads. A worker has a session of its own, the first has the steps that are no session's besides."""
     lines = [f"heap {THREADS_PAGES} 100000 0 3 4 1000"]
     for turn in range(3):
         for worker in range(workers):
-            lines += [f"@{worker} {step}" for step in for_worker(worker, turn) for _ in range(2)]
-        lines += [f"@0 {step}" for step in of_no_session(turn) for _ in range(2)]
+            lines += [f"@{worker} {step}" for step in for_worker(worker, turn)]
+        lines += [f"@0 {step}" for step in of_no_session(turn)]
     return lines
 
 
 def worker_of(step: str) -> int:
     """The worker whose step it is, as `for_threads` gives them out."""
     word, first = step.split()[:2]
-    return 0 if word in ("prune", "apply", "vacuum", "createindex") else int(first)
+    return 0 if word in ("prune", "apply", "vacuum", "createindex") else int(first) % WORKERS_READER
 
 
-def entries_of(journal: str) -> List[Tuple[str, str]]:
-    """The steps of a journal, each with its answer."""
-    return [(step, answer) for step, answer in re.findall(r"^> (.*)\n((?:(?!> ).*\n)*)", journal, re.M)]
+class Journal:
+    """The steps that threads have done, each with its answer."""
+
+    def __init__(self, end: End) -> None:
+        self.entries: List[Tuple[str, str]] = re.findall(r"^> (.*)\n((?:(?!> ).*\n)*)", end.output, re.M)
+        refused = [at for at, (_, answer) in enumerate(self.entries) if answer == NO_MEMORY]
+        assert len(refused) <= 1, f"two steps are refused: {end}"
+        self.refused = refused[0] if refused else None
+
+    def of(self, worker: int) -> List[int]:
+        """The places of a worker's entries."""
+        return [at for at, (step, _) in enumerate(self.entries) if worker_of(step) == worker]
+
+    def refused_line(self, lines: List[str]) -> Optional[int]:
+        """The place among the lines of the step that was refused."""
+        if self.refused is None:
+            return None
+        worker = worker_of(self.entries[self.refused][0])
+        mine = [at for at, line in enumerate(lines) if line.startswith(f"@{worker} ")]
+        return mine[self.of(worker).index(self.refused)]
 
 
-def check_journal(shell: Shell, lines: List[str], entries: List[Tuple[str, str]]) -> None:
-    """Each worker's lines stand in their order. Without the steps that were refused memory, a run answers the others alike."""
-    workers = sorted({line.split()[0] for line in lines[1:]})
-    for worker in workers:
-        mine = [line.split(" ", 1)[1] for line in lines[1:] if line.split()[0] == worker]
-        assert [step for step, _ in entries if f"@{worker_of(step)}" == worker] == mine, f"the lines of worker {worker}"
-    kept = [entry for entry in entries if entry[1] != NO_MEMORY]
-    end = shell.run("run", [lines[0], *(step for step, _ in kept)])
-    assert end.status == 0 and end.output == "".join(answer for _, answer in kept), "a run answers otherwise"
+class Threads:
+    """A script for threads, each piece of whose memory is refused."""
 
+    def __init__(self, shell: Shell, workers: int) -> None:
+        self.shell, self.workers, self.lines = shell, workers, for_threads(workers)
+        self.count, end = shell.pieces("threads", self.lines)
+        assert end.status == 0 and NO_MEMORY not in end.output, f"with memory: {end}"
+        self.check(self.lines, Journal(end))
+        self.to_read = self.pieces_to_read(self.lines)
 
-def look_where_refused(shell: Shell, heading: str, entries: List[Tuple[str, str]]) -> bool:
-    """Has one thread look at the entries where a step of a journal was refused, and at its end. Says whether the step came again."""
-    at, look = [answer for _, answer in entries].index(NO_MEMORY), looks(THREADS_PAGES)
-    steps = [step for step, answer in entries if answer != NO_MEMORY]
-    end = shell.run("run", [heading, *steps[:at], *look, *steps[at:], *look])
-    answers = whole_answers(end.output)
-    for shown in (answers[at:][: len(look)], answers[-len(look) :]):
-        check_entries(seen_in(shown, THREADS_PAGES), heading.split()[6])
-    refused, worker = entries[at][0], worker_of(entries[at][0])
-    return refused == next((step for step, _ in entries[at + 1 :] if worker_of(step) == worker), None)
+    def check(self, lines: List[str], journal: Journal) -> None:
+        """Each worker's lines stand in their order. Without a step that was refused memory, a run answers the others alike, and shows
+        entries as they have to be where it was refused, and at the end."""
+        for worker in range(self.workers):
+            mine = [line.split(" ", 1)[1] for line in lines[1:] if line.startswith(f"@{worker} ")]
+            assert [journal.entries[at][0] for at in journal.of(worker)] == mine, f"the lines of worker {worker}"
+        kept = [entry for entry in journal.entries if entry[1] != NO_MEMORY]
+        at, look = len(kept) if journal.refused is None else journal.refused, looks(THREADS_PAGES)
+        steps = [step for step, _ in kept]
+        end = self.shell.run("run", [lines[0], *steps[:at], *look, *steps[at:], *look])
+        answers = whole_answers(end.output)
+        shown, last = answers[at:][: len(look)], answers[len(answers) - len(look) :]
+        answered = answers[:at] + answers[at + len(look) : len(answers) - len(look)]
+        assert end.status == 0 and answered == [answer for _, answer in kept], "a run answers otherwise"
+        for seen in (shown, last):
+            check_entries(seen_in(seen, THREADS_PAGES), lines[0].split()[6])
 
-
-def refuse_threads(shell: Shell, lines: List[str]) -> str:
-    """Refuses each piece that threads ask for: the shell ends for want of memory, or one step in the journal says so."""
-    count, end = shell.pieces("threads", lines)
-    assert end.status == 0 and NO_MEMORY not in end.output, f"with memory: {end}"
-    check_journal(shell, lines, entries_of(end.output))
-    refused = repeated = ended = 0
-    for piece in range(count):
-        end = shell.run("threads", lines, piece)
-        entries = entries_of(end.output)
-        told = sum(answer == NO_MEMORY for _, answer in entries)
+    def refuse(self, lines: List[str], piece: int) -> Optional[Journal]:
+        """What is done where this piece is refused; nothing where the shell ends for want of memory."""
+        end = self.shell.run("threads", lines, piece)
         if end.status == 3:
-            assert end.errors == "no memory\n" and (not end.output or told == 0), f"piece {piece}: {end}"
-            ended += 1
-            continue
-        assert end.status == 0 and not end.errors and told <= 1, f"piece {piece}: {end}"
-        check_journal(shell, lines, entries)
-        if told:
-            refused, repeated = refused + 1, repeated + look_where_refused(shell, lines[0], entries)
-    assert repeated > 0, "no refused step is asked for again"
-    again = f"{refused} steps are refused, {repeated} of them asked for again"
-    return f"threads: {count} pieces, of {len(lines)} lines: {ended} end the shell, and {again}"
+            assert end.errors == "no memory\n" and NO_MEMORY not in end.output, f"piece {piece}: {end}"
+            return None
+        assert end.status == 0 and not end.errors, f"piece {piece}: {end}"
+        journal = Journal(end)
+        self.check(lines, journal)
+        return journal
+
+    def pieces_to_read(self, lines: List[str]) -> int:
+        """How many pieces are asked for to read the lines: behind them comes a bad one, so that none is done."""
+        end = self.shell.run("threads", [*lines, "bad"])
+        assert end == End(1, "", f"bad line {len(lines) + 1}\n"), f"a bad line is behind: {end}"
+        return self.shell.asked_for()
+
+    def ask_again(self, piece: int, at: int) -> bool:
+        """Asks twice for the step that was refused, has its worker read all rows behind it, and refuses its piece, or one near it, until it
+        is that step which is refused. Says whether it came to that."""
+        step, worker = self.lines[at], int(self.lines[at][1])
+        look = [f"@{worker} {line}" for line in reads(THREADS_PAGES, WORKERS_READER + worker)]
+        lines = [*self.lines[: at + 1], step, *look, *self.lines[at + 1 :]]
+        # all lines are read before any is done
+        piece += self.pieces_to_read(lines) - self.to_read
+        for near in ROUNDS[self.workers] * NEAR:
+            journal = self.refuse(lines, piece + near)
+            if journal is not None and journal.refused_line(lines) == at:
+                mine = journal.of(worker)
+                behind = mine[mine.index(journal.refused) + 2 :][: len(look)]
+                check_rows(rows_read([journal.entries[place][1] for place in behind], THREADS_PAGES))
+                return True
+        return False
+
+    def refuse_in_turn(self) -> str:
+        """Refuses each piece, and says what came of it."""
+        ended = refused = repeated = 0
+        for piece in range(self.count):
+            journal = self.refuse(self.lines, piece)
+            at = journal.refused_line(self.lines) if journal else None
+            ended += journal is None
+            if at is not None:
+                refused, repeated = refused + 1, repeated + self.ask_again(piece, at)
+        assert 0 < repeated and (repeated == refused or self.workers > 1), f"{refused} steps are refused, {repeated} asked for again"
+        again = f"{refused} steps are refused, {repeated} of them asked for again"
+        return f"{self.workers} threads: {self.count} pieces, of {len(self.lines)} lines: {ended} end the shell, and {again}"
 
 
 def refuse_page(shell: Shell, page: bytes) -> str:
@@ -378,17 +452,13 @@ def look_after_each_line(shell: Shell, lines: Iterable[str]) -> int:
 
 
 def main() -> None:
-    heapsh, whole, began = os.path.abspath(sys.argv[1]), "--all" in sys.argv[2:], time.monotonic()
+    heapsh, began = os.path.abspath(sys.argv[1]), time.monotonic()
     with tempfile.TemporaryDirectory() as room:
         shell = Shell(heapsh, room)
-        for lines, pages, at_most in ((all_steps(12, 12), 3, None), (all_steps(1500, 40), 40, None if whole else 40)):
-            run = Run(shell, lines, pages)
-            pieces = range(run.count) if at_most is None else range(run.count // at_most, run.count, run.count // at_most)
-            for piece in pieces:
-                run.refuse(piece)
-            print(f"test_refused.py: {run.told(len(pieces))}")
+        for lines, pages in ((all_steps(12, 12), 3), (all_steps(1500, 40), 40)):
+            print(f"test_refused.py: {Run(shell, lines, pages).refuse_in_turn()}")
         for workers in (1, 2):
-            print(f"test_refused.py: {refuse_threads(shell, for_threads(workers))}")
+            print(f"test_refused.py: {Threads(shell, workers).refuse_in_turn()}")
         print(f"test_refused.py: {refuse_page(shell, page_format.SIX_SLOTS)}")
         scripts = [case.text.decode().splitlines() for case in worked.cases() if case.status == 0]
         looked = [look_after_each_line(shell, lines) for lines in (all_steps(12, 12), *scripts)]
