@@ -3,18 +3,14 @@ use Rattle.std.proofs.Common.{◌≡◌, ℕ, ◌≤◌, ◌⊎◌, List, length
 use Rattle.std.specs.List.{Contains}
 use Rattle.commit_status.specs.declared.status.Status.{Status}
 use Rattle.commit_status.specs.declared.status.Status.TheVariants.{InProgress, Committed, Aborted}
-use Rattle.commit_status.specs.Window.{Window, IsGiven, IsActive, IsCommitted, IsUpToNext, turns, status_of, ancestor_in, top_of, next_id}
+use Rattle.commit_status.specs.Window.{Window, IsGiven, IsActive, IsCommitted, IsUpToNext, turns, status_of, ancestor_in, top_of}
 use Rattle.commit_status.specs.Changes.{Finishes}
 use Rattle.commit_status.proofs.Ancestors.{top-same}
 use Rattle.commit_status.proofs.ChangesLemmas.{finishes-place}
-use Rattle.xid_circle.specs.Circle.{given}
 
--- the tops stay, and the next id
+-- the tops stay
 pub finishes-top : (w v : Window) (ids : List ℕ) (status : Status) (x : ℕ) → Finishes w v ids status → top_of v x ≡ top_of w x
 finishes-top w v ids status x f = ap (λ n. ancestor_in n v x) f.count ∙ top-same (length w.entries) v w x f.parents
-
-pub finishes-next : (w v : Window) (ids : List ℕ) (status : Status) → Finishes w v ids status → next_id v ≡ next_id w
-finishes-next w v ids status f = ap (given v.first) f.count ∙ ap (λ n. given n (length w.entries)) f.first
 
 pub finishes-given : (w v : Window) (ids : List ℕ) (status : Status) (x : ℕ) → Finishes w v ids status → IsGiven w x → IsGiven v x
 finishes-given w v ids status x f h = subst IsSome (sym (finishes-place w v ids status x f)) h

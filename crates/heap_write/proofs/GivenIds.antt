@@ -51,14 +51,6 @@ given-longer (x ∷ xs) w v parent g = let long = gives-length w g.0 parent g.2 
 pub next-turn : (w : Window) → IsWindow w → turns w.first (next_id w) ≡ length w.entries
 next-turn w is = turns-given w.first (length w.entries) is.normal is.fits (let short = is.short in let limit = is.limit in omega arith)
 
--- the next id is no earlier then
-pub given-next : (xs : List ℕ) (w v : Window) (parent : Option ℕ) → GivesUnder w parent xs v → IsWindow v → turns w.first (next_id w) ≤ turns w.first (next_id v)
-given-next xs w v parent g is =
-    let now = next-turn w (given-window xs w v parent g is) in
-    let then' : turns w.first (next_id v) ≡ length v.entries = subst (λ f. turns f (next_id v) ≡ length v.entries) (given-first xs w v parent g) (next-turn v is) in
-    let longer = given-longer xs w v parent g in
-    omega arith
-
 -- what was there
 
 pub given-upto : (xs : List ℕ) (w v : Window) (parent : Option ℕ) (y : ℕ) → GivesUnder w parent xs v → IsUpToNext w y → IsUpToNext v y
@@ -147,18 +139,6 @@ given-top_first x xs w v y g is among =
     elim (Contains-cases x y xs among) [
       | inl here ↦ ap (top_of v) (sym here) ∙ (given-top_old xs g.0 v (Some x) x g.3 is now ∙ top)
       | inr later ↦ given-top xs g.0 v x y g.3 is now later ∙ top
-    ]
-
--- and is given after all that were there
-pub given-late : (xs : List ℕ) (w v : Window) (parent : Option ℕ) (y : ℕ) → GivesUnder w parent xs v → IsWindow v → Contains xs y → turns w.first (next_id w) ≤ turns w.first y
-given-late [] w v parent y g is among = absurd (Contains-none y among)
-given-late (x ∷ xs) w v parent y g is among =
-    let between = given-window xs g.0 v (Some x) g.3 is in
-    elim (Contains-cases x y xs among) [
-      | inl here ↦ subst (λ z. turns w.first (next_id w) ≤ turns w.first z) (sym g.1 ∙ here) (omega arith)
-      | inr later ↦ (let next = given-next (x ∷ []) w g.0 parent (g.0, g.1, g.2, refl) between in
-          let rest : turns w.first (next_id g.0) ≤ turns w.first y = subst (λ f. turns f (next_id g.0) ≤ turns f y) g.2.first (given-late xs g.0 v (Some x) y g.3 is later) in
-          omega arith)
     ]
 
 -- what is in progress afterwards is new, or was in progress before
