@@ -1,6 +1,6 @@
 """Cuts scripts and two pages after each of their bytes, and has the program read what is left: test_cuts.py HEAPSH
 
-The scripts are the worked ones, the examples, and of those that loops make (tests/scripts) the shortest and the longest of each kind.
+The scripts are the worked ones, those that loops make (both of tests/scripts), and the examples.
 Of a cut script the lines before the cut are answered as they are in the whole one. A cut inside line N makes that the bad line N. A cut
 page is no page. Scripts are also cut as the lines of one worker, for `heapsh threads`: there nothing is written where a line is bad.
 The answers of the whole are those beside the lines of the worked scripts, and those on the pages of the examples.
@@ -65,10 +65,8 @@ def worked_scripts() -> Iterator[Script]:
 
 
 def made_by_loops() -> Iterator[Script]:
-    """The shortest and the longest script of each kind."""
     for cases in (made_scripts.leaves, made_scripts.circle, made_scripts.broken_off):
-        by_length = sorted(cases(), key=lambda case: len(case.text))
-        yield from map(script_of, (by_length[0], by_length[-1]))
+        yield from map(script_of, cases())
 
 
 def examples() -> Iterator[Script]:
