@@ -270,7 +270,7 @@ def promises(names, text):
             if not any(name in names.of.get((crate, module), ()) for crate in crates):
                 yield number, f"`{module}.{name}` is in none of {', '.join(crates)}"
         for edit, mark in re.findall(r"`(\w+)`( \(a\))?", cells_of[3]):
-            folders = ["audit"] if mark else ["must-fail", "by-function"]
+            folders = ["audit" if mark else "by-function"]
             if not any(f"crates/{crate}/{folder}/{edit}.edit" in names.paths for crate in crates for folder in folders):
                 yield number, f"`{edit}` is in {' or '.join(folders)} of none of {', '.join(crates)}"
 
