@@ -69,7 +69,7 @@ pub record FindsRow (g : Vantage) (key : Key) (row : Option Row) : Type 0 where
   pub there : (r : Row) → row ≡ Some r → (value : ℤ) × (p : Tid) × (t : Version) × IsFoundBy g value key p t
   pub one : (value other : ℤ) (p q : Tid) (t u : Version) → IsFoundBy g value key p t → IsFoundBy g other key q u → p ≡ q
 
--- What is found of a key is what an explanation verdict_shows as seen: exactly one version, with that row, or none.
+-- What is found of a key is what an explanation shows as seen: exactly one version, with that row, or none.
 abbrev pub ExplanationsShowWhatIsFound : Type 0
 ExplanationsShowWhatIsFound = (g : Vantage) (key : ℕ) (row : Option Row) → IsSoundVantage g → FindsRow g key row → ShowsOnly g key row
 
