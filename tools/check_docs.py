@@ -10,8 +10,8 @@ Reads README.md, CONTRIBUTING.md and the pages of docs/, bench/, examples/ and c
 - a row of a table in docs/guarantees.md has a promise of more than 25 words, or a definition or an edit of a crate that neither its
   heading nor the lines below that name;
 - a line has 140 columns or more, or a sentence more than 30 words (tools/sentences.py);
-- a function is not in the file to which a link leads, a line of a difference not in its file, or a drawing not as the example that it is
-  drawn from (tools/places.py);
+- a function is not in the file to which a link leads, a line of a difference not in its file, a drawing not as the example that it is
+  drawn from, or a cost in README.md not on the page of its measurement (tools/places.py);
 - a figure is not what the repository has: lines of definitions, layers, sizes, edits, calls (tools/figures.py);
 - a refusal or a status has another number, name or meaning somewhere than in the table of docs/rules.md (tools/refusals.py);
 - a fault has other words than in the table of docs/rules.md or docs/script.md, or the program another exit status (tools/fault_words.py);
@@ -289,6 +289,8 @@ def faults(names, page):
     yield from places.misplaced(names, page, pieces(text))
     yield from places.lost_lines(pieces(text))
     yield from places.wrong_drawings(pieces(text), told)
+    if page == "README.md":
+        yield from places.wrong_costs(page)
     for number, line in enumerate(text.split("\n"), 1):
         if len(line) >= WIDTH:
             yield number, f"the line has {len(line)} columns"

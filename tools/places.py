@@ -5,6 +5,8 @@
   before a link in brackets, and each of several with commas.
 - A line with a minus, in a block of code, is in the file of crates/ that the page names last before it.
 - A drawing of slots has the ids, redirects and empty slots of the example from which the page quotes last before it.
+- Each figure in the table of costs of README.md is on the page to which its row, or one above, leads: in a row with the first of them, or
+  in a paragraph.
 """
 import os
 import re
@@ -92,3 +94,15 @@ def wrong_drawings(parts, told):
         elif kind == "code":
             block.append(line)
 
+
+def wrong_costs(page):
+    """Figures of the table of costs that the linked page has neither in a row beside the first one nor in a paragraph."""
+    text, link = text_of(page), None
+    begin = text.index("## What it costs")
+    for at, row in enumerate(text[begin:].partition("\n\n")[0].split("\n")[3:], text.count("\n", 0, begin) + 4):
+        link = (re.search(r"\]\(([^)#]+)", row) or [None, link])[1]
+        cells = [set(re.findall(r"\d[\d,]*\d|\d", cell)) for cell in re.sub(r"\]\([^)]*\)", "", row).strip("| ").split(" | ")]
+        there = [(line, set(re.findall(r"\d[\d,]*\d|\d", line))) for line in text_of(link).split("\n")]
+        beside = set().union(*(found for line, found in there if not line.startswith("|") or cells[1] <= found))
+        for figure in sorted(set().union(*cells) - beside):
+            yield at, f"{link} does not have {figure} beside {', '.join(cells[1])}"
