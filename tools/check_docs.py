@@ -40,7 +40,7 @@ NOTATION = "docs/reading.md"
 
 # Words that are none of ours: of Rust, of the kit and its libraries, of the shell.
 OTHERS = """
-AllocError Err Global None Ok Option Result SmallVec Some String Vec IfSome ensures requires unwrap
+AllocError Brand Err Global None Ok Option Result SmallVec Some String Vec IfSome ensures requires unwrap
 arrayvec byteorder itoa lru rayon smallvec thiserror mremap sqlite3 pip PKG_CONFIG_PATH linux_x86_64
 std mem bool size_t uint64_t UINT64_MAX malloc realloc rattle_alloc rattle_realloc rattle_dealloc
 """.split()
