@@ -2,7 +2,7 @@
 
 The places: docs/trust.md (lines of definitions), README.md (the bands of the picture, the star), docs/gate.md (edits of each crate, and
 the most that there may be), docs/callers.md (the calls of the header), docs/DECISIONS.md (how large a crate may be, and those that
-may be larger until they are cut), and docs/postgresql.md (what docs/rules.md calls ours).
+may be larger until they are cut), docs/postgresql.md (what docs/rules.md calls ours), and docs/invariants.md (the types that have one).
 """
 import glob
 import re
@@ -154,9 +154,20 @@ def calls():
             yield line_of(page, said.start()), f"the header declares {count} calls"
 
 
+def invariants():
+    """docs/invariants.md: it names each type of the code that has an invariant."""
+    page = text_of("docs/invariants.md")
+    for path in sorted(glob.glob("crates/*/src/**/*.rt", recursive=True)):
+        code = text_of(path)
+        for found in re.finditer(r"ghost invariant = ", code):
+            kind = re.findall(r"^impl\b(?:<[^\n]*?>)?\s+(?:\w+(?:<.*?>)? for )?(\w+)", code[: found.start()], re.M)[-1]
+            if f"`{kind}`" not in page:
+                yield 1, f"the invariant of `{kind}` is missing ({path})"
+
+
 def wrong():
     """Each figure that is wrong: the page, the line, and what to say."""
     places = {"docs/trust.md": trust, "README.md": layers, "docs/DECISIONS.md": sizes, "docs/gate.md": edits, "docs/callers.md": calls}
-    places["docs/postgresql.md"] = differences
+    places.update({"docs/postgresql.md": differences, "docs/invariants.md": invariants})
     for page, asked in places.items():
         yield from ((page, *found) for found in asked())
