@@ -10,6 +10,8 @@ Reads README.md, CONTRIBUTING.md and the pages of docs/, bench/, examples/ and c
 - a row of a table in docs/guarantees.md has a promise of more than 25 words, or a definition or an edit of a crate that neither its
   heading nor the lines below that name;
 - a line has 140 columns or more, or a sentence more than 30 words (tools/sentences.py);
+- a function is not in the file to which a link leads, a line of a difference not in its file, a drawing not as the example that it is
+  drawn from, or a cost in README.md not on the page of its measurement (tools/places.py);
 - a figure is not what the repository has: lines of definitions, layers, sizes, edits, calls (tools/figures.py);
 - a refusal or a status has another number, name or meaning somewhere than in the table of docs/rules.md (tools/refusals.py);
 - a fault has other words than in the table of docs/rules.md or docs/script.md, or the program another exit status (tools/fault_words.py);
@@ -27,6 +29,7 @@ import sys
 import audit
 import fault_words
 import figures
+import places
 import refusals
 import sentences
 
@@ -37,7 +40,7 @@ NOTATION = "docs/reading.md"
 
 # Words that are none of ours: of Rust, of the kit and its libraries, of the shell.
 OTHERS = """
-AllocError Err Global None Ok Option Result SmallVec Some String Vec IfSome ensures requires unwrap
+AllocError Brand Err Global None Ok Option Result SmallVec Some String Vec IfSome ensures requires unwrap
 arrayvec byteorder itoa lru rayon smallvec thiserror mremap sqlite3 pip PKG_CONFIG_PATH linux_x86_64
 std mem bool size_t uint64_t UINT64_MAX malloc realloc rattle_alloc rattle_realloc rattle_dealloc
 """.split()
@@ -71,10 +74,11 @@ class Names:
 
     def __init__(self, files):
         self.paths = set(files) | {"/".join(path.split("/")[:n]) for path in files for n in range(1, path.count("/") + 1)}
-        self.all, self.of = set(OTHERS), {}
+        self.all, self.of, self.declared, self.file = set(OTHERS), {}, {}, None
         for path in files:
             parts = path.split("/")
             self.all |= {re.sub(r"\.\w+$", "", part) for part in parts}
+            self.file = path
             if parts[0] == "crates" and len(parts) > 2:
                 if path.endswith(".antt"):
                     self.read_logic(path, parts[1])
@@ -91,6 +95,7 @@ class Names:
 
     def add(self, name, *owners):
         self.all.add(name)
+        self.declared.setdefault(self.file, set()).add(name)
         for owner in owners:
             self.of.setdefault(owner, set()).add(name)
 
@@ -135,7 +140,7 @@ class Names:
     def has_path(self, word):
         """Whether a word is a file or folder of the repository, whole or by its last parts, with NAME or * for anything."""
         word = re.sub(r"^(\.\./)+|^\./", "", word).rstrip("/")
-        if "out" in word.split("/"):  # what is built is not kept
+        if "out" in word.split("/") or word.startswith("PREFIX/"):  # what is built, or installed, is not kept
             return True
         pattern = re.escape(word).replace(r"\*", "[^/]*").replace("NAME", "[^/]*")
         if word in self.paths:
@@ -281,6 +286,11 @@ def faults(names, page):
     if page == "docs/guarantees.md":
         yield from promises(names, text)
     yield from sentences.long_sentences(pieces(text))
+    yield from places.misplaced(names, page, pieces(text))
+    yield from places.lost_lines(pieces(text))
+    yield from places.wrong_drawings(pieces(text), told)
+    if page == "README.md":
+        yield from places.wrong_costs(page)
     for number, line in enumerate(text.split("\n"), 1):
         if len(line) >= WIDTH:
             yield number, f"the line has {len(line)} columns"

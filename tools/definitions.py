@@ -1,10 +1,10 @@
 #!/usr/bin/env python3
 """Counts the lines of definitions that contracts reach: tools/definitions.py [CRATE ..], or [CRATE.MODULE.NAME ..]
 
-Run at the top of the repository. It begins with the definitions that the clauses of the crates' public functions name (session_core
-and session_steps if nothing is named), or with the definitions that are named, goes on with those that these name, and prints for each
-crate how many lines they have, without comments, blank lines and imports, and the files that hold them. docs/trust.md has its
-tables. Types and constants of the code are not counted.
+Run at the top of the repository. It begins with the definitions that the clauses of the crates' public functions name, exports to C among
+them (session_core and session_steps if nothing is named), or with the definitions that are named. It goes on with those that these name,
+and prints for each crate how many lines they have, without comments, blank lines and imports, and the files that hold them. docs/trust.md
+has its tables. Types and constants of the code are not counted.
 """
 import os
 import re
@@ -92,8 +92,8 @@ def roots(known, crate):
                 for line in it:
                     more, _ = imports_of(line)
                     names.update(more)
-                    if re.match(r"\s*(pub )?(const )?fn ", line) or re.match(r"\s*pub\(crate\) fn ", line):
-                        public = bool(re.match(r"\s*pub (const )?fn ", line))
+                    if re.match(r"\s*(pub )?(const |extern \"C\" )?fn ", line) or re.match(r"\s*pub\(crate\) fn ", line):
+                        public = bool(re.match(r"\s*pub (const |extern \"C\" )?fn ", line))
                     if public and re.match(r"\s*(requires|ensures)\b", line):
                         signature = True
                     if re.match(r"\s*\{\s*$|\{\}\s*$", line):

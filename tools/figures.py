@@ -1,8 +1,8 @@
 """Figures of the documents that the repository can be asked for. tools/check_docs.py compares them; each says where it is wrong.
 
 The places: docs/trust.md (lines of definitions), README.md (the bands of the picture, the star), docs/gate.md (edits of each crate, and
-the most that there may be), docs/callers.md (the calls of the header), and docs/DECISIONS.md (how large a crate may be, and those that
-may be larger until they are cut).
+the most that there may be), docs/callers.md (the calls of the header), docs/DECISIONS.md (how large a crate may be, and those that
+may be larger until they are cut), docs/postgresql.md (what docs/rules.md calls ours), and docs/invariants.md (the types that have one).
 """
 import glob
 import re
@@ -136,6 +136,15 @@ def edits():
         yield 1, f"no row has {', '.join(sorted(left))}"
 
 
+def differences():
+    """docs/postgresql.md: it leads to each section of docs/rules.md that calls something ours."""
+    rules, page = text_of("docs/rules.md"), text_of("docs/postgresql.md")
+    for section in re.findall(r"^## (.*\n(?:(?!## ).*\n)*)", rules, re.M):
+        title = section.partition("\n")[0]
+        if re.search(r"\bours\b", section) and f"(rules.md#{title.lower().replace(' ', '-')})" not in page:
+            yield 1, f"no row leads to the section {title} of docs/rules.md"
+
+
 def calls():
     """docs/callers.md: how many calls the header declares."""
     count = len(re.findall(r"^uint32_t sandpiper_\w+\(", text_of("include/sandpipercot.h"), re.M))
@@ -145,8 +154,20 @@ def calls():
             yield line_of(page, said.start()), f"the header declares {count} calls"
 
 
+def invariants():
+    """docs/invariants.md: it names each type of the code that has an invariant."""
+    page = text_of("docs/invariants.md")
+    for path in sorted(glob.glob("crates/*/src/**/*.rt", recursive=True)):
+        code = text_of(path)
+        for found in re.finditer(r"ghost invariant = ", code):
+            kind = re.findall(r"^impl\b(?:<[^\n]*?>)?\s+(?:\w+(?:<.*?>)? for )?(\w+)", code[: found.start()], re.M)[-1]
+            if f"`{kind}`" not in page:
+                yield 1, f"the invariant of `{kind}` is missing ({path})"
+
+
 def wrong():
     """Each figure that is wrong: the page, the line, and what to say."""
     places = {"docs/trust.md": trust, "README.md": layers, "docs/DECISIONS.md": sizes, "docs/gate.md": edits, "docs/callers.md": calls}
+    places.update({"docs/postgresql.md": differences, "docs/invariants.md": invariants})
     for page, asked in places.items():
         yield from ((page, *found) for found in asked())
