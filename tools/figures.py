@@ -45,7 +45,7 @@ def edits_of(crate, folder="*"):
 
 
 def trust():
-    """docs/trust.md: its table, and before each command of tools/definitions.py the lines that this prints."""
+    """docs/trust.md: its table, before each command of tools/definitions.py the lines that this prints, and what a `stdout` has."""
     page, known = text_of("docs/trust.md"), definitions.modules()
     begin = page.index("| crate | lines | in |")
     rows = page[begin:].split("\n\n")[0].split("\n")[2:]
@@ -53,6 +53,13 @@ def trust():
         if row != want:
             yield line_of(page, begin) + 2 + at, f"tools/definitions.py prints {want}"
             break
+    for row in re.finditer(r"^\|.*`(crates/\w+/stdout)`.*$", page, re.M):
+        for figure in re.findall(r"\d[\d,]*\d", row[0]):
+            if not re.search(rf"\b{number(figure)}\b", text_of(row[1])):
+                yield line_of(page, row.start()), f"{row[1]} has no {figure}"
+    tried = re.search(r"^\| wrong edits .*?\| ([\d,]+) \|", page, re.M)
+    if number(tried[1]) != sum(map(edits_of, affected.crates())):
+        yield line_of(page, tried.start()), f"there are {sum(map(edits_of, affected.crates()))} edits"
     said = 0
     for command in re.finditer(r"`python3 tools/definitions.py ([^`]*)`", page):
         text, said = page[said : command.start()], command.end()
