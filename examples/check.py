@@ -43,9 +43,11 @@ def rows(page):
             yield "".join(quoted(line)), quoted(answer)
 
 
-def fault(heapsh, page):
-    """What is wrong with a page, if anything is."""
-    path = page[: -len(".md")] + ".script"
+def fault(heapsh, path):
+    """What is wrong with a script's page, if anything is."""
+    page = path[: -len(".script")] + ".md"
+    if not os.path.exists(page):
+        return "there is no page"
     told = list(rows(page))
     with open(path) as script:
         lines = script.read().splitlines()
@@ -64,11 +66,11 @@ def fault(heapsh, page):
 
 def main():
     heapsh = os.path.abspath(sys.argv[1])
-    pages = sorted(glob.glob(os.path.join(os.path.dirname(os.path.abspath(__file__)), "*.md")))
-    faults = {page: wrong for page in pages if (wrong := fault(heapsh, page))}
-    for page, wrong in faults.items():
-        print(f"{os.path.basename(page)}: {wrong}")
-    print(f"{len(pages) - len(faults)} pages agree with their scripts, {len(faults)} don't")
+    scripts = sorted(glob.glob(os.path.join(os.path.dirname(os.path.abspath(__file__)), "*.script")))
+    faults = {path: wrong for path in scripts if (wrong := fault(heapsh, path))}
+    for path, wrong in faults.items():
+        print(f"{os.path.basename(path)}: {wrong}")
+    print(f"{len(scripts) - len(faults)} pages agree with their scripts, {len(faults)} don't")
     sys.exit(1 if faults else 0)
 
 

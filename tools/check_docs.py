@@ -269,12 +269,16 @@ def promises(names, text):
             continue
         if words_of(cells_of[0]) > PROMISE:
             yield number, f"the promise has {words_of(cells_of[0])} words"
-        if len(cells_of) != 4 or line.startswith("| promise"):
+        if len(cells_of) < 3 or line.startswith(("| promise", "|---")):
             continue
-        for module, name in re.findall(r"`(\w+)\.(\w+)`", cells_of[1]):
+        for module, name in re.findall(r"`(\w+)\.(\w+)`", " ".join(cells_of[1:-1])):
             if not any(name in names.of.get((crate, module), ()) for crate in crates):
                 yield number, f"`{module}.{name}` is in none of {', '.join(crates)}"
-        for edit, mark in re.findall(r"`(\w+)`( \(a\))?", cells_of[3]):
+        law = re.fullmatch(r"law `\w+\.(\w+)`", cells_of[1])
+        function = re.sub(r"(?<!^)(?=[A-Z])", "_", law[1]).lower() if law else None
+        if law and not any(function in names.of.get(crate, ()) for crate in crates):
+            yield number, f"no law is called {function}"
+        for edit, mark in re.findall(r"`(\w+)`( \(a\))?", cells_of[-1]):
             folders = ["audit" if mark else "by-function"]
             if not any(f"crates/{crate}/{folder}/{edit}.edit" in names.paths for crate in crates for folder in folders):
                 yield number, f"`{edit}` is in {' or '.join(folders)} of none of {', '.join(crates)}"

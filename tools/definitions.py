@@ -4,7 +4,7 @@
 Run at the top of the repository. It begins with the definitions that the clauses of the crates' public functions name, exports to C among
 them (session_core and session_steps if nothing is named), or with the definitions that are named. It goes on with those that these name,
 and prints for each crate how many lines they have, without comments, blank lines and imports, and the files that hold them. docs/trust.md
-has its tables. Types and constants of the code are not counted.
+has the sums. Types and constants of the code are not counted.
 """
 import os
 import re
@@ -128,7 +128,7 @@ def counted(known, words):
 
 
 def table(known, words):
-    """The rows of the table that is printed, and of docs/trust.md: a row more for each ten modules of a crate."""
+    """The rows of the table that is printed: a row more for each ten modules of a crate."""
     rows = list(counted(known, words))
     for crate, lines, modules in rows:
         begin = f"| `{crate}` | {lines} |"

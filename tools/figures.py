@@ -45,23 +45,27 @@ def edits_of(crate, folder="*"):
 
 
 def trust():
-    """docs/trust.md: its table, and before each command of tools/definitions.py the lines that this prints."""
+    """docs/trust.md: before each command of tools/definitions.py the lines that this prints, the edits, and what a `stdout` has."""
     page, known = text_of("docs/trust.md"), definitions.modules()
-    begin = page.index("| crate | lines | in |")
-    rows = page[begin:].split("\n\n")[0].split("\n")[2:]
-    for at, (row, want) in enumerate(zip([*rows, ""], definitions.table(known, definitions.PUBLIC))):
-        if row != want:
-            yield line_of(page, begin) + 2 + at, f"tools/definitions.py prints {want}"
-            break
+    for row in re.finditer(r"^\|.*`(crates/\w+/stdout)`.*$", page, re.M):
+        for figure in re.findall(r"\d[\d,]*\d", row[0]):
+            if not re.search(rf"\b{number(figure)}\b", text_of(row[1])):
+                yield line_of(page, row.start()), f"{row[1]} has no {figure}"
+    tried = re.search(r"^\| wrong edits .*?\| ([\d,]+) \|", page, re.M)
+    if number(tried[1]) != sum(map(edits_of, affected.crates())):
+        yield line_of(page, tried.start()), f"there are {sum(map(edits_of, affected.crates()))} edits"
     said = 0
-    for command in re.finditer(r"`python3 tools/definitions.py ([^`]*)`", page):
+    for command in re.finditer(r"`python3 tools/definitions.py ?([^`]*)`", page):
         text, said = page[said : command.start()], command.end()
-        counts = {crate: lines for crate, lines, _ in definitions.counted(known, command[1].split())}
+        counts = {crate: lines for crate, lines, _ in definitions.counted(known, command[1].split() or definitions.PUBLIC)}
         wholes = re.findall(r"\b([\d,]+) lines", text)
+        crates = re.findall(r"\bof (\d+) crates", text)
         figures = [(n, crate, counts.get(crate)) for n, crate in re.findall(r"\b(\d+)\s+in\s+`(\w+)`", text)]
         for n, what, want in figures + [(n, "all", sum(counts.values())) for n in wholes[-1:]]:
             if number(n) != want:
                 yield line_of(page, command.start()), f"{n} lines of {what}: tools/definitions.py prints {want}"
+        if crates and number(crates[-1]) != len(counts):
+            yield line_of(page, command.start()), f"{crates[-1]} crates: tools/definitions.py prints {len(counts)}"
         if not wholes:
             yield line_of(page, command.start()), "no number of lines stands before this command"
 

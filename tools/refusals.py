@@ -1,8 +1,8 @@
 """Refusals and statuses: their numbers, names and meanings, wherever they are written. tools/check_docs.py calls it.
 
 The table of refusals in docs/rules.md is the one that counts. With it are compared: `Refusal` of the crate calls, whose comments have
-the meanings; the number and name in a script's answers (code, definitions, docs/script.md); the number that C has (code, definitions,
-header, Python); and the cases of tests/callers/statuses.c. Statuses that are no refusals are compared in the same places.
+the meanings; the number and name in a script's answers (code, definitions); the number that C has (code, definitions, header, Python); and
+the cases of tests/callers/statuses.c. Statuses that are no refusals are compared in the same places.
 """
 import re
 
@@ -48,7 +48,6 @@ def places(rows):
     status = {name: number for name, (_, number, _) in rows.items()}
     yield "crates/script_text/src/answer.rt", r'b"(?P<number>\d+) (?P<name>[A-Z]\w+) ?"', script
     yield "crates/script_text/specs/Answers.antt", r'codes "(?P<number>\d+) (?P<name>[A-Z]\w+)"', script
-    yield "docs/script.md", r"^\| `(?P<number>\d+) (?P<name>[A-Z]\w+)(?: S)?` \|", script
     code, logic = "crates/sandpiper_c/src/status.rt", "crates/sandpiper_c/specs/CallStatus.antt"
     yield code, r"Refusal::(?P<name>\w+)(?:\(\w+\))? => (?P<number>\d+)", status
     yield logic, r"number_of_refusal \(?refusal\.(?P<name>\w+)(?: \w+\))? = (?P<number>\d+)", status
