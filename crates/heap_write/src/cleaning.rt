@@ -1,4 +1,4 @@
-//! What a vacuum calls, beside pruning. Nothing here takes memory.
+//! The calls of a vacuum, beside pruning. Nothing here takes memory.
 
 ghost use Rattle.std.specs.Prelude.{◌≡◌, ◌<◌, ℕ, [], ◌∷◌, Some, MatchOption, Contains, length, map, slice_get};
 ghost use Rattle.std.specs.List.{AllPairs};
@@ -19,7 +19,7 @@ use space_maps::Mark;
 use xid_circle::{Tid, Xid};
 
 impl HeapState {
-    /// What is noted of the page of this number, if it is in use: whether each of its versions is visible to all, and frozen.
+    /// The mark of the page of this number, if it is in use: whether each of its versions is visible to all, and frozen.
     pub fn mark(&self, number: u32) -> Option<Mark>
         ensures { result ≡ slice_get self.now.pages.marks number }
     {

@@ -56,8 +56,8 @@ impl HeapState {
         }
     }
 
-    /// Updates a version whose page has no room for the row, by the plan of its pruning. It stands alone, so that the plan's
-    /// array is cleared only where it is made.
+    /// Updates a version whose page has no room for the row, by the plan of its pruning. It is a function of its own, so that the
+    /// plan's array is cleared only where it is made.
     #[inline(never)]
     fn update_by_plan(&mut self, own: &mut OwnIds, place: Tid, row: &Row, horizon: Xid) -> Answer
         requires may { IsReplaceable self.old own.old place }

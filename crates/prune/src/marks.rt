@@ -1,5 +1,5 @@
-//! What pruning makes of each slot, noted in a fixed array: by one walk along the chain of each root that may lose a version,
-//! but for those that a header tells to be of one version.
+//! Marks that say what pruning makes of each slot, in a fixed array: by one walk along the chain of each root that may lose a
+//! version, except where a header tells that the chain is of one version.
 
 ghost use Rattle.std.specs.Prelude.{◌≡◌, ◌≤◌, ◌<◌, ◌+◌, ℕ, None, Some, IfSome, Bool, [], ◌∷◌, length, nat_eq, slice_get, if◌then◌else◌};
 ghost use Rattle.std.specs.List.{list_any};
@@ -20,7 +20,7 @@ use tuple_header::MOST_SLOT_NUMBERS;
 use visibility::{Fate, fate_of};
 use xid_circle::Xid;
 
-/// What was found out of a slot.
+/// The mark of a slot.
 #[derive(Clone, Copy, Debug, PartialEq, Eq)]
 pub(crate) enum PruneVerdict {
     /// It is neither a root nor in the chain of one.

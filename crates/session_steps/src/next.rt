@@ -56,8 +56,8 @@ impl SessionEngine {
         }
     }
 
-    /// Puts what [`SessionEngine::next`] answers in the place of another reply. It stands alone, so that a reply by value is cleared
-    /// only where one is made.
+    /// Puts the answer of [`SessionEngine::next`] in the place of another reply. It is a function of its own, so that a reply by
+    /// value is cleared only where one is made.
     #[inline(never)]
     pub(crate) fn next_into(&mut self, s: u8, n: u16, reply: &mut Reply)
         ensures { AnswersStep self.old (Step.Next s n) reply.new self.new }

@@ -17,8 +17,8 @@ use xid_circle::Xid;
 pub enum SessionIsolation {
     /// By that of its beginning.
     BySnapshot(Snapshot),
-    /// Each of its statements by one of its own, which lists nobody and is not kept. Then the session keeps the snapshot by which its
-    /// cursor reads, from the opening of the cursor to its closing.
+    /// Each of its statements by one of its own, which lists nobody and is not kept. The session keeps its cursor's snapshot, from
+    /// the opening of the cursor to its closing.
     ByStatement(Option<Snapshot>),
 }
 
@@ -62,7 +62,7 @@ pub struct Session {
     pub isolation: SessionIsolation,
     /// Its own ids and its savepoints.
     pub own: OwnIds,
-    /// Whether it can only be rolled back.
+    /// True where it can only be rolled back.
     pub failed: bool,
     /// Its cursor, if it has one.
     pub cursor: Option<CursorScan>,
@@ -90,7 +90,7 @@ impl SessionEngine {
         place.insert(Snapshot::empty(self.alloc, self.heap.statuses().next()))
     }
 
-    /// The snapshot by which a statement of the session reads: its own, or one that is put in the place.
+    /// The snapshot of a statement of the session: the session's own, or a new one that is put in the place.
     fn statement_snapshot<'a>(
         &self,
         session: &'a Session,
@@ -104,7 +104,7 @@ impl SessionEngine {
         }
     }
 
-    /// That by which its cursor reads: the one that the session keeps, or else one that is put in the place.
+    /// The snapshot of its cursor: the one that the session keeps, or else a new one that is put in the place.
     fn cursor_snapshot<'a>(
         &self,
         session: &'a Session,

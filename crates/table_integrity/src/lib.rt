@@ -1,4 +1,4 @@
-//! What each step keeps of a table: its pages, its ids and its indexes.
+//! The properties of a table that each step keeps: of its pages, its ids and its indexes.
 //!
 //! `heap_write` says exactly what a write, a pruning or a refusal leaves of a table. The laws here say what that means: a
 //! table whose pages are sound, and in each of whose indexes the entries lead to the roots of chains of their values, stays
