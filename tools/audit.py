@@ -2,7 +2,7 @@
 """Tries many wrong edits of a crate in few checks: tools/audit.py [--jobs N] [--only WORD] [NAME ..]
 
 Run at the top of the repository, with `rt` on the path; without names, every crate that has edits. The edits are those of
-must-fail/, by-function/ and audit/ of crates/NAME. They are tried on copies, some sixteen in one check: a round changes each function
+by-function/ and audit/ of crates/NAME. They are tried on copies, some sixteen in one check: a round changes each function
 at most once, and judges each edit by the line that `rt check` prints for the function that it changes. An edit is refused where
 that function itself is not proved. One whose function was only not reached ("it calls ..") is tried again with others of that kind, and
 in the end alone, as is one that changes no single function (a definition, a constant). Prints the edits that were not refused, and
@@ -29,8 +29,8 @@ MISSES_A_NAME = re.compile(r"has no (field )?`|can be named|is no name that ratt
 # a goal that is false of the new body, whatever its proof file names
 IS_FALSE = re.compile(r"^note: src/.*it is not proved that.*allow values at which this goal is false", re.M)
 CHECK = ("rt", "check", "--jobs", "1")
-# where edits stand: the gate tries the first by a check of the crate, the second by one of a function
-FOLDERS = ("must-fail", "by-function", "audit")
+# where edits stand: those of the first are in the gate
+FOLDERS = ("by-function", "audit")
 # how often an edit is tried with others
 MOST_TRIES = 4
 # what `rt check` says of a function that was not reached, since one that it calls has no proof

@@ -279,7 +279,7 @@ def promises(names, text):
         if law and not any(function in names.of.get(crate, ()) for crate in crates):
             yield number, f"no law is called {function}"
         for edit, mark in re.findall(r"`(\w+)`( \(a\))?", cells_of[-1]):
-            folders = ["audit"] if mark else ["must-fail", "by-function"]
+            folders = ["audit" if mark else "by-function"]
             if not any(f"crates/{crate}/{folder}/{edit}.edit" in names.paths for crate in crates for folder in folders):
                 yield number, f"`{edit}` is in {' or '.join(folders)} of none of {', '.join(crates)}"
 

@@ -120,8 +120,8 @@ def sizes():
 def edits():
     """docs/gate.md: the edits of each crate, and the most that the gate tries."""
     page, left = text_of("docs/gate.md"), set(affected.crates())
-    one, most = re.search(r"at most (\d+) edits in `must-fail/` and `by-function/`, the repository (\d+)", page).groups()
-    tried = {crate: edits_of(crate, "must-fail") + edits_of(crate, "by-function") for crate in left}
+    one, most = re.search(r"at most (\d+) edits in `by-function/`, the repository (\d+)", page).groups()
+    tried = {crate: edits_of(crate, "by-function") for crate in left}
     for crate, count in [*sorted(tried.items()), ("all", sum(tried.values()))]:
         if count > number(most if crate == "all" else one):
             yield 1, f"{crate}: {count} edits in the gate"

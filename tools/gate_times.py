@@ -1,12 +1,17 @@
 #!/usr/bin/env python3
-"""Says what a run of the gate costs: tools/gate_times.py [COMMAND ..]
+"""Says what a run of the gate costs: tools/gate_times.py [--notes FILE] [COMMAND ..]
 
 Runs the command (`tools/test.sh` if none is given) at the top of the repository, looks at the processor time of each of the prover's
-processes twice a second, and prints a table in processor minutes: each crate's proof (with its build), its tests and its edits (the
-second proof that those of must-fail/ begin with counts there), and what the whole run took by its own count. A check by several
-jobs counts its copies twice in the table, and once in the whole. Where a kit's `rt ci` keeps what has passed, `rt ci --anew` is to be
-given. Needs Linux's /proc. Ends with the command's status.
+processes twice a second, and prints the table of docs/gate.md: of each crate the processor minutes of its proof (with its build), of its
+tests and of its edits, and how many edits it has. Then come the longest chain of crates, each of which waits for the one before, and what
+the whole run took by its own count. With --notes the minutes are added to those of the file, so that a table can be made of two runs: of
+the gate, and of `tools/edits.py --all`.
+
+A check by several jobs counts its copies twice in the table, and once in the whole. Where a kit's `rt ci` keeps what has passed, the table
+has what was not kept. Needs Linux's /proc. Ends with the command's status.
 """
+import argparse
+import json
 import os
 import re
 import subprocess
@@ -14,6 +19,10 @@ import sys
 import threading
 import time
 
+import affected
+import audit
+
+KINDS = ("proof", "tests", "edits")
 TICK = os.sysconf("SC_CLK_TCK")
 
 
@@ -44,14 +53,14 @@ def processes(root):
         except OSError:
             continue
         crate = words[words.index("--crate-name") + 1]
-        is_edit = any(part in word for part in ("rt-edit", "by-function") for word in [folder, *words])
+        is_edit = any("by-function" in word for word in [folder, *words])
         kind = "edits" if is_edit else "tests" if "--test" in words else "proof"
         yield (number, fields[19]), (crate.removesuffix("_tests"), kind), sum(map(int, fields[11:15])) / TICK
 
 
-def main():
-    command = sys.argv[1:] or ["tools/test.sh"]
-    began, seen, over = time.time(), {}, threading.Event()
+def watched(command):
+    """Runs a command, and answers its status, its processor seconds, and the minutes of each crate by kind."""
+    seen, over = {}, threading.Event()
 
     def watch():
         while not over.is_set():
@@ -67,17 +76,51 @@ def main():
     watcher.join()
     table = {}
     for (crate, kind), seconds in seen.values():
-        row = table.setdefault(crate, {"proof": 0, "tests": 0, "edits": 0})
+        row = table.setdefault(crate, dict.fromkeys(KINDS, 0))
         row[kind] += seconds / 60
-    print("\n| crate | proof | tests | edits | in all |\n|---|---:|---:|---:|---:|")
+    return os.waitstatus_to_exitcode(status), used.ru_utime + used.ru_stime, table
+
+
+def longest_chain(uses, minutes):
+    """The crates that stand one above another and take longest to be proved so, the lowest first, with their minutes."""
+    found = {}
+    for crate in affected.above(uses, uses):
+        below = max((found[low] for low in uses[crate] if low in found), default=(0, []))
+        found[crate] = (below[0] + minutes.get(crate, 0), [*below[1], crate])
+    return max(found.values())
+
+
+def show(table):
+    """Prints the table, and the longest chain."""
     cell = lambda minutes: f"{minutes:.1f}" if minutes >= 0.05 else ""
+    print("\n| crate | proof | tests | edits | in all | how many edits |\n|---|---:|---:|---:|---:|---:|")
     for crate, row in sorted(table.items(), key=lambda it: -sum(it[1].values())):
-        print(f"| `{crate}` | {cell(row['proof'])} | {cell(row['tests'])} | {cell(row['edits'])} | {sum(row.values()):.1f} |")
-    sums = [sum(row[kind] for row in table.values()) for kind in ("proof", "tests", "edits")]
-    print(f"| all | {sums[0]:.1f} | {sums[1]:.1f} | {sums[2]:.1f} | {sum(sums):.1f} |")
-    whole = (used.ru_utime + used.ru_stime) / 60
-    print(f"\nthe whole run: {whole:.1f} processor minutes (user and system), {(time.time() - began) / 60:.1f} by the clock")
-    sys.exit(os.waitstatus_to_exitcode(status))
+        count = len(audit.edits_of(f"crates/{crate}")) or ""
+        print(f"| `{crate}` | {' | '.join(cell(row[kind]) for kind in KINDS)} | {sum(row.values()):.1f} | {count} |")
+    sums = [sum(row[kind] for row in table.values()) for kind in KINDS]
+    print(f"| all | {' | '.join(map(cell, sums))} | {sum(sums):.1f} | {len(audit.edits_of('crates/*'))} |")
+    took, chain = longest_chain(affected.crates(), {crate: row["proof"] for crate, row in table.items()})
+    print(f"\nthe longest chain: {took:.1f} minutes, {', '.join(f'`{crate}`' for crate in chain)}")
+
+
+def main():
+    parser = argparse.ArgumentParser(description=__doc__, formatter_class=argparse.RawDescriptionHelpFormatter)
+    parser.add_argument("--notes", help="a file that has the minutes of earlier runs; those of this one are added")
+    parser.add_argument("command", nargs=argparse.REMAINDER)
+    words = parser.parse_args()
+    began, table = time.time(), {}
+    if words.notes and os.path.exists(words.notes):
+        table = json.loads(audit.text_of(words.notes))
+    status, seconds, found = watched(words.command or ["tools/test.sh"])
+    for crate, row in found.items():
+        before = table.setdefault(crate, dict.fromkeys(KINDS, 0))
+        table[crate] = {kind: before[kind] + row[kind] for kind in KINDS}
+    if words.notes:
+        with open(words.notes, "w", encoding="utf-8") as file:
+            json.dump(table, file)
+    show(table)
+    print(f"the whole run: {seconds / 60:.1f} processor minutes (user and system), {(time.time() - began) / 60:.1f} by the clock")
+    sys.exit(status)
 
 
 main()

@@ -31,6 +31,7 @@ pub use action::PrunePlan;
 pub use applying::{apply, apply_actions, prune};
 pub use checking::{check_actions, check_plan};
 pub use dead::first_death;
+pub use marks::cut_count;
 pub use planning::{plan, plan_by_doubts};
 pub use prune_actions::Action;
 pub use room::room_after;

@@ -47,7 +47,7 @@ impl PruneVerdict {
 pub(crate) type Marks = [PruneVerdict; MOST_SLOT_NUMBERS];
 
 /// How many of these versions end with the last dead one.
-pub(crate) fn cut_count(page: &Page, chain: &[u16], statuses: &StatusTable, horizon: Xid) -> usize
+pub fn cut_count(page: &Page, chain: &[u16], statuses: &StatusTable, horizon: Xid) -> usize
     ensures { IsCutCount statuses.now horizon.0 page.now.slots chain.now result }
 {
     let mut cut = 0;

@@ -12,6 +12,7 @@
 mod counts;
 mod direct;
 mod engine;
+mod looks;
 mod making;
 mod runs;
 mod statuses;
@@ -26,6 +27,7 @@ pub use commit_status::Status;
 pub use engine::Engine;
 pub use page_slots::Page;
 pub use runs::{RunFault, run};
-pub use session_steps::Ack;
+pub use session_looks::{Hold, HorizonHolder, PrunePlan, ShownVersion, SlotFate};
+pub use session_steps::{Ack, Session, SessionIsolation};
 pub use tuple_header::RowPlace;
 pub use xid_circle::Xid;

@@ -26,7 +26,7 @@ held-some (Some f ∷ xs) zero e y at among =
     Contains-append_left (holds_back f) (held_back xs) y (subst (λ (g : Session). Contains (holds_back g) y) (sym (same_Some f e at)) among)
 held-some (Some f ∷ xs) (suc s) e y at among = Contains-append_right (holds_back f) (held_back xs) y (held-some xs s e y at among)
 
-held-cases : (xs : List (Option Session)) (y : ℕ) → Contains (held_back xs) y → (s : ℕ) × (e : Session) × (open_at xs s ≡ Some e) × Contains (holds_back e) y
+pub held-cases : (xs : List (Option Session)) (y : ℕ) → Contains (held_back xs) y → (s : ℕ) × (e : Session) × (open_at xs s ≡ Some e) × Contains (holds_back e) y
 held-cases [] y among = absurd (let below : among.0 < 0 = among.1 in omega arith)
 held-cases (None ∷ xs) y among = let some = held-cases xs y among in (suc some.0, some.1, some.2, some.3)
 held-cases (Some f ∷ xs) y among = elim (Contains-append_cases (holds_back f) (held_back xs) y among) [

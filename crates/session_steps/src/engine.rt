@@ -96,6 +96,13 @@ impl SessionEngine {
         (statuses.next(), statuses.frozen_below())
     }
 
+    /// The table.
+    pub fn heap(&self) -> &HeapState
+        ensures { result.now ≡ self.now.heap }
+    {
+        &self.heap
+    }
+
     /// The page of this number, counted from 0, if it is in use.
     pub fn page(&self, number: u32) -> Option<&Page>
         ensures { option_copied result ≡ slice_get self.now.heap.pages.pages number }
@@ -123,7 +130,7 @@ impl SessionEngine {
     }
 
     /// The session, if it is open.
-    pub(crate) fn open_session(&self, s: u8) -> Result<&Session, Refusal>
+    pub fn open_session(&self, s: u8) -> Result<&Session, Refusal>
         ensures { MatchResult result
             (λ e. (s < MOST_SESSIONS) × (session_at self.now s ≡ Some e.now))
             (λ refusal. BarsOpen (engine_sessions self.now) s refusal) }

@@ -33,3 +33,4 @@ pub use calls::{Refusal, Reply, Row, RowIn, Settings, SettingsFault, Step};
 pub use engine::SessionEngine;
 pub use outcome::Ack;
 pub use page_slots::Page;
+pub use session::{Session, SessionIsolation};

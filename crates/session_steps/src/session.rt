@@ -24,7 +24,7 @@ pub enum SessionIsolation {
 
 impl SessionIsolation {
     /// The snapshot that the session keeps from step to step, if it keeps one.
-    pub(crate) fn lasting_snapshot(&self) -> Option<&Snapshot>
+    pub fn lasting_snapshot(&self) -> Option<&Snapshot>
         ensures { option_copied result ≡ kept_by self.now }
     {
         match self {
@@ -58,10 +58,14 @@ impl SessionIsolation {
 /// which indexes are too new for it: they were made while it was open by snapshot, and may lack rows that it reads.
 #[derive(Drop)]
 pub struct Session {
-    pub(crate) isolation: SessionIsolation,
-    pub(crate) own: OwnIds,
-    pub(crate) failed: bool,
-    pub(crate) cursor: Option<CursorScan>,
+    /// By which snapshot it reads.
+    pub isolation: SessionIsolation,
+    /// Its own ids and its savepoints.
+    pub own: OwnIds,
+    /// Whether it can only be rolled back.
+    pub failed: bool,
+    /// Its cursor, if it has one.
+    pub cursor: Option<CursorScan>,
     pub(crate) too_new: [bool; 4],
 }
 
@@ -116,11 +120,7 @@ impl SessionEngine {
 
     /// The session as a statement of it reads; the place is for a snapshot of the statement's own. By this alone each of its statements
     /// sees what it sees.
-    pub(crate) fn reader<'a>(
-        &'a self,
-        session: &'a Session,
-        place: &'a mut Option<Snapshot>,
-    ) -> Reader<'a>
+    pub fn reader<'a>(&'a self, session: &'a Session, place: &'a mut Option<Snapshot>) -> Reader<'a>
         ensures { ReadsBy self.now session.now
             (statement_snapshot self.now.heap.statuses session.now.isolation) result }
     {

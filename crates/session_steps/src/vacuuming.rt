@@ -1,11 +1,12 @@
 //! A vacuum of the engine's table: its beginning, its steps, and what is forgotten at its end.
 
-ghost use Rattle.std.specs.Prelude.{◌≡◌, ℕ, IsTrue, ◌↔◌, Some, Contains};
+ghost use Rattle.std.specs.Prelude.{◌≡◌, ℕ, IsTrue, ◌↔◌, Some, length, Contains};
 ghost use Rattle.std.specs.Option.{option_map};
 ghost use Rattle.xid_circle.specs.Circle.{Precedes};
 ghost use Rattle.commit_status.specs.Changes.{numbers};
 ghost use Rattle.commit_status.specs.Window.{IsUpToNext};
 ghost use Rattle.forgetting.specs.Cutoffs.{aged, cutoff_at};
+ghost use Rattle.calls.specs.declared.step.TheConstants.{MOST_SESSIONS};
 ghost use Rattle.session_steps.specs.declared.session.Session.{Session as OpenSession};
 ghost use Rattle.session_steps.specs.Keeps.{open_at, OwnIdsKeep};
 ghost use Rattle.session_steps.specs.Vacuums.{IsSetUp, vacuum_begun, VacuumWorks, MayForget, Forgets};
@@ -76,10 +77,12 @@ fn own_from(sessions: &[Option<Session>], cutoff: Xid) -> bool
 
 impl SessionEngine {
     /// That its settings are in their ranges, and its indexes are those that it was made with. And that each own id of an open session
-    /// is in progress, there once, and no other's, and each id in progress a session's. It does nothing; its contract is the fact.
+    /// is in progress, there once, and no other's, and each id in progress a session's. There are 64 places for sessions. It does
+    /// nothing; its contract is the fact.
     pub fn fact_set_up(&self)
         ensures set_up { IsSetUp self.now }
         ensures own_ids { OwnIdsKeep self.now.sessions self.now.heap.statuses }
+        ensures count { length self.now.sessions ≡ MOST_SESSIONS }
     {
         self.heap.fact_indexes();
         let _limit = self.settings.dead_limit();

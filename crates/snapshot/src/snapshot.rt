@@ -70,10 +70,25 @@ impl Snapshot {
         self.xmax
     }
 
-    fn is_listed(&self, x: Xid) -> bool
+    /// The numbers of the ids that are listed, in order of listing: they were in progress when it was taken.
+    pub fn listed_ids(&self) -> &[u32]
+        ensures { result.now ≡ self.now.listed }
+    {
+        self.listed.as_slice()
+    }
+
+    /// Whether the children of some transaction are not listed, since they were more than 64.
+    pub fn is_overflowed(&self) -> bool
+        ensures { result ≡ self.now.overflowed }
+    {
+        self.overflowed
+    }
+
+    /// Whether an id is listed.
+    pub fn is_listed(&self, x: Xid) -> bool
         ensures { IsTrue result ↔ Contains self.now.listed x.0 }
     {
-        self.listed.as_slice().contains(&x.0)
+        self.listed_ids().contains(&x.0)
     }
 
     fn has_finished(&self, x: Xid) -> bool

@@ -1,6 +1,6 @@
 //! A vacuum in progress.
 
-ghost use Rattle.std.specs.Prelude.{◌≡◌, ◌<◌, ◌≤◌, MatchOption};
+ghost use Rattle.std.specs.Prelude.{◌≡◌, ◌<◌, ◌≤◌, length, MatchOption};
 ghost use Rattle.calls.specs.declared.vacuum.Mode.TheVariants.{Normal, Aggressive};
 ghost use Rattle.vacuum_passes.specs.View.{new_vacuum, disturbed};
 
@@ -113,6 +113,48 @@ impl Vacuum {
             Mode::Normal => None,
             Mode::Aggressive => Some(self.cutoff),
         }
+    }
+
+    /// Which pages it passes over.
+    pub fn mode(&self) -> Mode
+        ensures { result ≡ self.now.mode }
+    {
+        self.mode
+    }
+
+    /// The horizon of its beginning.
+    pub fn horizon(&self) -> Xid
+        ensures { result.0 ≡ self.now.horizon }
+    {
+        self.horizon
+    }
+
+    /// It freezes what an id before this one made.
+    pub fn cutoff(&self) -> Xid
+        ensures { result.0 ≡ self.now.cutoff }
+    {
+        self.cutoff
+    }
+
+    /// What its next step does.
+    pub fn phase(&self) -> Phase
+        ensures { result ≡ self.now.phase }
+    {
+        self.phase
+    }
+
+    /// The next page that it visits.
+    pub fn next(&self) -> u32
+        ensures { result ≡ self.now.next }
+    {
+        self.next
+    }
+
+    /// How many slots it has collected that are not freed yet.
+    pub fn collected_count(&self) -> usize
+        ensures { result ≡ length self.now.store }
+    {
+        self.store.len() - self.freed
     }
 
     /// Notes another step than one of the vacuum's own, and whether it was a session's.

@@ -25,7 +25,8 @@ pub fn closes_ring(waits: &[Option<u8>], s: u8, o: u8) -> bool
     false
 }
 
-fn wait_of(waits: &[Option<u8>], s: u8) -> Option<u8>
+/// For whom a session waits, if for anybody.
+pub(crate) fn wait_of(waits: &[Option<u8>], s: u8) -> Option<u8>
     ensures value { result ≡ wait_in waits.now s }
     ensures small { (o : ℕ) → result ≡ Some o → o < 256 }
 {

@@ -6,7 +6,7 @@ ghost use Rattle.history.specs.World.{ClosesRing};
 ghost use Rattle.calls.specs.declared.step.TheConstants.{MOST_SESSIONS};
 ghost use Rattle.waits.specs.View.{wait_in};
 
-use crate::ring::closes_ring;
+use crate::ring::{closes_ring, wait_of};
 use std::marker::Model;
 
 /// For whom each of 64 sessions waits, if it waits for another. A session of another number waits for nobody.
@@ -64,6 +64,13 @@ impl Waits {
             wake_all(&mut self.places, s);
             self.may_wait = any_waits(&self.places);
         }
+    }
+
+    /// For whom the session waits, if for anybody.
+    pub fn of(&self, s: u8) -> Option<u8>
+        ensures { result ≡ wait_in self.now s }
+    {
+        wait_of(&self.places, s)
     }
 
     /// Would a wait of s for o close a ring?

@@ -1,0 +1,4 @@
+pub mod SightingLemmas
+pub mod ReasonLemmas
+pub mod VerdictLemmas
+pub mod Existing

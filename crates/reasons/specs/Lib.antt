@@ -1,0 +1,3 @@
+pub mod Sightings
+pub mod Reasons
+pub mod Laws

@@ -1,0 +1,4 @@
+pub mod HolderLemmas
+pub mod Explained
+pub mod ShownLemmas
+pub mod Foreseen

@@ -1,0 +1,17 @@
+//! Looks: why a session finds what it finds, who holds the horizon back, and why a version is still there.
+//!
+//! They are no steps: they change nothing, and take no memory. [`next_entry`] and [`explain`] tell of a key its entries, and of each the
+//! versions of its chain with their reasons; [`laws::explanations_show_the_view`] says that exactly one version is told as seen, with the
+//! row of the session's view, or none. [`slot_fate`] and [`plan`] tell what a pruning would do, [`laws::fates_foresee_pruning`] that it
+//! does so, [`horizon_holder`] who holds the horizon back, and [`owner_of`] which session has an id.
+#![tactic(auto)]
+
+mod explaining;
+mod holder;
+pub mod laws;
+
+pub use explaining::{explain, next_entry, plan, slot_fate};
+pub use explanations::ShownVersion;
+pub use holder::{Hold, HorizonHolder, horizon_holder, owner_of};
+pub use prune::PrunePlan;
+pub use slot_fates::SlotFate;
