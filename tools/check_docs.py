@@ -278,10 +278,9 @@ def promises(names, text):
         function = re.sub(r"(?<!^)(?=[A-Z])", "_", law[1]).lower() if law else None
         if law and not any(function in names.of.get(crate, ()) for crate in crates):
             yield number, f"no law is called {function}"
-        for edit, mark in re.findall(r"`(\w+)`( \(a\))?", cells_of[-1]):
-            folders = ["audit" if mark else "by-function"]
-            if not any(f"crates/{crate}/{folder}/{edit}.edit" in names.paths for crate in crates for folder in folders):
-                yield number, f"`{edit}` is in {' or '.join(folders)} of none of {', '.join(crates)}"
+        for edit in re.findall(r"`(\w+)`", cells_of[-1]):
+            if not any(f"crates/{crate}/{folder}/{edit}.edit" in names.paths for crate in crates for folder in ("by-function", "audit")):
+                yield number, f"`{edit}` is an edit of none of {', '.join(crates)}"
 
 
 def faults(names, page):
