@@ -294,6 +294,8 @@ def faults(names, page):
     yield from places.wrong_drawings(pieces(text), told)
     if page == "README.md":
         yield from places.wrong_costs(page)
+    if page == "docs/glossary.md":
+        yield from places.strange_words(names, page)
     for number, line in enumerate(text.split("\n"), 1):
         if len(line) >= WIDTH:
             yield number, f"the line has {len(line)} columns"
