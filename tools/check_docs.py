@@ -1,7 +1,7 @@
 #!/usr/bin/env python3
 """Checks the documents against the repository: tools/check_docs.py [HEAPSH]
 
-Reads README.md, CONTRIBUTING.md and the pages of docs/, bench/, examples/ and crates/, and says where
+Reads README.md, CONTRIBUTING.md and the pages of docs/, bench/, examples/, tests/ and crates/, and says where
 
 - a link leads to no file of the repository, or to no heading of one;
 - a name in backticks or in a block of code is none of the repository's: no file, crate, module, definition, type, function, field,
@@ -14,7 +14,7 @@ Reads README.md, CONTRIBUTING.md and the pages of docs/, bench/, examples/ and c
   drawn from, or a cost in README.md not on the page of its measurement (tools/places.py);
 - a figure is not what the repository has: lines of definitions, layers, sizes, edits, calls (tools/figures.py);
 - a refusal or a status has another number, name or meaning somewhere than in the table of docs/rules.md (tools/refusals.py);
-- a fault has other words than in the table of docs/rules.md or docs/script.md, or the program another exit status (tools/fault_words.py);
+- a fault has other words than in tests/fault_words.md or docs/script.md, or the program another exit status (tools/fault_words.py);
 - a text that an edit replaces is not in its file once (tools/audit.py says where edits stand).
 
 With a path to the program, it also compares its answers with those on the examples' pages, as examples/check.py does.
@@ -333,7 +333,7 @@ def stale_edits():
 
 
 def pages():
-    folders = ("docs", "bench", "bench/c", "examples", "crates/*")
+    folders = ("docs", "bench", "bench/c", "examples", "tests", "crates/*")
     return ["README.md", "CONTRIBUTING.md"] + [path for folder in folders for path in sorted(glob.glob(f"{folder}/*.md"))]
 
 
