@@ -1,7 +1,7 @@
 #!/usr/bin/env python3
 """Checks the documents against the repository: tools/check_docs.py [HEAPSH]
 
-Reads README.md, CONTRIBUTING.md and the pages of docs/, bench/, examples/ and crates/, and says where
+Reads README.md, CONTRIBUTING.md and the pages of docs/, bench/, examples/, tests/ and crates/, and says where
 
 - a link leads to no file of the repository, or to no heading of one;
 - a name in backticks or in a block of code is none of the repository's: no file, crate, module, definition, type, function, field,
@@ -14,7 +14,7 @@ Reads README.md, CONTRIBUTING.md and the pages of docs/, bench/, examples/ and c
   drawn from, or a cost in README.md not on the page of its measurement (tools/places.py);
 - a figure is not what the repository has: lines of definitions, layers, sizes, edits, calls (tools/figures.py);
 - a refusal or a status has another number, name or meaning somewhere than in the table of docs/rules.md (tools/refusals.py);
-- a fault has other words than in the table of docs/rules.md or docs/script.md, or the program another exit status (tools/fault_words.py);
+- a fault has other words than in tests/fault_words.md or docs/script.md, or the program another exit status (tools/fault_words.py);
 - a text that an edit replaces is not in its file once (tools/audit.py says where edits stand).
 
 With a path to the program, it also compares its answers with those on the examples' pages, as examples/check.py does.
@@ -278,10 +278,9 @@ def promises(names, text):
         function = re.sub(r"(?<!^)(?=[A-Z])", "_", law[1]).lower() if law else None
         if law and not any(function in names.of.get(crate, ()) for crate in crates):
             yield number, f"no law is called {function}"
-        for edit, mark in re.findall(r"`(\w+)`( \(a\))?", cells_of[-1]):
-            folders = ["audit" if mark else "by-function"]
-            if not any(f"crates/{crate}/{folder}/{edit}.edit" in names.paths for crate in crates for folder in folders):
-                yield number, f"`{edit}` is in {' or '.join(folders)} of none of {', '.join(crates)}"
+        for edit in re.findall(r"`(\w+)`", cells_of[-1]):
+            if not any(f"crates/{crate}/{folder}/{edit}.edit" in names.paths for crate in crates for folder in ("by-function", "audit")):
+                yield number, f"`{edit}` is an edit of none of {', '.join(crates)}"
 
 
 def faults(names, page):
@@ -295,6 +294,8 @@ def faults(names, page):
     yield from places.wrong_drawings(pieces(text), told)
     if page == "README.md":
         yield from places.wrong_costs(page)
+    if page == "docs/glossary.md":
+        yield from places.strange_words(names, page)
     for number, line in enumerate(text.split("\n"), 1):
         if len(line) >= WIDTH:
             yield number, f"the line has {len(line)} columns"
@@ -332,7 +333,7 @@ def stale_edits():
 
 
 def pages():
-    folders = ("docs", "bench", "bench/c", "examples", "crates/*")
+    folders = ("docs", "bench", "bench/c", "examples", "tests", "crates/*")
     return ["README.md", "CONTRIBUTING.md"] + [path for folder in folders for path in sorted(glob.glob(f"{folder}/*.md"))]
 
 

@@ -1,13 +1,13 @@
 """Words of faults: what each prints, in the code and in the documents. tools/check_docs.py calls it.
 
-The table of docs/rules.md has the words of the library's faults. That of docs/script.md, "How a script ends", has those of the program,
-with its exit statuses. With them are compared the `#[error(..)]` of each variant, which `thiserror` prints, and the statuses that
+The table of tests/fault_words.md has the words of the library's faults. That of docs/script.md, "How a script ends", has those of the
+program, with its exit statuses. With them are compared the `#[error(..)]` of each variant, which `thiserror` prints, and the statuses that
 `ShellFault` answers.
 """
 import glob
 import re
 
-LIBRARY, PROGRAM = "docs/rules.md", "docs/script.md"
+LIBRARY, PROGRAM = "tests/fault_words.md", "docs/script.md"
 OF_PROGRAM = "ShellFault"
 
 

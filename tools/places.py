@@ -3,6 +3,7 @@
 - The words of a link to a file of crates/ are that file's name, its crate or its module, or a name that the file declares.
 - A name before the file in brackets, as in `Engine::step` (`crates/session_core/src/engine.rt`), is declared in that file. So is one
   before a link in brackets, and each of several with commas.
+- A name in docs/glossary.md is declared in a crate that stands behind it.
 - A line with a minus, in a block of code, is in the file of crates/ that the page names last before it.
 - A drawing of slots has the ids, redirects and empty slots of the example from which the page quotes last before it.
 - Each figure in the table of costs of README.md is on the page to which its row, or one above, leads: in a row with the first of them, or
@@ -54,6 +55,17 @@ def misplaced(names, page, parts):
             for word in re.findall(r"`([^`]+)`", words) if path else ():
                 if not is_declared(names, word, path):
                     yield number, f"`{word}` is not in {path}"
+
+
+def strange_words(names, page):
+    """Names of the glossary that no crate declares which stands behind them."""
+    for number, line in enumerate(text_of(page).split("\n"), 1):
+        found = re.search(r"\| ([^|]*) \((`\w+`(?:, `\w+`)*)\) \|$", line)
+        crates = tuple(f"crates/{crate}/" for crate in re.findall(r"`(\w+)`", found[2])) if found else ()
+        declared = {name for path, those in names.declared.items() if crates and path.startswith(crates) for name in those}
+        for word in re.findall(r"`([^`]+)`", found[1]) if found else ():
+            if re.split(r"::|\.", word)[-1] not in declared:
+                yield number, f"`{word}` is not of {found[2]}"
 
 
 def lost_lines(parts):
