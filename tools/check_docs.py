@@ -1,7 +1,7 @@
 #!/usr/bin/env python3
 """Checks the documents against the repository: tools/check_docs.py [HEAPSH]
 
-Reads README.md, CONTRIBUTING.md and the pages of docs/, bench/, examples/, tests/ and crates/, and says where
+Reads README.md, CONTRIBUTING.md and the pages of docs/, bench/, examples/, tools/, tests/ and crates/, and says where
 
 - a link leads to no file of the repository, or to no heading of one;
 - a name in backticks or in a block of code is none of the repository's: no file, crate, module, definition, type, function, field,
@@ -333,7 +333,7 @@ def stale_edits():
 
 
 def pages():
-    folders = ("docs", "bench", "bench/c", "examples", "tests", "crates/*")
+    folders = ("docs", "bench", "bench/c", "examples", "tools", "tests", "crates/*")
     return ["README.md", "CONTRIBUTING.md"] + [path for folder in folders for path in sorted(glob.glob(f"{folder}/*.md"))]
 
 
