@@ -52,8 +52,8 @@ impl HeapState {
         }
     }
 
-    /// Makes those of these slots unused that are dead. They are slots of the page of this number, which is in use, in ascending
-    /// order. No entry is to lead to one: that is asked of the table (`sound_vacuum`), and not here.
+    /// Makes the dead ones of these slots unused. They are slots of the page of this number, which is in use, in ascending order.
+    /// No entry is to lead to one: that is asked of the table (`sound_vacuum`), and not here.
     pub fn free(&mut self, number: u32, places: &[Tid])
         requires within { number < length self.old.pages.pages }
         requires ascending { AllPairs (λ a b. a < b) (map (λ (tid : Place). tid.slot) places.now) }
@@ -93,7 +93,7 @@ impl HeapState {
         self.indexes.entries()
     }
 
-    /// That index 0 is in use, and at most five are. It does nothing; its contract is the fact.
+    /// Index 0 is in use, and at most five are. It does nothing; its contract is the fact.
     pub fn fact_indexes(&self)
         ensures { HasIndexes self.now.indexes }
     {
@@ -130,7 +130,7 @@ fn free_slot(page: &mut Page, number: u16)
     }
 }
 
-/// Makes those of these slots unused that are dead.
+/// Makes the dead ones of these slots unused.
 fn free_slots(page: &mut Page, places: &[Tid])
     requires { AllPairs (λ a b. a < b) (map (λ (tid : Place). tid.slot) places.now) }
     ensures slots { FreesSlots page.old.slots page.new.slots

@@ -1,4 +1,4 @@
-//! A row is updated whose page has no room for it.
+//! Updates of rows whose page has no room for them.
 //!
 //! The page's plan says, before anything changes, what pruning takes from it and how much room that makes; so memory is made
 //! ready for one place alone, on the page or elsewhere, before the plan is applied.

@@ -1,4 +1,4 @@
-//! A row is updated whose page has room for it.
+//! Updates of rows whose page has room for them.
 
 ghost use Rattle.std.specs.Prelude.{◌≡◌, ℕ, ◌≤◌, ◌⊎◌, IfSome, IsFalse, IsSome, IsTrue, OnErr, OnOk, ◌↔◌};
 ghost use Rattle.snapshot.specs.Own.{unassigned_levels};

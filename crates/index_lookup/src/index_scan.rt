@@ -64,7 +64,7 @@ impl IndexRange {
     }
 }
 
-/// That the numbers of an entry's place are in range. It does nothing; its contract is the fact.
+/// The numbers of an entry's place are in range. It does nothing; its contract is the fact.
 fn fact_place(entry: &Entry)
     ensures page { entry.now.tid.page ≤ 4294967295 }
     ensures slot { entry.now.tid.slot ≤ 65535 }

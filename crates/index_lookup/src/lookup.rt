@@ -31,7 +31,7 @@ pub(crate) fn with_hint(look_up: LookUp) -> Option<(Entry, PositionHint)>
     }
 }
 
-/// That the value of an entry is in range. It does nothing; its contract is the fact.
+/// The value of an entry is in range. It does nothing; its contract is the fact.
 pub(crate) fn fact_value(entry: &Entry)
     ensures { FitsSigned w128 entry.now.value }
 {

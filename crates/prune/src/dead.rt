@@ -67,7 +67,7 @@ fn inserter_unless_aborted(header: &Header, known: Xid, statuses: &StatusTable) 
 /// A summary of the versions so far, none of which is dead.
 #[derive(Clone, Copy, Debug)]
 pub(crate) struct Outlook {
-    /// An id that was not aborted. Neighbours mostly have one inserter, whose status is so looked up once.
+    /// An id that was not aborted. Neighbours mostly have one inserter, so its status is looked up once.
     pub(crate) known: Xid,
     /// No deleter that is remembered was given before this turn.
     pub(crate) turn: u32,

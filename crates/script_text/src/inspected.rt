@@ -1,4 +1,4 @@
-//! The text of a page whose bytes are looked into.
+//! The text that tells the bytes of a page.
 
 ghost use Rattle.std.specs.Prelude.{◌≡◌, ◌≤◌, ◌<◌, ◌+◌, ◌*◌, ◌∷◌, ◌++◌, length, OnOk, Some, if◌then◌else◌};
 ghost use Rattle.page_layout.specs.declared.sizes.TheConstants.{PAGE_BYTES};

@@ -71,7 +71,7 @@ fn is_session(step: &Step) -> bool
     }
 }
 
-/// The session whose step it is, be that open or not.
+/// The session whose step it is, open or not.
 fn session_of(step: &Step) -> Option<u8>
     ensures { result ≡ session_of step.now }
 {
@@ -195,10 +195,10 @@ impl Engine {
     }
 
     /// Writes the next rows of the session's cursor to the first places, and answers how many there are: none exactly where nothing
-    /// is left. It is answered as `Step::Next` of as many rows as there are places. But of the heap it hands out up to so many rows of
-    /// the next page, and what that page has left over is handed out by the next call; and it takes no memory. Places behind the
-    /// rows, and the bytes behind each body, stay as they were. Of a cursor over keys the key alone is written, and all else in its
-    /// place stays. Refusals in order: NoSuchSession, NotOpen, Failed, NoCursor.
+    /// is left. It is answered as `Step::Next` of as many rows as there are places. But of the heap it hands out up to so many rows
+    /// of the next page, and the next call hands out what that page has left over; and it takes no memory. Places behind the rows,
+    /// and the bytes behind each body, stay as they were. Of a cursor over keys the key alone is written, and all else in its place
+    /// stays. Refusals in order: NoSuchSession, NotOpen, Failed, NoCursor.
     pub fn next_rows(&mut self, s: u8, places: &mut [RowPlace]) -> Result<usize, Refusal>
         requires { 0 < length places.old }
         ensures { EngineNextRows self.old s places.old result places.new self.new }

@@ -21,8 +21,8 @@ use vacuum_passes::Vacuum;
 use xid_circle::{Tid, Xid};
 
 impl Engine {
-    /// The place to which the next entry of the key leads, in the order of the index by key: the first after the entry that leads to a
-    /// place, be that still there or not, or the first of all.
+    /// The place to which the next entry of the key leads, in the order of the index by key: the first after the entry that leads
+    /// to a place, still there or not, or the first of all.
     pub fn next_entry(&self, key: u64, after: Option<Tid>) -> Option<Tid>
         ensures { IsNextEntry self.now.engine.core key after result }
     {

@@ -17,7 +17,7 @@ use slot_fates::SlotFate;
 use xid_circle::Tid;
 
 /// The place to which the next entry of the key leads, in the order of the index by key: the first after the entry that leads to a
-/// place, be that still there or not, or the first of all.
+/// place, still there or not, or the first of all.
 pub fn next_entry(engine: &SessionEngine, key: u64, after: Option<Tid>) -> Option<Tid>
     ensures { IsNextEntry engine.now key after result }
 {

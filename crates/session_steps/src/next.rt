@@ -16,7 +16,7 @@ use std::alloc::AllocError;
 use table_scans::{CursorScan, KeyRange, Scan, put_next, take_keys, take_next};
 use tuple_header::RowPlace;
 
-/// That there are no more places than rows fit into a list. It does nothing; its contract is the fact.
+/// There are no more places than rows fit into a list. It does nothing; its contract is the fact.
 fn fact_few(places: &[RowPlace])
     ensures { length places.now < 2 ^ 63 }
 {

@@ -54,11 +54,12 @@ impl SessionIsolation {
     }
 }
 
-/// An open session: what it sees of others, its own ids, whether it can only be rolled back, its cursor if it has one, and by the column
-/// which indexes are too new for it: they were made while it was open by snapshot, and may lack rows that it reads.
+/// An open session: what it sees of others, its own ids, whether it can only be rolled back, its cursor if it has one, and for each
+/// column whether its index is too new for it: such indexes were made while it was open by snapshot, and may lack rows that it
+/// reads.
 #[derive(Drop)]
 pub struct Session {
-    /// By which snapshot it reads.
+    /// The snapshot by which it reads.
     pub isolation: SessionIsolation,
     /// Its own ids and its savepoints.
     pub own: OwnIds,

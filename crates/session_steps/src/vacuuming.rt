@@ -77,8 +77,8 @@ fn own_from(sessions: &[Option<Session>], cutoff: Xid) -> bool
 }
 
 impl SessionEngine {
-    /// That its settings are in their ranges, and its indexes are those that it was made with. And that each own id of an open session
-    /// is in progress, there once, and no other's, and each id in progress a session's. There are 64 places for sessions. It does
+    /// The settings are in their ranges, and the indexes are those that the engine was made with. Each own id of an open session is
+    /// in progress, there once, and no other's, and each id in progress is a session's. There are 64 places for sessions. It does
     /// nothing; its contract is the fact.
     pub fn fact_set_up(&self)
         ensures set_up { IsSetUp self.now }

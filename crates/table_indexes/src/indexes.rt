@@ -79,7 +79,7 @@ impl Indexes {
         }
     }
 
-    /// That index 0 is in use, and at most five are. It does nothing; its contract is the fact.
+    /// Index 0 is in use, and at most five are. It does nothing; its contract is the fact.
     pub fn fact_few(&self)
         ensures { HasIndexes self.now }
     {
