@@ -1,7 +1,7 @@
 #!/usr/bin/env python3
 """Checks the documents against the repository: tools/check_docs.py [HEAPSH]
 
-Reads README.md, CONTRIBUTING.md and the pages of docs/, bench/, examples/, tests/ and crates/, and says where
+Reads README.md, CONTRIBUTING.md and the pages of docs/, bench/, examples/, tools/, tests/ and crates/, and says where
 
 - a link leads to no file of the repository, or to no heading of one;
 - a name in backticks or in a block of code is none of the repository's: no file, crate, module, definition, type, function, field,
@@ -9,12 +9,13 @@ Reads README.md, CONTRIBUTING.md and the pages of docs/, bench/, examples/, test
 - a block of code behind a comment `<!-- from examples/NAME -->` is no part of that example's page, line by line and answer by answer;
 - a row of a table in docs/guarantees.md has a promise of more than 25 words, or a definition or an edit of a crate that neither its
   heading nor the lines below that name;
-- a line has 140 columns or more, or a sentence more than 30 words (tools/sentences.py);
+- a line has 140 columns or more, or a sentence more than 30 words (tools/docs/sentences.py);
 - a function is not in the file to which a link leads, a line of a difference not in its file, a drawing not as the example that it is
-  drawn from, or a cost in README.md not on the page of its measurement (tools/places.py);
-- a figure is not what the repository has: lines of definitions, layers, sizes, edits, calls (tools/figures.py);
-- a refusal or a status has another number, name or meaning somewhere than in the table of docs/rules.md (tools/refusals.py);
-- a fault has other words than in tests/fault_words.md or docs/script.md, or the program another exit status (tools/fault_words.py);
+  drawn from, or a cost in README.md not on the page of its measurement (tools/docs/places.py);
+- a figure is not what the repository has: lines of definitions, layers, sizes, edits, calls (tools/docs/figures.py);
+- a refusal or a status has another number, name or meaning somewhere than in the table of docs/rules.md (tools/docs/refusals.py);
+- a fault has other words than in tests/fault_words.md or docs/script.md, or the program another exit status
+  (tools/docs/fault_words.py);
 - a text that an edit replaces is not in its file once (tools/audit.py says where edits stand).
 
 With a path to the program, it also compares its answers with those on the examples' pages, as examples/check.py does.
@@ -27,11 +28,7 @@ import subprocess
 import sys
 
 import audit
-import fault_words
-import figures
-import places
-import refusals
-import sentences
+from docs import fault_words, figures, places, refusals, sentences
 
 WIDTH = 140
 PROMISE = 25
@@ -333,7 +330,7 @@ def stale_edits():
 
 
 def pages():
-    folders = ("docs", "bench", "bench/c", "examples", "tests", "crates/*")
+    folders = ("docs", "bench", "bench/c", "examples", "tools", "tests", "crates/*")
     return ["README.md", "CONTRIBUTING.md"] + [path for folder in folders for path in sorted(glob.glob(f"{folder}/*.md"))]
 
 

@@ -23,7 +23,7 @@ const SETTINGS: Settings = Settings {
     indexed: [false; 4],
 };
 
-/// Inserts so many rows in one transaction. Whether it is committed.
+/// Inserts so many rows in one transaction. True where it is committed.
 fn load(engine: &mut Engine, alloc: Global, rows: u64) -> bool {
     engine.step(Step::Begin(0));
     for key in 0..rows {
@@ -37,7 +37,7 @@ fn load(engine: &mut Engine, alloc: Global, rows: u64) -> bool {
     matches!(engine.step(Step::Commit(0)), Reply::Committed)
 }
 
-/// Deletes every tenth of so many rows in one transaction. Whether it is committed.
+/// Deletes every tenth of so many rows in one transaction. True where it is committed.
 fn delete_some(engine: &mut Engine, rows: u64) -> bool {
     engine.step(Step::Begin(0));
     for key in 0..rows {

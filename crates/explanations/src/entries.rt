@@ -20,7 +20,7 @@ fn entry_of_key(found: Option<Entry>, value: i128, key: u64) -> Option<Entry>
     }
 }
 
-/// The next entry of this value and this key: the first after another one of these, be that still there or not, or the first of all.
+/// The next entry of this value and this key: the first after another one of these, still there or not, or the first of all.
 fn next_entry(index: &RootIndex, value: i128, key: u64, after: Option<Entry>) -> Option<Entry>
     requires { IfSome after (IsOf value key) }
     ensures { IsNextOf index.now.entries value key after result }
@@ -56,7 +56,7 @@ fn place_of(entry: Option<Entry>) -> Option<Tid>
     }
 }
 
-/// The place to which the next entry of the key leads, in an index by key: the first after the entry that leads to a place, be that still
+/// The place to which the next entry of the key leads, in an index by key: the first after the entry that leads to a place, still
 /// there or not, or the first of all. It takes no memory.
 pub fn next_place(index: &RootIndex, key: u64, after: Option<Tid>) -> Option<Tid>
     ensures { IsNextPlace index.now.entries key after result }

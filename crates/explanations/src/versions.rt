@@ -11,7 +11,7 @@ use visibility::Reader;
 /// A version, and why a reader sees it, or does not.
 #[derive(Clone, Copy, Debug, PartialEq, Eq)]
 pub struct ShownVersion {
-    /// The slot in which it stands.
+    /// Its slot.
     pub slot: u16,
     /// Its maker and its deleter, with their reasons.
     pub verdict: Verdict,

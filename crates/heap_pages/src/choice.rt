@@ -1,4 +1,4 @@
-//! What a page has room for, and the first page that has.
+//! The choice of a page: the first that has room.
 
 ghost use Rattle.std.specs.Prelude.{◌≡◌, ◌≤◌, IsTrue, ◌↔◌, length};
 ghost use Rattle.page_slots.specs.Slots.{room_of};
@@ -17,7 +17,7 @@ pub fn free_byte(page: &Page) -> u8
     (page.room() / 32).min(255) as u8
 }
 
-// Whether a version of this size fits.
+// True where a version of this size fits.
 fn has_room(page: &Page, size: usize) -> bool
     ensures { IsTrue result ↔ HasRoom size page.now }
 {

@@ -1,4 +1,4 @@
-//! A page of the table, of which readers may share a copy.
+//! A page of the table, with a copy that readers may share.
 
 ghost use Rattle.std.specs.Prelude.{◌≡◌, None, IfOk};
 ghost use Rattle.std.specs.Arc.{arc_value};
@@ -28,7 +28,8 @@ impl Model for OwnPage {
     ghost invariant = { λ p. IsCopy p.own.value p.shared };
 }
 
-/// Lets go of a copy that readers were given. It stands alone, so that a change of a page that nobody shares stays short.
+/// Lets go of a copy that readers were given. It is a function of its own, so that a change of a page that nobody shares stays
+/// short.
 #[inline(never)]
 fn forget(shared: &mut Option<Arc<Box<Page>>>)
     ensures { shared.new ≡ None }
@@ -47,7 +48,7 @@ impl OwnPage {
         }
     }
 
-    /// The page, where it stands.
+    /// Borrows the page.
     #[inline(always)]
     pub(crate) fn page(&self) -> &Page
         ensures { result.now ≡ self.now }
@@ -55,7 +56,7 @@ impl OwnPage {
         &self.own
     }
 
-    /// Changes the page, where it stands, as `change` does. Readers keep what they were given. It takes no memory but what the change
+    /// Changes the page in place, as `change` does. Readers keep what they were given. It takes no memory but what the change
     /// takes.
     #[inline(always)]
     pub(crate) fn edit<R, F: FnOnce(&mut Page) -> R>(&mut self, change: F) -> R

@@ -168,7 +168,7 @@ impl Pages {
         self.spare -= 1;
     }
 
-    /// What was last noted of the page of this number, if it is in use.
+    /// The mark that was last noted of the page of this number, if it is in use.
     pub fn mark(&self, number: u32) -> Option<Mark>
         ensures { result ≡ slice_get self.now.marks number }
     {

@@ -1,4 +1,4 @@
-//! What a vacuum calls, beside pruning. Nothing here takes memory.
+//! The calls of a vacuum, beside pruning. Nothing here takes memory.
 
 ghost use Rattle.std.specs.Prelude.{◌≡◌, ◌<◌, ℕ, [], ◌∷◌, Some, MatchOption, Contains, length, map, slice_get};
 ghost use Rattle.std.specs.List.{AllPairs};
@@ -19,7 +19,7 @@ use space_maps::Mark;
 use xid_circle::{Tid, Xid};
 
 impl HeapState {
-    /// What is noted of the page of this number, if it is in use: whether each of its versions is visible to all, and frozen.
+    /// The mark of the page of this number, if it is in use: whether each of its versions is visible to all, and frozen.
     pub fn mark(&self, number: u32) -> Option<Mark>
         ensures { result ≡ slice_get self.now.pages.marks number }
     {
@@ -52,8 +52,8 @@ impl HeapState {
         }
     }
 
-    /// Makes those of these slots unused that are dead. They are slots of the page of this number, which is in use, in ascending
-    /// order. No entry is to lead to one: that is asked of the table (`sound_vacuum`), and not here.
+    /// Makes the dead ones of these slots unused. They are slots of the page of this number, which is in use, in ascending order.
+    /// No entry is to lead to one: that is asked of the table (`sound_vacuum`), and not here.
     pub fn free(&mut self, number: u32, places: &[Tid])
         requires within { number < length self.old.pages.pages }
         requires ascending { AllPairs (λ a b. a < b) (map (λ (tid : Place). tid.slot) places.now) }
@@ -93,7 +93,7 @@ impl HeapState {
         self.indexes.entries()
     }
 
-    /// That index 0 is in use, and at most five are. It does nothing; its contract is the fact.
+    /// Index 0 is in use, and at most five are. It does nothing; its contract is the fact.
     pub fn fact_indexes(&self)
         ensures { HasIndexes self.now.indexes }
     {
@@ -130,7 +130,7 @@ fn free_slot(page: &mut Page, number: u16)
     }
 }
 
-/// Makes those of these slots unused that are dead.
+/// Makes the dead ones of these slots unused.
 fn free_slots(page: &mut Page, places: &[Tid])
     requires { AllPairs (λ a b. a < b) (map (λ (tid : Place). tid.slot) places.now) }
     ensures slots { FreesSlots page.old.slots page.new.slots

@@ -1,4 +1,4 @@
-//! A row is updated whose page has no room for it.
+//! Updates of rows whose page has no room for them.
 //!
 //! The page's plan says, before anything changes, what pruning takes from it and how much room that makes; so memory is made
 //! ready for one place alone, on the page or elsewhere, before the plan is applied.
@@ -56,8 +56,8 @@ impl HeapState {
         }
     }
 
-    /// Updates a version whose page has no room for the row, by the plan of its pruning. It stands alone, so that the plan's
-    /// array is cleared only where it is made.
+    /// Updates a version whose page has no room for the row, by the plan of its pruning. It is a function of its own, so that the
+    /// plan's array is cleared only where it is made.
     #[inline(never)]
     fn update_by_plan(&mut self, own: &mut OwnIds, place: Tid, row: &Row, horizon: Xid) -> Answer
         requires may { IsReplaceable self.old own.old place }

@@ -36,7 +36,7 @@ pub enum WriteFault {
     NoMemory,
 }
 
-/// What a write answers: its id, or why it was not done.
+/// The answer of a write: its id, or why it was not done.
 pub type Answer = Result<Xid, WriteFault>;
 
 /// The pages of a table, what became of each id, and the indexes.
@@ -73,9 +73,9 @@ impl Model for HeapState {
 }
 
 impl HeapState {
-    /// A table without pages, of which there may be `max_pages`, up to 65,536, and whose first id is `first`, a normal one. No id
-    /// is given `stop_age` numbers, at most 2,144,483,648, from the oldest that is remembered, or further. It has an index by
-    /// key, and one by each column of which `indexed` says so.
+    /// A table without pages. It may have `max_pages` pages, up to 65,536, and its first id is `first`, a normal one. No id is
+    /// given `stop_age` numbers, at most 2,144,483,648, from the oldest that is remembered, or further. It has an index by key, and
+    /// one by each column where `indexed` is true.
     pub fn new(alloc: Global, first: Xid, stop_age: u32, max_pages: u32, indexed: [bool; 4]) -> Self
         requires normal { IsNormal first.0 }
         requires limit { stop_age ≤ 2144483648 }
@@ -103,7 +103,7 @@ impl HeapState {
         }
     }
 
-    /// What became of each id.
+    /// The status of each id.
     pub fn statuses(&self) -> &StatusTable
         ensures { result.now ≡ self.now.statuses }
     {

@@ -1,4 +1,4 @@
-//! What is known of when versions on a page may be dead, before a write.
+//! Prune hints at a write: from when on versions on a page may be dead.
 
 ghost use Rattle.std.specs.Prelude.{◌≡◌, IfSome};
 ghost use Rattle.commit_status.specs.Window.{IsAborted, turns};

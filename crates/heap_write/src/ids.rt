@@ -14,7 +14,7 @@ use snapshot::OwnIds;
 use std::alloc::AllocError;
 use xid_circle::Xid;
 
-/// Whether the levels lack more ids than can be given.
+/// True where more levels lack an id than ids can be given.
 pub(crate) fn needs_freeze(statuses: &StatusTable, own: &OwnIds) -> bool
     ensures { IsTrue result ↔ NeedsFreeze statuses.now own.now }
 {

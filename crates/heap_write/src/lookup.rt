@@ -1,4 +1,4 @@
-//! What a step looks for: through the index by key, and along an index. Nothing here takes memory.
+//! Look-ups of steps: through the index by key, and along an index. Nothing here takes memory.
 
 ghost use Rattle.std.specs.Prelude.{◌≡◌, ◌≤◌, length, pos};
 ghost use Rattle.visibility.specs.Reading.{IsSeenBy, IsOtherWriterFor, IsNewerCommitFor};
@@ -18,7 +18,7 @@ use tuple_header::RowRef;
 use visibility::Reader;
 
 impl HeapState {
-    /// The row of the key that the reader sees, where it stands.
+    /// Borrows the row of the key that the reader sees.
     pub fn row(&self, key: u64, reader: &Reader<'_>) -> Option<RowRef<'_>>
         ensures { FirstFound reader.now.statuses.now (IsSeenBy reader.now)
             (slots_of self.now) (entries_in self.now.indexes 0) (pos key) key result }
@@ -31,7 +31,7 @@ impl HeapState {
         row_of(&table, value, key, reader)
     }
 
-    /// How the versions of the key stand to a reader that is about to write it; and where the key's last entry stands, or would,
+    /// Checks the versions of the key for a reader that is about to write it; and tells where the key's last entry is, or would be,
     /// as a hint for [`HeapState::expect_entry`].
     pub fn check_write(&self, key: u64, reader: &Reader<'_>) -> (WriteCheck, PositionHint)
         ensures place { FirstPlace reader.now.statuses.now (IsSeenBy reader.now)
@@ -59,8 +59,8 @@ impl HeapState {
         self.indexes.expect(near)
     }
 
-    /// The first place of the span, in the order of the index, where the reader sees a row, and that row, where it stands.
-    /// An index that is not in use has none.
+    /// The first place of the span, in the order of the index, where the reader sees a row, and a borrow of that row. An index that
+    /// is not in use has none.
     pub fn next_row(
         &self,
         span: &IndexRange,

@@ -102,7 +102,7 @@ impl HeapState {
     }
 }
 
-/// Adds the entry of the chain of a place on this page, if a root or a redirect stands there and its chain holds a current version.
+/// Adds the entry of the chain of a place on this page, if a root or a redirect is there and its chain holds a current version.
 fn enter_current(
     page: &Page,
     place: Tid,
@@ -135,7 +135,7 @@ fn entry_of(row: &RowRef<'_>, column: u8, place: Tid) -> Entry
     }
 }
 
-/// The row of the first current version of a chain, where it stands, if the slot is a root or a redirect and its chain holds one.
+/// Borrows the row of the first current version of a chain, if the slot is a root or a redirect and its chain holds one.
 fn current_row<'a>(page: &'a Page, root: u16, reader: &Reader<'_>) -> Option<RowRef<'a>>
     requires { ReadsCurrent reader.now.statuses.now reader.now }
     ensures { MatchOption result (LacksCurrent reader.now.statuses.now page.now.slots root)

@@ -21,8 +21,8 @@ impl HeapState {
         self.places = KeyPlaces::new(self.alloc, are_wanted);
     }
 
-    /// The row of the key that the reader sees, where it stands. It is looked for where a root of the key was made last, as far as
-    /// that is known, and along the index only where it is not there.
+    /// Borrows the row of the key that the reader sees. It looks first where a root of the key was made last, if that is known, and
+    /// along the index only if the row is not there.
     #[inline(always)]
     pub fn find_row(&self, key: u64, reader: &Reader<'_>) -> Option<RowRef<'_>>
         ensures { FoundOrSeen reader.now.statuses.now (IsSeenBy reader.now)

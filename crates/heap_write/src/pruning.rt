@@ -38,8 +38,8 @@ impl HeapState {
         Ok(())
     }
 
-    /// Whether it is known that no version on the page of this number is dead: the horizon isn't after the turn from which on one
-    /// may be.
+    /// True where it is known that no version on the page of this number is dead: the horizon isn't after the turn from which on
+    /// one may be.
     pub(crate) fn knows_none_dead(&self, number: u32, horizon: Xid) -> bool
         ensures { IsTrue result → HasNoneDead self.now number horizon.0 }
     {
@@ -68,8 +68,8 @@ impl HeapState {
         }
     }
 
-    /// Prunes the page of this number, which is in use. It stands alone, so that the plan's array is cleared only where it is
-    /// made.
+    /// Prunes the page of this number, which is in use. It is a function of its own, so that the plan's array is cleared only where
+    /// it is made.
     #[inline(never)]
     fn prune_page(&mut self, number: u32, horizon: Xid)
         requires within { number < length self.old.pages.pages }
@@ -84,8 +84,8 @@ impl HeapState {
         self.apply_plan(number, &plan);
     }
 
-    /// Makes the plan of pruning the page of this number, which is in use, in the place of an earlier one. What is known then of where
-    /// versions may be dead on the page is noted.
+    /// Makes the plan of pruning the page of this number, which is in use, in the place of an earlier one. It notes what it finds
+    /// of where versions on the page may be dead.
     pub(crate) fn plan_page(&mut self, plan: &mut PrunePlan, number: u32, horizon: Xid)
         requires within { number < length self.old.pages.pages }
         ensures same { self.new ≡ self.old }

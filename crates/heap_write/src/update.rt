@@ -1,4 +1,4 @@
-//! A row is updated whose page has room for it.
+//! Updates of rows whose page has room for them.
 
 ghost use Rattle.std.specs.Prelude.{◌≡◌, ℕ, ◌≤◌, ◌⊎◌, IfSome, IsFalse, IsSome, IsTrue, OnErr, OnOk, ◌↔◌};
 ghost use Rattle.snapshot.specs.Own.{unassigned_levels};
@@ -23,8 +23,8 @@ use tuple_writes::{hot_update, mark_cold_updated};
 use xid_circle::{Tid, Xid};
 
 impl HeapState {
-    /// Whether the row has room on the page of the version at a place, and if so, whether in each index in use it has the value of
-    /// that version: both by one look at the page. A page that is not in use has room for any row.
+    /// Some where the row has room on the page of the version at a place; then whether it has that version's value in each index in
+    /// use. One look at the page tells both. A page that is not in use has room for any row.
     pub fn fits_beside(&self, place: Tid, row: &Row) -> Option<bool>
         ensures room { IsSome result
             ↔ (rounded_size_of row.now ≤ room_of (page_on self.now place.page).slots) }
@@ -71,7 +71,7 @@ impl HeapState {
         }
     }
 
-    /// Whether in each index in use the row has the value that the version at a place has.
+    /// True where the row has, in each index in use, the value of the version at a place.
     pub(crate) fn keeps_values(&self, place: Tid, row: &Row) -> bool
         ensures { IsTrue result ↔ KeepsValues self.now place row.now }
     {
@@ -81,7 +81,7 @@ impl HeapState {
         }
     }
 
-    /// Whether in each index in use the row has the value that the version in this slot of a page has.
+    /// True where the row has, in each index in use, the value of the version in this slot of a page.
     fn has_values_of(&self, page: &Page, slot: u16, row: &Row) -> bool
         ensures { IsTrue result
             ↔ IfSome (row_at page.now.slots slot) (λ old. SameValues self.now.indexes old row.now) }

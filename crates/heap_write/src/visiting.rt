@@ -30,7 +30,8 @@ impl HeapState {
         }
     }
 
-    /// Does so where a version on the page may be dead. It stands alone, so that the plan's array is cleared only where it is made.
+    /// Does so where a version on the page may be dead. It is a function of its own, so that the plan's array is cleared only where
+    /// it is made.
     #[inline(never)]
     fn clean_by_plan(&mut self, number: u32, cutoff: Xid, horizon: Xid) -> DeadSlots
         requires within { number < length self.old.pages.pages }

@@ -1,3 +1,4 @@
+-- To believe, 1 of 5 (docs/reading.md).
 -- A history that is never cleaned: what has committed, and what is read of it. After Berenson et al. 1995, "A
 -- Critique of ANSI SQL Isolation Levels", section 4.2 (snapshot isolation). The data item is the key.
 use Rattle.std.specs.Prelude.{◌≡◌, ℕ, ◌≤◌, ◌==◌, if◌then◌else◌, List, [], ◌∷◌, take, Option, Some, None, IsSome, slice_get}

@@ -1,3 +1,4 @@
+-- To believe, 3 of 5 (docs/reading.md).
 -- What each kind of step makes of the world. The kinds are those of the manual's section on transactions: BEGIN, the
 -- writes, SAVEPOINT, ROLLBACK TO, RELEASE, COMMIT, ROLLBACK, and the calls of a cursor.
 use Rattle.std.specs.Prelude.{ℕ, suc, ◌==◌, not, if◌then◌else◌, List, [], ◌∷◌, ◌++◌, length, Option, Some, None, Bool, true, false, ℤ}

@@ -1,3 +1,4 @@
+-- To believe, 2 of 5 (docs/reading.md).
 -- The history and the sessions that are open on it.
 use Rattle.std.specs.Prelude.{◌≡◌, ◌≢◌, ℕ, suc, ◌<◌, List, [], ◌∷◌, ◌++◌, length, Option, Some, None, Bool, true, false, IsSome, slice_index_or}
 use Rattle.xid_circle.specs.Numbers.{SessionNo, Key}

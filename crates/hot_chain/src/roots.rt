@@ -7,7 +7,7 @@ use crate::walk::chain;
 use commit_status::StatusTable;
 use page_slots::Page;
 
-/// Whether an index entry may lead to a slot: it holds a version that isn't heap-only, or is a redirect.
+/// True where an index entry may lead to a slot: it holds a version that isn't heap-only, or is a redirect.
 pub fn is_root(page: &Page, number: u16) -> bool
     ensures { result ≡ is_root page.now.slots number }
 {
@@ -17,7 +17,7 @@ pub fn is_root(page: &Page, number: u16) -> bool
     }
 }
 
-/// Whether a slot is a root or a redirect whose chain holds another.
+/// True where `root` is a root or a redirect and its chain holds `slot`.
 fn leads_to(page: &Page, root: u16, slot: u16, statuses: &StatusTable) -> bool
     ensures { IsTrue result ↔ LeadsTo (has_aborted statuses.now) page.now.slots root slot }
 {

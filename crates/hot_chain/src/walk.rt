@@ -22,7 +22,7 @@ pub(crate) fn first(page: &Page, number: u16) -> Option<u16>
     }
 }
 
-/// Whether a HOT update that has not aborted replaced this version.
+/// True where a HOT update that has not aborted replaced this version.
 fn is_replaced(header: &Header, statuses: &StatusTable) -> bool
     ensures { result ≡ is_replaced (has_aborted statuses.now) header.now }
 {
@@ -55,7 +55,7 @@ fn next(page: &Page, number: u16, statuses: &StatusTable) -> Option<u16>
     successor(page, &header, statuses)
 }
 
-/// Lists the slots of the chain that a slot leads to, in order, on any page. What was in the list goes. It takes no memory.
+/// Lists the slots of the chain that a slot leads to, in order, on any page. The list is cleared first. It takes no memory.
 pub fn list_chain(
     page: &Page,
     number: u16,

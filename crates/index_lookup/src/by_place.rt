@@ -12,8 +12,8 @@ use tuple_header::RowRef;
 use visibility::Reader;
 use xid_circle::Tid;
 
-/// The row of the key, where it stands, by the version at a place, or the one that the reader sees of those in its chain: if
-/// that is a version of the key, and the reader sees it. Where there is none, there may be one elsewhere. It takes no memory.
+/// Borrows the row of the version at a place, or of the one in its chain that the reader sees, if it is a version of the key and
+/// the reader sees it. Where there is none, there may be one elsewhere. It takes no memory.
 pub fn row_by_place<'a>(
     pages: &'a Pages,
     place: Tid,

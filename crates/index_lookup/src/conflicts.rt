@@ -14,7 +14,7 @@ use tuple_header::Header;
 use visibility::Reader;
 use xid_circle::Xid;
 
-/// Whether the id is committed, and the reader's snapshot sees it.
+/// True where the id is committed, and the reader's snapshot sees it.
 #[inline(always)]
 pub(crate) fn sees_committed(x: Xid, reader: &Reader<'_>) -> bool
     ensures { IsTrue result
@@ -24,7 +24,7 @@ pub(crate) fn sees_committed(x: Xid, reader: &Reader<'_>) -> bool
     reader.statuses.is_committed(x) && reader.snapshot.sees(x, reader.statuses)
 }
 
-/// Whether the id is committed, and the reader's snapshot does not see it.
+/// True where the id is committed, and the reader's snapshot does not see it.
 fn is_newer_commit(x: Xid, reader: &Reader<'_>) -> bool
     requires { IsNormal x.0 }
     ensures { IsTrue result
@@ -48,7 +48,7 @@ pub(crate) fn newer_commit_in(header: &Header, reader: &Reader<'_>) -> Option<Xi
     None
 }
 
-/// Whether the id is in progress, and none of the reader's own. What the table has forgotten is over, whatever it says of it.
+/// True where the id is in progress, and none of the reader's own. An id that the table has forgotten is over, whatever its status.
 fn is_other_writer(x: Xid, reader: &Reader<'_>) -> bool
     requires { IsNormal x.0 }
     ensures { IsTrue result

@@ -24,7 +24,7 @@ pub struct IndexPosition {
     pub key: u64,
     /// The root to which the entry of this value and key leads. Nothing but the search that it spares depends on it.
     pub tid: Tid,
-    /// Where that entry stood, which is a hint as well.
+    /// Where that entry was, which is a hint as well.
     pub near: PositionHint,
 }
 
@@ -37,7 +37,7 @@ pub struct IndexRange {
     pub low: i128,
     /// The greatest; one below `low` makes the span empty.
     pub high: i128,
-    /// What comes after this place alone; where there is none, all.
+    /// Only entries after this place are meant; where there is none, all.
     pub last: Option<IndexPosition>,
 }
 
@@ -49,14 +49,14 @@ impl IndexRange {
         self.low
     }
 
-    /// Whether this place of the order is not below the low value.
+    /// True where this place of the order is not below the low value.
     fn begins_by(&self, position: &IndexPosition) -> bool
         ensures { IsTrue result ↔ (self.now.low ≤ℤ position.now.value) }
     {
         self.low <= position.value
     }
 
-    /// Whether the entry's value is not above the high value.
+    /// True where the entry's value is not above the high value.
     fn reaches(&self, entry: &Entry) -> bool
         ensures { IsTrue result ↔ (entry.now.value ≤ℤ self.now.high) }
     {
@@ -64,7 +64,7 @@ impl IndexRange {
     }
 }
 
-/// That the numbers of an entry's place are in range. It does nothing; its contract is the fact.
+/// The numbers of an entry's place are in range. It does nothing; its contract is the fact.
 fn fact_place(entry: &Entry)
     ensures page { entry.now.tid.page ≤ 4294967295 }
     ensures slot { entry.now.tid.slot ≤ 65535 }
@@ -99,14 +99,14 @@ fn entry_of(position: &IndexPosition) -> Entry
     }
 }
 
-/// Whether the entry is at this place of the order.
+/// True where the entry is at this place of the order.
 fn is_at(entry: &Entry, position: &IndexPosition) -> bool
     ensures { IsTrue result ↔ IsOf position.now.value position.now.key entry.now }
 {
     entry.value == position.value && entry.key == position.key
 }
 
-/// The first entry that comes after a place of the order, and where it stood.
+/// The first entry that comes after a place of the order, and where it was.
 #[inline(always)]
 fn after_position(index: &RootIndex, position: &IndexPosition) -> Option<(Entry, PositionHint)>
     ensures { IsLeast index.now.entries (λ e. ComesAfter e (Some position.now))
@@ -120,7 +120,7 @@ fn after_position(index: &RootIndex, position: &IndexPosition) -> Option<(Entry,
     past_all(index, position, near)
 }
 
-/// The first entry that comes after all that there can be at a place of the order, and where it stood.
+/// The first entry that comes after all that there can be at a place of the order, and where it was.
 fn past_all(
     index: &RootIndex,
     position: &IndexPosition,
@@ -134,7 +134,7 @@ fn past_all(
     Some((entry, near))
 }
 
-/// The first entry that is not below the span's low value, and where it stood.
+/// The first entry that is not below the span's low value, and where it was.
 #[inline(always)]
 fn from_low(index: &RootIndex, span: &IndexRange) -> Option<(Entry, PositionHint)>
     ensures { IsLeast index.now.entries (λ e. ¬ IsBelow span.now.low 0 e)
@@ -143,7 +143,7 @@ fn from_low(index: &RootIndex, span: &IndexRange) -> Option<(Entry, PositionHint
     with_hint(index.first_from(span.low(), 0))
 }
 
-/// The first entry that is not below the span's low value, and comes after its last place, and where it stood.
+/// The first entry that is not below the span's low value, and comes after its last place, and where it was.
 #[inline(always)]
 fn entry_from(index: &RootIndex, span: &IndexRange) -> Option<(Entry, PositionHint)>
     ensures { IsLeast index.now.entries (StartsIn span.now) (option_map (λ found. found.0) result) }
@@ -154,7 +154,7 @@ fn entry_from(index: &RootIndex, span: &IndexRange) -> Option<(Entry, PositionHi
     }
 }
 
-/// The first entry of the span, and where it stood.
+/// The first entry of the span, and where it was.
 #[inline(always)]
 pub(crate) fn entry_in(index: &RootIndex, span: &IndexRange) -> Option<(Entry, PositionHint)>
     ensures { IsLeast index.now.entries (LiesIn span.now) (option_map (λ found. found.0) result) }
@@ -178,8 +178,8 @@ pub(crate) fn position_of(entry: &Entry, near: PositionHint) -> IndexPosition
     }
 }
 
-/// The first place of the span, in the order of this index, where the reader sees a row, and that row, where it
-/// stands. It takes no memory.
+/// The first place of the span, in the order of this index, where the reader sees a row, and a borrow of that row. It takes no
+/// memory.
 pub fn next_row<'a>(
     table: &TableView<'a>,
     span: &IndexRange,

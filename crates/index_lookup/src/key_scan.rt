@@ -15,7 +15,7 @@ use root_index::{Entry, PositionHint};
 use visibility::Reader;
 use xid_circle::Tid;
 
-/// Whether the page of this number is noted as all-visible.
+/// True where the page of this number is noted as all-visible.
 fn is_noted_visible(pages: &Pages, number: u32) -> bool
     ensures { result ≡ says_visible (mark_on pages.now.marks number) }
 {
@@ -25,7 +25,8 @@ fn is_noted_visible(pages: &Pages, number: u32) -> bool
     }
 }
 
-/// Whether the page of a place is noted as all-visible, and so is not looked at, or the reader sees a version in the chain there.
+/// True where the page of a place is noted as all-visible, and so is not looked at, or the reader sees a version in the chain
+/// there.
 fn place_shows(pages: &Pages, place: Tid, reader: &Reader<'_>) -> bool
     ensures { IsTrue result ↔ PlaceShows reader.now.statuses.now (IsSeenBy reader.now)
         pages.now place }
@@ -39,7 +40,7 @@ fn place_shows(pages: &Pages, place: Tid, reader: &Reader<'_>) -> bool
     }
 }
 
-/// Whether the key of an entry shows, by any entry of its value and its key.
+/// True where the key of an entry shows, by any entry of its value and its key.
 fn key_shows(table: &TableView<'_>, first: Entry, near: PositionHint, reader: &Reader<'_>) -> bool
     requires { IsFirstOf table.now.index.now.entries first }
     ensures { IsTrue result ↔ KeyShows reader.now.statuses.now (IsSeenBy reader.now)

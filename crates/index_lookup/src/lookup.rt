@@ -20,7 +20,7 @@ use tuple_header::{Header, RowRef};
 use visibility::Reader;
 use xid_circle::Tid;
 
-/// The entry that a look-up found, if it found one, and where it stood.
+/// The entry that a look-up found, if it found one, and where it was.
 #[inline(always)]
 pub(crate) fn with_hint(look_up: LookUp) -> Option<(Entry, PositionHint)>
     ensures { option_map (λ found. found.0) result ≡ look_up.found }
@@ -31,7 +31,7 @@ pub(crate) fn with_hint(look_up: LookUp) -> Option<(Entry, PositionHint)>
     }
 }
 
-/// That the value of an entry is in range. It does nothing; its contract is the fact.
+/// The value of an entry is in range. It does nothing; its contract is the fact.
 pub(crate) fn fact_value(entry: &Entry)
     ensures { FitsSigned w128 entry.now.value }
 {
@@ -126,7 +126,7 @@ pub fn place_of(table: &TableView<'_>, value: i128, key: u64, reader: &Reader<'_
     }
 }
 
-/// The row of the version at a place, where it stands, if there is one.
+/// Borrows the row of the version at a place, if there is one.
 fn row_at(pages: &Pages, place: Tid) -> Option<RowRef<'_>>
     ensures { result ≡ option_map (λ t. t.row) (version_in (page_slots_of pages.now) place) }
 {
@@ -136,8 +136,8 @@ fn row_at(pages: &Pages, place: Tid) -> Option<RowRef<'_>>
     }
 }
 
-/// The row, where it stands, of the first version that the reader sees, along the entries of this value and this key in
-/// their order, and along the chain of each. It takes no memory.
+/// Borrows the row of the first version that the reader sees, along the entries of this value and this key in their order, and
+/// along the chain of each. It takes no memory.
 pub fn row_of<'a>(
     table: &TableView<'a>,
     value: i128,
@@ -154,8 +154,7 @@ pub fn row_of<'a>(
     }
 }
 
-/// The row, where it stands, of the first version that the reader sees, as [`place_from`] finds its place. It takes no
-/// memory.
+/// Borrows the row of the first version that the reader sees, as [`place_from`] finds its place. It takes no memory.
 pub fn row_from<'a>(
     table: &TableView<'a>,
     first: Entry,
@@ -173,7 +172,7 @@ pub fn row_from<'a>(
     }
 }
 
-/// The row of the version in a slot of the page, where it stands, if the reader sees it. It takes no memory.
+/// Borrows the row of the version in a slot of the page, if the reader sees it. It takes no memory.
 #[inline(always)]
 pub fn seen_row<'a>(page: &'a Page, slot: u16, reader: &Reader<'_>) -> Option<RowRef<'a>>
     ensures { SeenRow (IsSeenBy reader.now) page.now.slots slot result }

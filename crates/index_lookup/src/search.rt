@@ -12,9 +12,9 @@ use root_index::{Entry, PositionHint, RootIndex};
 pub(crate) struct Search {
     /// The entry that comes next, if there is one.
     pub(crate) next: Option<Entry>,
-    /// Where it stood; if there is none, where the last one stood, or where the first would stand.
+    /// Where it was; if there is none, where the last one was, or where the first would be.
     pub(crate) near: PositionHint,
-    /// Whether it is known that no entry comes after that one.
+    /// True where it is known that no entry comes after that one.
     pub(crate) is_last: bool,
 }
 
@@ -29,7 +29,7 @@ fn entry_of_key(found: Option<Entry>, value: i128, key: u64) -> Option<Entry>
     }
 }
 
-/// An entry, if it is of this value and this key, and where it stood.
+/// An entry, if it is of this value and this key, and where it was.
 fn only_of(
     found: Option<(Entry, PositionHint)>,
     value: i128,
@@ -44,8 +44,8 @@ fn only_of(
     }
 }
 
-/// The first entry of this value and this key that comes after another one of these, and where it stood. Where the other still stands
-/// at the place that is given, that is found without a search.
+/// The first entry of this value and this key that comes after another one of these, and where it was. If the other is still at the
+/// given position, no search is needed.
 pub(crate) fn next_of(
     index: &RootIndex,
     value: i128,

@@ -1,4 +1,4 @@
-//! What a session that is about to write a key has to know of its versions. Nothing here takes memory.
+//! The check before a write: all that a session must know of the versions of a key. Nothing here takes memory.
 
 ghost use Rattle.std.specs.Prelude.{◌≡◌, ◌↔◌, IsTrue, None};
 ghost use Rattle.tuple_header.specs.Faults.{header_fault};
@@ -19,7 +19,7 @@ use tuple_header::{Header, MOST_SLOT_NUMBERS};
 use visibility::Reader;
 use xid_circle::{Tid, Xid};
 
-/// What a session that is about to write a key has to know of its versions.
+/// All that a session must know of the versions of a key before it writes the key.
 #[derive(Clone, Copy, Debug, PartialEq, Eq)]
 pub struct WriteCheck {
     /// The place of the version that it reads.
@@ -30,8 +30,8 @@ pub struct WriteCheck {
     pub other_writer: Option<Xid>,
 }
 
-/// Whether nobody deleted the version, and it is frozen, or its inserter is committed and the reader's snapshot sees it. Then the
-/// reader sees it, and it has no newer commit and no other writer: one look at its inserter tells all.
+/// True where nobody deleted the version, and it is frozen, or its inserter is committed and the reader's snapshot sees it. Then
+/// the reader sees it, and it has no newer commit and no other writer: one look at its inserter tells all.
 #[inline(always)]
 fn is_plain(header: &Header, reader: &Reader<'_>) -> bool
     requires { header_fault header.now ≡ None }
@@ -40,7 +40,7 @@ fn is_plain(header: &Header, reader: &Reader<'_>) -> bool
     header.xmax.0 == 0 && (header.is_frozen() || sees_committed(header.xmin, reader))
 }
 
-/// What was found before, or else the place of this version, if the reader sees it.
+/// Keeps the place found before, or else takes that of this version, if the reader sees it.
 fn place_or(before: Option<Tid>, place: Tid, header: &Header, reader: &Reader<'_>) -> Option<Tid>
     requires { header_fault header.now ≡ None }
     ensures { IsKept before (IsPlaceIn (IsSeenBy reader.now) place header.now) result }
@@ -51,7 +51,7 @@ fn place_or(before: Option<Tid>, place: Tid, header: &Header, reader: &Reader<'_
     }
 }
 
-/// What was found before, or else the id of a newer commit in this version.
+/// Keeps the id found before, or else takes that of a newer commit in this version.
 fn newer_commit_or(before: Option<Xid>, header: &Header, reader: &Reader<'_>) -> Option<Xid>
     requires { header_fault header.now ≡ None }
     ensures { IsKept before (IsIdIn (IsNewerCommitFor reader.now) header.now) result }
@@ -62,7 +62,7 @@ fn newer_commit_or(before: Option<Xid>, header: &Header, reader: &Reader<'_>) ->
     }
 }
 
-/// What was found before, or else another writer in this version.
+/// Keeps the id found before, or else takes that of another writer in this version.
 fn other_writer_or(before: Option<Xid>, header: &Header, reader: &Reader<'_>) -> Option<Xid>
     requires { header_fault header.now ≡ None }
     ensures { IsKept before (IsIdIn (IsOtherWriterFor reader.now) header.now) result }
@@ -73,7 +73,7 @@ fn other_writer_or(before: Option<Xid>, header: &Header, reader: &Reader<'_>) ->
     }
 }
 
-/// What was found before, and for each part of which nothing was, what the version of this header, at this place, has of it.
+/// Fills the parts of the check that are still empty from the version of this header, at this place.
 #[inline(always)]
 fn with_version(before: WriteCheck, place: Tid, header: &Header, reader: &Reader<'_>) -> WriteCheck
     requires { header_fault header.now ≡ None }
@@ -98,8 +98,7 @@ fn with_version(before: WriteCheck, place: Tid, header: &Header, reader: &Reader
     }
 }
 
-/// What was found before, and for each part of which nothing was, what the versions in these slots, on the page of this
-/// number, have of it.
+/// Fills the parts of the check that are still empty from the versions in these slots, on the page of this number.
 fn with_versions(
     before: WriteCheck,
     number: u32,
@@ -127,8 +126,7 @@ fn with_versions(
     check
 }
 
-/// What was found before, and for each part of which nothing was, what the chain of this root has of it. A page that is not
-/// in use has no chains.
+/// Fills the parts of the check that are still empty from this root's chain. A page that is not in use has no chains.
 fn with_chain(before: WriteCheck, pages: &Pages, root: Tid, reader: &Reader<'_>) -> WriteCheck
     ensures place { IsKept before.place
         (SeenAt reader.now.statuses.now (IsSeenBy reader.now)
@@ -155,9 +153,8 @@ fn with_chain(before: WriteCheck, pages: &Pages, root: Tid, reader: &Reader<'_>)
     }
 }
 
-/// How the versions of this value and this key stand to a session, along the entries in their order, and along the chain of
-/// each: it goes along these once. And where the last of the entries stood, or where one would stand if there is none: a hint to
-/// who adds another. It takes no memory.
+/// Checks the versions of this value and this key for a session: it goes once along the entries in their order, and along the chain
+/// of each. It also tells where the last of the entries was, or where one would be: a hint for adding another. It takes no memory.
 pub fn check_write(
     table: &TableView<'_>,
     value: i128,

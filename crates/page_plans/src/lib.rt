@@ -1,7 +1,7 @@
 //! Plans of the pruning of many pages, made in several threads while the table goes on.
 //!
-//! Pages are taken as they are under the latch (`page_views`), and planned without it. A plan is one that a single thread would make, and
-//! is applied only where it still checks, whoever made it.
+//! Pages are taken as they are under the latch (`page_views`), and planned without it. A plan is one that a single thread would
+//! make, and is applied only where it still checks, no matter who made it.
 #![tactic(auto)]
 
 mod plans;

@@ -33,8 +33,8 @@ pub fn plan_pages(
     Ok(plans)
 }
 
-/// Does what [`plan_pages`] does, and puts the plans in the place of what the list has. So whoever plans again and again takes memory
-/// only where there are more pages than before. Where it is refused the list stays as it was.
+/// Does what [`plan_pages`] does, and puts the plans in the place of those in the list. So a caller that plans again and again
+/// takes memory only where there are more pages than before. Where it is refused the list stays as it was.
 pub fn plan_pages_into(
     rt: &(impl Threads + Sync),
     views: &PageViews,

@@ -121,6 +121,9 @@ pub record IsPlaced (a b : List ℕ) (count i : ℕ) (e : Extent) : Type 0 where
   pub slots : slots_in count b ≡ set (slots_in count a) i (Slot.Normal (decoded_version (part_of a e)))
   pub change : change_in b ≡ change_in a
   pub flags : flags_in b ≡ flags_in a
+  pub upper : upper_in b ≡ upper_in a
+  pub here : pointer_in b i ≡ Pointer.Normal e
+  pub others : (j : ℕ) → j ≢ i → pointer_in b j ≡ pointer_in a j
 
 pub above-apart : (e : Extent) (q : Pointer) → ((d : Extent) → q ≡ Pointer.Normal d → end_of e ≤ d.from) → AreApart (Pointer.Normal e) q
 above-apart e Pointer.Unused above = tt
@@ -196,6 +199,9 @@ pointer-placed a b count i e sound within good above written =
           (λ j h other. slot-kept a b j (pointers j other) (λ d is. parts j d h is));
       change = at 0 8 (omega arith);
       flags = at 10 2 (omega arith);
+      upper = upper;
+      here = here;
+      others = pointers;
     }
 
 pub extent-pointed : (a : List ℕ) (e : Extent) → length a ≡ 8192 → IsExtent a e → IsPointed (Pointer.Normal e)
@@ -248,6 +254,7 @@ pub record IsLifted (a b : List ℕ) (count : ℕ) : Type 0 where
   pub change : change_in b ≡ change_in a
   pub flags : flags_in b ≡ flags_in a
   pub upper : upper_in b ≡ 8192
+  pub pointers : (i : ℕ) → pointer_in b i ≡ pointer_in a i
 
 pub upper-lifted : (a b : List ℕ) (count : ℕ) → IsSound a count → ((j : ℕ) (e : Extent) → j < count → pointer_in a j ≡ Pointer.Normal e → ⊥)
     → b ≡ with_number 14 2 8192 a → IsLifted a b count
@@ -283,6 +290,7 @@ upper-lifted a b count sound none written =
       change = at 0 8 (inl (omega arith));
       flags = flags;
       upper = is;
+      pointers = pointers;
     }
 
 -- no slot holds a version where none takes a byte

@@ -21,6 +21,7 @@ pub record IsGrown (a b : List ℕ) (count : ℕ) : Type 0 where
   pub change : change_in b ≡ change_in a
   pub flags : flags_in b ≡ flags_in a
   pub upper : upper_in b ≡ upper_in a
+  pub pointers : (j : ℕ) → j < count → pointer_in b j ≡ pointer_in a j
 
 pointer-grown : (a b : List ℕ) (count : ℕ) (p : Pointer) → upper_in b ≡ upper_in a → IsPointer a count p
     → ((e : Extent) → p ≡ Pointer.Normal e → part_of b e ≡ part_of a e) → IsPointer b (count + 1) p
@@ -104,4 +105,5 @@ grown a m b count sound few room first second =
       change = at 0 8 (omega arith) (inl (omega arith));
       flags = flags;
       upper = upper;
+      pointers = pointers;
     }

@@ -49,6 +49,7 @@ pub record IsReheaded (a b : List ℕ) (count i : ℕ) (h : Header) : Type 0 whe
   pub change : change_in b ≡ change_in a
   pub flags : flags_in b ≡ flags_in a
   pub upper : upper_in b ≡ upper_in a
+  pub pointers : (j : ℕ) → j < count → pointer_in b j ≡ pointer_in a j
 
 pub header-set : (a b : List ℕ) (count i : ℕ) (e : Extent) (h : Header) → IsSound a count → i < count → pointer_in a i ≡ Pointer.Normal e → HeaderFits h
     → header_fault h ≡ None → b ≡ with_bytes e.from (header_bytes h ++ drop 24 (part_of a e)) a → IsReheaded a b count i h
@@ -87,6 +88,7 @@ header-set a b count i e h sound there is fits good written =
       change = number-outside e.from (e.from + e.len) 0 8 a b agrees (inl (omega arith));
       flags = number-outside e.from (e.from + e.len) 10 2 a b agrees (inl (omega arith));
       upper = number-outside e.from (e.from + e.len) 14 2 a b agrees (inl (omega arith));
+      pointers = pointers;
     }
 
 -- what writing a header to the front of a version's bytes leaves

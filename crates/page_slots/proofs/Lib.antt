@@ -9,6 +9,7 @@ pub mod Shown
 pub mod SlotLemmas
 pub mod Sounds
 pub mod PackLemmas
+pub mod PlacingLemmas
 pub mod RunLemmas
 pub mod Blank
 pub mod Ids

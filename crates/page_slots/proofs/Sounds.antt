@@ -142,6 +142,7 @@ pub record IsNoted (a b : List ℕ) (count : ℕ) : Type 0 where
   pub sound : IsSound b count
   pub slots : slots_in count b ≡ slots_in count a
   pub upper : upper_in b ≡ upper_in a
+  pub pointers : (j : ℕ) → pointer_in b j ≡ pointer_in a j
 
 pub change-noted : (a b : List ℕ) (count x : ℕ) → IsSound a count → b ≡ with_number 0 8 x a → IsNoted a b count
 change-noted a b count x sound e =
@@ -152,6 +153,7 @@ change-noted a b count x sound e =
       sound = sound-field a b count 0 8 sound agrees (omega arith) (headed-kept a b 0 8 sound.headed agrees flags (inr (omega arith)));
       slots = slots-field a b count 0 8 sound agrees (omega arith);
       upper = number-outside 0 8 14 2 a b agrees (inr (omega arith));
+      pointers = λ j. pointer-outside 0 8 j a b agrees (inr (omega arith));
     }
 
 pub flags-noted : (a b : List ℕ) (count x : ℕ) → IsSound a count → b ≡ with_number 10 2 x a → (x ≡ 0) ⊎ (x ≡ 4) → IsNoted a b count
@@ -172,6 +174,7 @@ flags-noted a b count x sound e one =
       };
       slots = slots-field a b count 10 12 sound agrees (omega arith);
       upper = at 14 2 (inr (omega arith));
+      pointers = λ j. pointer-outside 10 12 j a b agrees (inr (omega arith));
     }
 
 pub fields-apart : (at hi i n : ℕ) (x w : ℕ) (a b : List ℕ) → b ≡ with_number at w x a → hi ≡ at + w → hi ≤ length a → (i + n ≤ at) ⊎ (hi ≤ i) → number_at i n b ≡ number_at i n a

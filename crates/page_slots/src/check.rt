@@ -80,7 +80,7 @@ fn page_from(bytes: &[u8], count: usize, taken_bytes: usize) -> Page
 {
     let mut copy = [0; PAGE_BYTES];
     copy.copy_from_slice(bytes);
-    let sheet = Sheet { bytes: copy, count };
+    let sheet = Sheet::of(copy, count);
     let free = sheet.first_unused_from(0);
     Page {
         sheet,

@@ -79,7 +79,7 @@ impl Page {
         }
     }
 
-    /// Becomes equal to another page, byte for byte. It takes no memory.
+    /// Becomes equal to another page, byte for byte, of which its contract says what a page shows. It takes no memory.
     pub fn copy_from(&mut self, other: &Page)
         ensures { self.new ≡ other.now }
     {

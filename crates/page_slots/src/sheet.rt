@@ -13,10 +13,12 @@ ghost use Rattle.page_slots.specs.Slots.{is_unused, is_dead, is_undeleted_by, re
 ghost use Rattle.page_layout.specs.Layout.{pointer_in, part_of, slot_count_in, change_in, flags_in, upper_in};
 ghost use Rattle.page_slots.specs.Layout.{shown_by, slot_in, slots_in};
 ghost use Rattle.page_slots.specs.Packing.{LieInOrder};
+ghost use Rattle.page_slots.specs.Placing.{AllStay, OthersStay, HasGap, IsPutBelow, loses_last};
 ghost use Rattle.page_slots.specs.Standing.{StandsAt, IsVersionAt};
 ghost use Rattle.page_slots.specs.Faults.{AreSoundRedirects, page_fault};
 ghost use Rattle.page_layout.specs.declared.pointer.Extent.{Extent as SpecExtent};
-ghost use Rattle.page_layout.specs.Sound.{AreAbove, IsExtent, HoldsNoVersion, IsWritten, IsPointer};
+ghost use Rattle.page_layout.specs.declared.pointer.Pointer.{Pointer as SpecPointer};
+ghost use Rattle.page_layout.specs.Sound.{AreAbove, IsExtent, HoldsNoVersion, IsSound, IsWritten, IsPointer};
 
 use crate::packing::move_together;
 use crate::slot::{Slot, SlotHead};
@@ -38,8 +40,8 @@ const _: () = prove!(MOST_BYTES == PAGE_BYTES - PAGE_HEADER_BYTES);
 /// The bytes of a page.
 #[derive(Debug, Drop)]
 pub(crate) struct Sheet {
-    pub(crate) bytes: [u8; PAGE_BYTES],
-    pub(crate) count: usize,
+    bytes: [u8; PAGE_BYTES],
+    count: usize,
 }
 
 impl Model for Sheet {
@@ -101,6 +103,14 @@ impl Sheet {
         put_u16(&mut bytes, 16, PAGE_BYTES as u16);
         put_u16(&mut bytes, 18, PAGE_BYTES as u16 + 4);
         Sheet { bytes, count: 0 }
+    }
+
+    /// The sheet of these bytes, which are those of a page with so many slots.
+    pub(crate) fn of(bytes: [u8; PAGE_BYTES], count: usize) -> Sheet
+        requires { IsSound bytes count }
+        ensures { result ≡ record { bytes = bytes; count = count } }
+    {
+        Sheet { bytes, count }
     }
 
     /// Becomes equal to another.
@@ -397,6 +407,7 @@ impl Sheet {
         ensures change { change_in self.new.bytes ≡ change }
         ensures flags { flags_in self.new.bytes ≡ flags_in self.old.bytes }
         ensures upper { upper_in self.new.bytes ≡ upper_in self.old.bytes }
+        ensures places { AllStay self.old self.new }
     {
         put_u64(&mut self.bytes, 0, change);
     }
@@ -409,6 +420,7 @@ impl Sheet {
         ensures change { change_in self.new.bytes ≡ change_in self.old.bytes }
         ensures flags { flags_in self.new.bytes ≡ (if flag then 4 else 0) }
         ensures upper { upper_in self.new.bytes ≡ upper_in self.old.bytes }
+        ensures places { AllStay self.old self.new }
     {
         put_u16(&mut self.bytes, 10, if flag { 4 } else { 0 });
     }
@@ -424,6 +436,7 @@ impl Sheet {
         ensures change { change_in self.new.bytes ≡ change_in self.old.bytes }
         ensures flags { flags_in self.new.bytes ≡ flags_in self.old.bytes }
         ensures upper { upper_in self.new.bytes ≡ upper_in self.old.bytes }
+        ensures places { AllStay self.old self.new }
     {
         if let Pointer::Normal(extent) = self.pointer(index) {
             write_header(&mut self.bytes, extent, header);
@@ -440,6 +453,7 @@ impl Sheet {
         ensures change { change_in self.new.bytes ≡ change_in self.old.bytes }
         ensures flags { flags_in self.new.bytes ≡ flags_in self.old.bytes }
         ensures upper { upper_in self.new.bytes ≡ upper_in self.old.bytes }
+        ensures places { OthersStay self.old self.new index }
     {
         put_pointer(&mut self.bytes, index, pointer);
     }
@@ -448,16 +462,19 @@ impl Sheet {
     pub(crate) fn clear(&mut self, index: usize, pointer: Pointer, last: bool)
         requires there { index < self.old.count }
         requires bare { HoldsNoVersion self.old.count pointer }
-        requires last { last ≡ true
-            → sum_by bytes_taken
-            (slice_set (slots_in self.old.count self.old.bytes) index (shown_by [] pointer)) ≡ 0 }
+        requires last { last
+            ≡ loses_last (slots_in self.old.count self.old.bytes)
+            (slice_set (slots_in self.old.count self.old.bytes) index (shown_by [] pointer)) }
         ensures count { self.new.count ≡ self.old.count }
         ensures slots { slots_in self.new.count self.new.bytes
             ≡ slice_set (slots_in self.old.count self.old.bytes) index (shown_by [] pointer) }
         ensures change { change_in self.new.bytes ≡ change_in self.old.bytes }
         ensures flags { flags_in self.new.bytes ≡ flags_in self.old.bytes }
         ensures upper { upper_in self.new.bytes
-            ≡ (if last then PAGE_BYTES else upper_in self.old.bytes) }
+            ≡ (if loses_last (slots_in self.old.count self.old.bytes)
+            (slots_in self.new.count self.new.bytes) then PAGE_BYTES
+            else upper_in self.old.bytes) }
+        ensures places { OthersStay self.old self.new index }
     {
         self.set_pointer(index, pointer);
         if last {
@@ -518,6 +535,9 @@ impl Sheet {
             (Slot.Normal (decoded_version (part_of self.old.bytes extent))) }
         ensures change { change_in self.new.bytes ≡ change_in self.old.bytes }
         ensures flags { flags_in self.new.bytes ≡ flags_in self.old.bytes }
+        ensures upper { upper_in self.new.bytes ≡ upper_in self.old.bytes }
+        ensures here { pointer_in self.new.bytes index ≡ SpecPointer.Normal extent }
+        ensures places { OthersStay self.old self.new index }
     {
         let _count = self.count;
         put_pointer(&mut self.bytes, index, Pointer::Normal(extent));
@@ -535,6 +555,12 @@ impl Sheet {
             (Slot.Normal (record { header = header.now; row = row.now })) }
         ensures change { change_in self.new.bytes ≡ change_in self.old.bytes }
         ensures flags { flags_in self.new.bytes ≡ flags_in self.old.bytes }
+        ensures upper { upper_in self.new.bytes + rounded_size_of row.now
+            ≡ upper_in self.old.bytes }
+        ensures here { pointer_in self.new.bytes index
+            ≡ SpecPointer.Normal
+            (record { from = upper_in self.new.bytes; len = size_of row.now }) }
+        ensures places { OthersStay self.old self.new index }
     {
         let _count = self.count;
         let from = self.upper() - row_size(row);
@@ -557,6 +583,7 @@ impl Sheet {
         ensures change { change_in self.new.bytes ≡ change_in self.old.bytes }
         ensures flags { flags_in self.new.bytes ≡ flags_in self.old.bytes }
         ensures upper { upper_in self.new.bytes ≡ upper_in self.old.bytes }
+        ensures places { AllStay self.old self.new }
     {
         put_pointer(&mut self.bytes, self.count, Pointer::Unused);
         self.count += 1;
@@ -595,9 +622,13 @@ impl Sheet {
             ≡ slots_in self.old.count self.old.bytes }
         ensures change { change_in self.new.bytes ≡ change_in self.old.bytes }
         ensures flags { flags_in self.new.bytes ≡ flags_in self.old.bytes }
-        ensures gap { PAGE_HEADER_BYTES + 4 * self.new.count + size ≤ upper_in self.new.bytes }
-        ensures stays { PAGE_HEADER_BYTES + 4 * self.old.count + size ≤ upper_in self.old.bytes
-            → self.new ≡ self.old }
+        ensures gap { HasGap self.new size }
+        ensures stays { HasGap self.old size → self.new ≡ self.old }
+        ensures order { ¬ HasGap self.old size
+            → LieInOrder self.new.bytes (slots_in self.old.count self.old.bytes) self.new.count }
+        ensures packed { ¬ HasGap self.old size
+            → upper_in self.new.bytes
+            + sum_by bytes_taken (slots_in self.old.count self.old.bytes) ≡ PAGE_BYTES }
     {
         if self.upper() < PAGE_HEADER_BYTES + 4 * self.len() + size {
             self.compact();
@@ -617,6 +648,8 @@ impl Sheet {
             (Slot.Normal (record { header = header.now; row = row.now })) }
         ensures change { change_in self.new.bytes ≡ change_in self.old.bytes }
         ensures flags { flags_in self.new.bytes ≡ flags_in self.old.bytes }
+        ensures places { IsPutBelow self.old self.new index (size_of row.now)
+            (rounded_size_of row.now) }
     {
         self.make_way(row_size(row));
         self.put_below(index, header, row);
@@ -635,6 +668,8 @@ impl Sheet {
             ++ Slot.Normal (record { header = header.now; row = row.now }) ∷ [] }
         ensures change { change_in self.new.bytes ≡ change_in self.old.bytes }
         ensures flags { flags_in self.new.bytes ≡ flags_in self.old.bytes }
+        ensures places { IsPutBelow self.old self.new self.old.count (size_of row.now)
+            (rounded_size_of row.now + 4) }
     {
         self.make_way(row_size(row) + 4);
         let index = self.count;
@@ -651,6 +686,7 @@ impl Sheet {
         ensures change { change_in self.new.bytes ≡ change_in self.old.bytes }
         ensures flags { flags_in self.new.bytes ≡ flags_in self.old.bytes }
         ensures upper { upper_in self.new.bytes ≡ PAGE_BYTES }
+        ensures places { AllStay self.old self.new }
     {
         let _count = self.count;
         put_u16(&mut self.bytes, 14, PAGE_BYTES as u16);

@@ -10,12 +10,12 @@ use tuple_header::MOST_SLOT_NUMBERS;
 /// A plan's actions.
 pub(crate) type Actions = ArrayVec<(u16, Action), MOST_SLOT_NUMBERS>;
 
-/// What pruning does to a page: made without changing the page, and applied later if it still checks.
+/// A plan of pruning a page: made without changing the page, and applied later if it still checks.
 #[derive(Debug, Drop)]
 pub struct PrunePlan {
     /// The change number of the page that it was made for.
     pub change: u64,
-    /// What is done to which slot, in order of slots. A page has at most 291, so a plan takes no memory.
+    /// The actions, in order of their slots. A page has at most 291 slots, so a plan takes no memory.
     pub actions: ArrayVec<(u16, Action), MOST_SLOT_NUMBERS>,
 }
 
@@ -32,7 +32,7 @@ impl PrunePlan {
         }
     }
 
-    /// Whether the plan does something to the slot of this number.
+    /// True where the plan has an action for the slot of this number.
     pub fn names(&self, slot: u16) -> bool
         ensures { IsTrue result ↔ IsSome (action_of self.now.actions.items slot) }
     {

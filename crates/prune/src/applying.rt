@@ -52,8 +52,8 @@ pub fn apply(page: &mut Page, plan: &PrunePlan)
     apply_actions(page, plan.actions.as_slice());
 }
 
-/// Prunes a page, of whose slots only these need more than a glance. It stands alone, so that its list is cleared only where it
-/// is called.
+/// Prunes a page where only these slots need more than a glance. It is a function of its own, so that its list is cleared only
+/// where it is called.
 #[inline(never)]
 fn prune_doubtful(page: &mut Page, doubtful: &[u16], statuses: &StatusTable, horizon: Xid)
     requires doubtful { ListsDoubtful statuses.now horizon.0 page.old.slots doubtful.now }

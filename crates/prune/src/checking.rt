@@ -1,4 +1,4 @@
-//! Whether a plan may be applied to a page.
+//! Checks a plan before it is applied to a page.
 
 ghost use Rattle.std.specs.Prelude.{◌≡◌, ◌≤◌, ◌<◌, ◌↔◌, ℕ, IsTrue, None, Some, true, length, slice_index};
 ghost use Rattle.hot_chain.specs.Chain.{is_root};
@@ -21,17 +21,17 @@ use prune_actions::Action;
 use tuple_header::MOST_SLOT_NUMBERS;
 use xid_circle::Xid;
 
-/// What a plan does to each slot, by its number, from 0 to 291.
+/// A plan's action for each slot, by its number, from 0 to 291.
 type Named = [Option<Action>; MOST_SLOT_NUMBERS];
 
-/// Whether this is the page's change number, so that a plan of it was made for the page as it is now.
+/// True where this is the page's change number: a plan with it was made for the page as it is now.
 fn is_fresh(page: &Page, change: u64) -> bool
     ensures { IsTrue result ↔ (change ≡ page.now.change) }
 {
     change == page.change()
 }
 
-/// Whether the slots that are named are strictly ascending, and on a page of so many.
+/// True where the named slots ascend strictly, and a page of this many slots has them all.
 fn are_in_order(count: u16, actions: &[(u16, Action)]) -> bool
     ensures { IsTrue result ↔ AreInOrder count 0 actions.now }
 {
@@ -45,7 +45,7 @@ fn are_in_order(count: u16, actions: &[(u16, Action)]) -> bool
     true
 }
 
-/// What these actions do to each slot.
+/// Indexes these actions by slot number.
 fn named_by(actions: &[(u16, Action)]) -> Named
     requires { AreInOrder MOST_SLOTS 0 actions.now }
     ensures { (n : ℕ) → named_at result n ≡ action_of actions.now n }
@@ -70,7 +70,7 @@ fn prefix_of(named: &Named, numbers: &[u16]) -> usize
     numbers.len()
 }
 
-/// Whether none of these slots is named.
+/// True where none of these slots is named.
 fn are_unnamed(named: &Named, numbers: &[u16]) -> bool
     requires { AreNumbers numbers.now }
     ensures { IsTrue result
@@ -85,7 +85,7 @@ fn are_unnamed(named: &Named, numbers: &[u16]) -> bool
     true
 }
 
-/// Whether a slot becomes unused, if it holds a heap-only version.
+/// True where the slot becomes unused, or holds no heap-only version.
 fn becomes_unused(page: &Page, named: &Named, number: u16) -> bool
     requires { number < MOST_SLOT_NUMBERS }
     ensures { IsTrue result ↔ BecomesUnused page.now.slots named.now number }
@@ -97,7 +97,7 @@ fn becomes_unused(page: &Page, named: &Named, number: u16) -> bool
     }
 }
 
-/// Whether each of these slots does so.
+/// True where [`becomes_unused`] holds of each of these slots.
 fn become_unused(page: &Page, named: &Named, numbers: &[u16]) -> bool
     requires { AreNumbers numbers.now }
     ensures { IsTrue result
@@ -113,14 +113,14 @@ fn become_unused(page: &Page, named: &Named, numbers: &[u16]) -> bool
     true
 }
 
-/// Whether two answers are the same.
+/// True where both are the same action, or neither is one.
 fn are_same(a: Option<Action>, b: Option<Action>) -> bool
     ensures { IsTrue result ↔ (a ≡ b) }
 {
     a == b
 }
 
-/// Whether the plan cuts, of this root's chain, a prefix that pruning would cut too, and sets the root accordingly.
+/// True where the plan cuts off this root's chain a prefix that pruning would cut too, and sets the root accordingly.
 fn has_prefix(page: &Page, named: &Named, root: u16, statuses: &StatusTable, horizon: Xid) -> bool
     requires number { root < MOST_SLOT_NUMBERS }
     ensures { IsTrue result
@@ -142,7 +142,7 @@ fn has_prefix(page: &Page, named: &Named, root: u16, statuses: &StatusTable, hor
     are_same(named[usize::from(root)], root_action(prefix, numbers))
 }
 
-/// Whether each root's chain has such a prefix.
+/// True where [`has_prefix`] holds of each root.
 fn have_prefixes(page: &Page, named: &Named, statuses: &StatusTable, horizon: Xid) -> bool
     ensures { IsTrue result
         ↔
@@ -157,7 +157,7 @@ fn have_prefixes(page: &Page, named: &Named, statuses: &StatusTable, horizon: Xi
     true
 }
 
-/// Whether what is done to a slot that no chain reaches is what pruning does to it.
+/// True where a chain reaches the slot, or the plan leaves it as it is, or does to it what pruning does.
 fn is_allowed(
     page: &Page,
     marks: &Marks,
@@ -178,7 +178,7 @@ fn is_allowed(
     }
 }
 
-/// Whether it is so of each slot.
+/// True where [`is_allowed`] holds of each slot.
 fn are_accounted(page: &Page, marks: &Marks, named: &Named, statuses: &StatusTable) -> bool
     ensures { IsTrue result
         ↔
@@ -193,9 +193,9 @@ fn are_accounted(page: &Page, marks: &Marks, named: &Named, statuses: &StatusTab
     true
 }
 
-/// Whether actions may be done on a page, whoever planned them, and when: the change number is the page's, the slots are
-/// strictly ascending and on the page, of each chain a prefix is cut that pruning at this horizon would cut
-/// too, and every other slot named holds an aborted heap-only version that no chain reaches. It takes no memory.
+/// True where actions may be done on a page, no matter who planned them and when: the change number is the page's, the slots ascend
+/// strictly and are on the page, each chain loses a prefix that pruning at this horizon would cut too, and every other slot named
+/// holds an aborted heap-only version that no chain reaches. It takes no memory.
 pub fn check_actions(
     page: &Page,
     change: u64,
@@ -218,7 +218,7 @@ pub fn check_actions(
     have_prefixes(page, &named, statuses, horizon) && are_accounted(page, &marks, &named, statuses)
 }
 
-/// Whether a plan may be applied to a page: whether its actions may be done there.
+/// True where a plan may be applied to a page: [`check_actions`] allows its actions there.
 pub fn check_plan(page: &Page, plan: &PrunePlan, statuses: &StatusTable, horizon: Xid) -> bool
     ensures exact { IsTrue result
         ↔ Checks statuses.now horizon.0 page.now plan.now.change plan.now.actions.items }

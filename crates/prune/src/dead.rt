@@ -14,7 +14,7 @@ use tuple_header::Header;
 use visibility::{Fate, fate_of};
 use xid_circle::{Xid, precedes};
 
-/// Whether a slot holds a dead version.
+/// True where a slot holds a dead version.
 pub(crate) fn is_dead_at(page: &Page, number: u16, statuses: &StatusTable, horizon: Xid) -> bool
     ensures { IsTrue result ↔ IsDeadAt statuses.now horizon.0 page.now.slots number }
 {
@@ -64,16 +64,16 @@ fn inserter_unless_aborted(header: &Header, known: Xid, statuses: &StatusTable) 
     }
 }
 
-/// What the versions so far tell, if none of them is dead.
+/// A summary of the versions so far, none of which is dead.
 #[derive(Clone, Copy, Debug)]
 pub(crate) struct Outlook {
-    /// An id that was not aborted. Neighbours mostly have one inserter, whose status is so looked up once.
+    /// An id that was not aborted. Neighbours mostly have one inserter, so its status is looked up once.
     pub(crate) known: Xid,
     /// No deleter that is remembered was given before this turn.
     pub(crate) turn: u32,
 }
 
-/// What they tell with one more, unless that is dead.
+/// The summary with one more version, unless that is dead.
 #[inline(always)]
 fn outlook_with(
     header: &Header,
@@ -93,7 +93,7 @@ fn outlook_with(
     Some(Outlook { known, turn })
 }
 
-/// The same of the version in a slot, if there is one.
+/// The summary with the version in a slot, if there is one.
 #[inline(always)]
 fn outlook_after(
     page: &Page,

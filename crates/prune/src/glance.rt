@@ -21,7 +21,7 @@ pub(crate) type Numbers = ArrayVec<u16, MOST_SLOT_NUMBERS>;
 /// For each number from 0 to 291, whether its slot is noted.
 type Noted = [bool; MOST_SLOT_NUMBERS];
 
-/// What a glance at a slot tells.
+/// The outcome of a glance at a slot.
 #[derive(Clone, Copy, Debug)]
 pub(crate) enum Glance {
     /// The slot needs a closer look.
@@ -32,8 +32,8 @@ pub(crate) enum Glance {
     PlainVersion(Xid),
 }
 
-/// Whether nobody deleted a version, and its inserter was not aborted: so it is neither dead nor replaced at any horizon. Neighbours
-/// mostly have one inserter, so of one that is known as not aborted no status is looked up.
+/// True only where nobody deleted a version, and its inserter was not aborted: so it is neither dead nor replaced at any horizon.
+/// Neighbours mostly have one inserter, so the status of an inserter that is known as not aborted is not looked up.
 #[inline(always)]
 fn is_plain(header: &Header, known: Xid, statuses: &StatusTable) -> bool
     requires known { ¬ IsAborted statuses.now known.0 }
@@ -42,7 +42,7 @@ fn is_plain(header: &Header, known: Xid, statuses: &StatusTable) -> bool
     header.xmax.0 == 0 && (header.xmin.0 == known.0 || !statuses.is_aborted(header.xmin))
 }
 
-/// Whether the version in a slot is so, if there is one.
+/// True only where the version in a slot is plain, or there is none.
 #[inline(never)]
 fn is_plain_at(page: &Page, number: u16, statuses: &StatusTable) -> bool
     ensures { IsTrue result → IsPlainAt statuses.now page.now.slots number }
@@ -53,8 +53,8 @@ fn is_plain_at(page: &Page, number: u16, statuses: &StatusTable) -> bool
     }
 }
 
-/// Whether the version is so in the slot where this one leads. The slots over this one are noted, if they are not, and redirects
-/// mostly lead there: so the version is seldom looked at.
+/// True only where the version in the target slot is plain, or there is none. Slots over this one are noted where theirs is not,
+/// and redirects mostly lead there: so the version is seldom looked at.
 #[inline(always)]
 fn leads_plainly(
     page: &Page,
@@ -76,7 +76,7 @@ fn leads_plainly(
     }
 }
 
-/// What a glance tells of a slot, if those over it that need a closer look are noted.
+/// Glances at a slot, when those over it that need a closer look are noted.
 #[inline(always)]
 fn glance_at(page: &Page, number: u16, noted: &Noted, known: Xid, statuses: &StatusTable) -> Glance
     requires there { SlotIsThere page.now.slots number }
@@ -149,7 +149,7 @@ fn note_all(noted: &mut Noted, numbers: &[u16; DOUBT_PLACES])
     }
 }
 
-/// Whether the slot is noted where the chain of this one begins.
+/// True where the slot at which this one's chain begins is noted.
 #[inline(always)]
 fn is_start_noted(page: &Page, number: u16, noted: &Noted) -> bool
     ensures { result ≡ false → StartsUnnoted page.now.slots noted.now number }
@@ -158,8 +158,8 @@ fn is_start_noted(page: &Page, number: u16, noted: &Noted) -> bool
     usize::from(start) < MOST_SLOT_NUMBERS && noted[usize::from(start)]
 }
 
-/// Lists the slots, from the last to the first, whose chains begin in one of these slots: each version is plain that stands in another.
-/// So no header is looked at. The list is empty before.
+/// Lists the slots, from the last to the first, whose chains begin in one of these slots. Versions in all other slots are plain, so
+/// no header is looked at. The list is empty before.
 #[inline(always)]
 fn list_known_backwards(
     doubtful: &mut Numbers,
@@ -212,7 +212,7 @@ pub(crate) fn list_doubtful(doubtful: &mut Numbers, page: &Page, statuses: &Stat
     doubtful.as_mut_slice().reverse();
 }
 
-/// The same, of a page of which it may be known where versions stand that are not plain: then only these are looked for.
+/// As above; if the page's doubts are known, only those slots are looked at.
 #[inline(always)]
 pub(crate) fn list_by_doubts(
     doubtful: &mut Numbers,
@@ -231,7 +231,7 @@ pub(crate) fn list_by_doubts(
     }
 }
 
-/// Where the versions stand that are not plain, if they are few enough to be noted. They are among the slots that are listed.
+/// The slots of versions that are not plain, if they are few enough to be noted. They are among the slots that are listed.
 pub(crate) fn doubts_among(page: &Page, doubtful: &[u16], statuses: &StatusTable) -> Doubts
     requires { ListsAllBut (StartsPlainly statuses.now page.now.slots) 0 doubtful.now
         (length page.now.slots + 1) }

@@ -57,7 +57,7 @@ pub fn pruning_thins()
     ensures { PruningThins }
 {}
 
-/// So does a plan that checks, whoever made it.
+/// A plan that checks takes such a prefix too, no matter who made it.
 pub fn checked_thins()
     ensures { CheckedThins }
 {}

@@ -1,5 +1,5 @@
-//! What pruning makes of each slot, noted in a fixed array: by one walk along the chain of each root that may lose a version,
-//! but for those that a header tells to be of one version.
+//! Marks that say what pruning makes of each slot, in a fixed array: by one walk along the chain of each root that may lose a
+//! version, except where a header tells that the chain is of one version.
 
 ghost use Rattle.std.specs.Prelude.{◌≡◌, ◌≤◌, ◌<◌, ◌+◌, ℕ, None, Some, IfSome, Bool, [], ◌∷◌, length, nat_eq, slice_get, if◌then◌else◌};
 ghost use Rattle.std.specs.List.{list_any};
@@ -20,7 +20,7 @@ use tuple_header::MOST_SLOT_NUMBERS;
 use visibility::{Fate, fate_of};
 use xid_circle::Xid;
 
-/// What was found out of a slot.
+/// The mark of a slot.
 #[derive(Clone, Copy, Debug, PartialEq, Eq)]
 pub(crate) enum PruneVerdict {
     /// It is neither a root nor in the chain of one.
@@ -32,7 +32,7 @@ pub(crate) enum PruneVerdict {
 }
 
 impl PruneVerdict {
-    /// That of a slot in a chain, or of a root, to which this is done, if anything.
+    /// The mark of a root, or of a slot in a chain, by the action on it, if there is one.
     fn verdict_of(action: Option<Action>) -> PruneVerdict
         ensures { result ≡ verdict_of action }
     {
@@ -46,7 +46,7 @@ impl PruneVerdict {
 /// A mark for each number from 0 to 291.
 pub(crate) type Marks = [PruneVerdict; MOST_SLOT_NUMBERS];
 
-/// How many of these versions end with the last dead one.
+/// How many of these versions there are up to the last dead one.
 pub fn cut_count(page: &Page, chain: &[u16], statuses: &StatusTable, horizon: Xid) -> usize
     ensures { IsCutCount statuses.now horizon.0 page.now.slots chain.now result }
 {
@@ -73,7 +73,7 @@ pub(crate) fn root_action(cut: usize, chain: &[u16]) -> Option<Action>
     }
 }
 
-/// Notes for each of these slots that this is done to it.
+/// Marks each of these slots with this action, or as kept if there is none.
 fn mark_all(marks: &mut Marks, numbers: &[u16], action: Option<Action>)
     requires { AreNumbers numbers.now }
     ensures { (n : ℕ)
@@ -161,8 +161,8 @@ fn mark_root(
     }
 }
 
-/// Notes the mark of each slot whose chain holds a dead version. Of a root that is not listed a glance tells that its chain
-/// holds none. Nothing is noted before.
+/// Notes the mark of each slot whose chain holds a dead version. A root that is not listed has no dead version in its chain, as a
+/// glance told. Nothing is noted before.
 pub(crate) fn mark_page(
     marks: &mut Marks,
     doubtful: &[u16],

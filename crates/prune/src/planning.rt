@@ -21,7 +21,7 @@ use space_maps::Doubts;
 use tuple_header::MOST_SLOT_NUMBERS;
 use xid_circle::Xid;
 
-/// What becomes of a slot that no chain reaches.
+/// The action on a slot that no chain reaches, if there is one.
 pub(crate) fn orphan_action(page: &Page, number: u16, statuses: &StatusTable) -> Option<Action>
     ensures { result ≡ orphan_action statuses.now page.now.slots number }
 {
@@ -33,7 +33,7 @@ pub(crate) fn orphan_action(page: &Page, number: u16, statuses: &StatusTable) ->
     }
 }
 
-/// What becomes of a slot with this mark.
+/// The action on a slot, by its mark, if there is one.
 fn action_at(page: &Page, marks: &Marks, number: u16, statuses: &StatusTable) -> Option<Action>
     requires { number < MOST_SLOT_NUMBERS }
     ensures { result ≡ planned statuses.now page.now.slots number (mark_at marks.now number) }
@@ -45,8 +45,8 @@ fn action_at(page: &Page, marks: &Marks, number: u16, statuses: &StatusTable) ->
     }
 }
 
-/// Lists the changes of pruning a page, of whose slots only these need more than a glance. The list is empty before. It stands
-/// alone, so that its arrays are cleared only where it is called.
+/// Lists the changes of pruning a page where only these slots need more than a glance. The list is empty before. It is a function
+/// of its own, so that its arrays are cleared only where it is called.
 #[inline(never)]
 pub(crate) fn list_actions(
     actions: &mut Actions,
@@ -100,8 +100,8 @@ pub fn plan(page: &Page, statuses: &StatusTable, horizon: Xid) -> PrunePlan
     plan
 }
 
-/// Makes such a plan in the place of an earlier one, of a page of which it may be known where versions stand that may be dead, now or
-/// later. If it is, only these are looked at, and else all. What is known then is put in the place of what was.
+/// Makes such a plan in the place of an earlier one. If the page's doubts are known, it looks at those slots alone, and else at
+/// all. The doubts that it finds replace the old ones.
 pub fn plan_by_doubts(
     plan: &mut PrunePlan,
     page: &Page,

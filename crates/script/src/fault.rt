@@ -13,7 +13,7 @@ pub enum ShellFault {
     /// The line of this number, counted from 1, isn't allowed.
     #[error("bad line {0}")]
     BadLine(u64),
-    /// What was read is no page.
+    /// The bytes that were read are no page.
     #[error("bad page {}", PageWords(*.0))]
     BadPage(PageFault),
     /// The reader answered an error that is no interruption, or its reads were interrupted over and over.

@@ -13,7 +13,7 @@ use std::alloc::Global;
 use std::io::Read;
 use std::marker::Model;
 
-/// What was read and not used yet, from `start` to `end` of a buffer that never grows.
+/// Bytes that were read and not used yet, from `start` to `end` of a buffer that never grows.
 #[derive(Drop)]
 pub(crate) struct Pending {
     bytes: Vec<u8>,

@@ -1,4 +1,4 @@
-//! What the engine shows: its ids, its pages and its indexes.
+//! Shows the engine: its ids, its pages and its indexes.
 
 ghost use Rattle.std.specs.Prelude.{◌≡◌, ◌++◌, OnOk};
 ghost use Rattle.std.specs.Option.{option_map};

@@ -1,4 +1,4 @@
-//! What the outside refused.
+//! The log of what the outside refused.
 
 ghost use Rattle.std.specs.Prelude.{[], ◌≡◌, ◌≢◌, ◌↔◌, ◌+◌, ℕ, Ok, OnErr, OnOk, IfOk, IfErr, MatchOption, IsTrue, false, true, ◌<◌, length, nat_lt};
 ghost use Rattle.std.specs.Io.KnownBytes.{ReadConsumes, WriteAppends};
@@ -23,8 +23,8 @@ use std::marker::{Model, PhantomData};
 use std::sync::Wait;
 use std::thread::Threads;
 
-/// Whether the last read, the last write, and any growth were refused. The shell calls its reader and its writer and makes its
-/// engine through this alone, and hands it each growth that was refused, so that a fault can be told from one that it made up.
+/// Notes whether the last read, the last write, and any growth were refused. The shell calls its reader and its writer and makes
+/// its engine through this alone, and hands it each growth that was refused, so that a fault can be told from one that it made up.
 /// Nothing else marks it, it can't be copied, and it takes calls of one type of reader and one of writer, so that no other reader
 /// or writer marks it.
 ///
@@ -57,7 +57,7 @@ impl<R, W> Model for IoLog<R, W> {
     } };
 }
 
-// Whether an error says that the call was interrupted.
+// True where an error says that the call was interrupted.
 pub(crate) fn is_interruption(e: &io::Error) -> bool
     ensures { IsTrue result ↔ (error_kind e.now ≡ Interrupted) }
 {
@@ -82,28 +82,28 @@ impl<R, W> IoLog<R, W> {
         }
     }
 
-    /// Whether the last read answered an error that is no interruption.
+    /// True where the last read answered an error that is no interruption.
     pub fn input(&self) -> bool
         ensures { result ≡ self.now.input }
     {
         self.input
     }
 
-    /// Whether the last write answered such an error, or took nothing of what there was.
+    /// True where the last write answered such an error, or took nothing of what there was.
     pub fn output(&self) -> bool
         ensures { result ≡ self.now.output }
     {
         self.output
     }
 
-    /// Whether a growth was refused.
+    /// True where a growth was refused.
     pub fn memory(&self) -> bool
         ensures { result ≡ self.now.memory }
     {
         self.memory
     }
 
-    /// Whether a call may be made, also one that was interrupted.
+    /// True where a call may be made, also one that was interrupted.
     pub(crate) fn may_try(&self) -> bool
         ensures { result ≡ nat_lt self.now.interrupted 18446744073709551615 }
     {

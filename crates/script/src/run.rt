@@ -26,7 +26,7 @@ use session_core::{Engine, Reply, Settings};
 use std::alloc::Global;
 use std::io::{Read, Write};
 
-// So much text is written out though more could be read without waiting.
+// Text is written out once there is this much, though more could be read without waiting.
 const FULL: usize = 32768;
 
 #[derive(Drop)]

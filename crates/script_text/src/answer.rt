@@ -154,7 +154,7 @@ fn refusal(out: &mut Vec<u8>, refusal: Refusal) -> Result<(), RefusedGrowth>
     }
 }
 
-// What a step of a vacuum did.
+// The work that a step of a vacuum did.
 fn piece(out: &mut Vec<u8>, piece: Piece) -> Result<(), RefusedGrowth>
     ensures { OnOk result (out.new.items ≡ out.old.items ++ piece_text piece) }
 {

@@ -1,9 +1,9 @@
-//! What the words behind the program's name ask for.
+//! The command in the words behind the program's name.
 
 ghost use Rattle.std.specs.Prelude.{◌≡◌, ◌↔◌, Some, None, codes};
 ghost use Rattle.std.specs.Option.{option_map};
 
-/// What the program is to do.
+/// The work that the program is to do.
 #[derive(Clone, Copy, Debug, PartialEq, Eq)]
 pub enum Command {
     /// To run the script on standard input.
@@ -19,8 +19,8 @@ pub enum Command {
 /// How the program is called.
 pub const USAGE: &str = "usage: heapsh run|threads|inspect";
 
-/// What the first two words ask for: a script is run where `run` is the only word, done by threads where `threads` is, and a page looked
-/// into where `inspect` is.
+/// The command in the first two words: a script is run where `run` is the only word, done by threads where `threads` is, and a page
+/// looked into where `inspect` is.
 pub fn command_of(first: Option<&str>, second: Option<&str>) -> Command
     ensures run { result ≡ Command.Run
         ↔

@@ -8,7 +8,7 @@ ghost use Rattle.std.specs.Prelude.{◌≡◌, ◌∷◌, ◌++◌, ◌+◌, ◌
 use calls::Action;
 use std::alloc::Global;
 
-/// That a growth was refused.
+/// A growth was refused.
 #[derive(Drop)]
 pub struct RefusedGrowth {
     _of_this_module: (),

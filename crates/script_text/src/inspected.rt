@@ -1,4 +1,4 @@
-//! The text of a page whose bytes are looked into.
+//! The text that tells the bytes of a page.
 
 ghost use Rattle.std.specs.Prelude.{◌≡◌, ◌≤◌, ◌<◌, ◌+◌, ◌*◌, ◌∷◌, ◌++◌, length, OnOk, Some, if◌then◌else◌};
 ghost use Rattle.page_layout.specs.declared.sizes.TheConstants.{PAGE_BYTES};
@@ -47,7 +47,7 @@ fn marks(out: &mut Vec<u8>, header: &Header) -> Result<(), RefusedGrowth>
     spaced_hex(out, header.mask)
 }
 
-// What is told of a version besides its ids and its key.
+// The place and the marks of a version, told besides its ids and its key.
 fn slot_bytes(out: &mut Vec<u8>, word: u32, slot: &Slot) -> Result<(), RefusedGrowth>
     ensures { OnOk result (out.new.items ≡ out.old.items ++ bytes_text word slot.now) }
 {
@@ -75,7 +75,7 @@ fn line(out: &mut Vec<u8>, bytes: &[u8], index: u16, one: &Slot) -> Result<(), R
     slot_bytes(out, word_at(bytes, usize::from(index)), one)
 }
 
-// The same, where there is such a slot.
+// As above, if there is such a slot.
 #[tactic(auto, unfolding(crate::specs::Inspected::inspected_line))]
 fn line_if_there(
     out: &mut Vec<u8>,

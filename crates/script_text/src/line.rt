@@ -14,7 +14,7 @@ use std::alloc::Global;
 /// The longest line, its line feed not counted.
 pub const MOST_LINE_BYTES: usize = 4096;
 
-/// What a line asks for.
+/// A line of a script, as it was read.
 #[derive(Debug, Drop)]
 pub enum Line {
     /// A step of the engine.
@@ -145,7 +145,7 @@ fn page(word: &[u8]) -> Option<u32>
     Some(p as u32)
 }
 
-// What a line asks for that begins with `vacuum`.
+// Reads a line that begins with `vacuum`.
 fn vacuum_line(words: &[u8]) -> Option<Line>
     ensures { result ≡ vacuum_line_of words.now }
 {
@@ -164,7 +164,7 @@ fn vacuum_line(words: &[u8]) -> Option<Line>
     }
 }
 
-// What a line asks for that begins with this word, one of those that are asked for less often.
+// Reads a line that begins with this word, one of those that are used less often.
 fn other_line(alloc: Global, word: &[u8], rest: &[u8]) -> Result<Option<Line>, RefusedGrowth>
     ensures { IfOk result (λ o. o ≡ line_in other_verbs word.now rest.now) }
 {
@@ -201,7 +201,7 @@ fn other_line(alloc: Global, word: &[u8], rest: &[u8]) -> Result<Option<Line>, R
     }
 }
 
-// What a line asks for that begins with this word; the most usual words come first.
+// Reads a line that begins with this word; the most usual words come first.
 fn line_for(alloc: Global, word: &[u8], rest: &[u8]) -> Result<Option<Line>, RefusedGrowth>
     ensures { IfOk result (λ o. o ≡ line_in (usual_verbs ++ other_verbs) word.now rest.now) }
 {
@@ -241,7 +241,7 @@ pub(crate) fn read_line(alloc: Global, line: &[u8]) -> Result<Option<Line>, Refu
     }
 }
 
-/// What a line asks for, if it is allowed. The line has no line feed.
+/// Reads a line, if it is allowed. The line has no line feed.
 pub fn line_at(alloc: Global, line: &[u8]) -> Result<Option<Line>, RefusedGrowth>
     ensures { IfOk result (λ o. Spells line.now o) }
 {

@@ -29,7 +29,7 @@ fn redirect(word: &[u8]) -> Option<(u16, Action)>
     Some((n, Action::Redirect(target)))
 }
 
-// What is done to a slot.
+// Reads an action, and the slot that it is done to.
 #[tactic(auto, unfolding(crate::specs::Reading::action_of))]
 fn action(word: &[u8]) -> Option<(u16, Action)>
     ensures { option_map (λ a. (a.0, a.1)) result ≡ action_of word.now }
@@ -46,7 +46,7 @@ fn action(word: &[u8]) -> Option<(u16, Action)>
     }
 }
 
-// What is done to slots, one at least.
+// Reads actions, one at least.
 fn actions(alloc: Global, words: &[u8]) -> Result<Option<Vec<(u16, Action)>>, RefusedGrowth>
     ensures { IfOk result (λ o. option_map (λ v. v.items) o ≡ actions_of (words_of words.now)) }
 {

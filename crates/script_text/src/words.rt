@@ -15,7 +15,7 @@ fn place(text: &[u8], byte: u8) -> Option<usize>
     text.iter().position(|b| *b == byte)
 }
 
-// What stands before the first of these bytes, and what stands behind it.
+// The text before the first of these bytes, and the text behind it.
 pub(crate) fn cut_at(text: &[u8], byte: u8) -> Option<(&[u8], &[u8])>
     ensures { option_map (λ x. (x.0.now, x.1.now)) result ≡ cut_at_of byte text.now }
 {
@@ -23,14 +23,14 @@ pub(crate) fn cut_at(text: &[u8], byte: u8) -> Option<(&[u8], &[u8])>
     Some((&text[..i], &text[i + 1..]))
 }
 
-// The word at the front, and what stands behind the space after it.
+// The word at the front, and the text behind the space after it.
 pub(crate) fn cut(text: &[u8]) -> Option<(&[u8], &[u8])>
     ensures { option_map (λ x. (x.0.now, x.1.now)) result ≡ cut_of text.now }
 {
     cut_at(text, b' ')
 }
 
-// What digits spell in a number of this type, up to a highest.
+// The number of this type that digits spell, up to a highest.
 macro_rules! spelled {
     ($digits:ident, $number:ty, $max:ident) => {{
         let mut n: $number = 0;
@@ -64,7 +64,7 @@ fn wide_digits(word: &[u8], max: u128) -> Option<u128>
     spelled!(word, u128, max)
 }
 
-// Whether a word is empty, or has a zero in front of another digit.
+// True where a word is empty, or has a zero in front of another digit.
 fn is_misspelled(word: &[u8]) -> bool
     ensures { result
         ≡ (length word.now == 0) || (nat_lt 1 (length word.now) && (slice_index word.now 0 == 48)) }
@@ -84,7 +84,7 @@ pub(crate) fn number(word: &[u8], max: u64) -> Option<u64>
     digits(word, max)
 }
 
-// The same of a number that may need 128 bits, whose arithmetic is slower.
+// As above, for a number that may need 128 bits, whose arithmetic is slower.
 #[tactic(auto, unfolding(crate::specs::Reading::number_of))]
 fn wide_number(word: &[u8], max: u128) -> Option<u128>
     ensures value { result ≡ number_of max word.now }
@@ -96,7 +96,7 @@ fn wide_number(word: &[u8], max: u128) -> Option<u128>
     wide_digits(word, max)
 }
 
-// A number, and what stands behind the space after it.
+// A number, and the text behind the space after it.
 #[tactic(auto, unfolding(crate::specs::Reading::number_then))]
 pub(crate) fn number_then(text: &[u8], max: u64) -> Option<(u64, &[u8])>
     ensures value { option_map (λ x. (x.0, x.1.now)) result ≡ number_then_of max text.now }
@@ -124,7 +124,7 @@ fn column(word: &[u8]) -> Option<i64>
     }
 }
 
-// A column, and what stands behind the space after it.
+// A column, and the text behind the space after it.
 #[tactic(auto, unfolding(crate::specs::Reading::signed_then))]
 pub(crate) fn column_then(text: &[u8]) -> Option<(i64, &[u8])>
     ensures { option_map (λ x. (x.0, x.1.now)) result ≡ column_then_of text.now }
@@ -152,7 +152,7 @@ pub(crate) fn bound(word: &[u8]) -> Option<i128>
     }
 }
 
-// A bound, and what stands behind the space after it.
+// A bound, and the text behind the space after it.
 #[tactic(auto, unfolding(crate::specs::Reading::signed_then))]
 pub(crate) fn bound_then(text: &[u8]) -> Option<(i128, &[u8])>
     ensures { option_map (λ x. (x.0, x.1.now)) result ≡ bound_then_of text.now }

@@ -16,13 +16,13 @@ use std::alloc::Global;
 pub struct WorkerStep {
     /// The worker, from 0 to 7.
     pub worker: u8,
-    /// Whether the step is done again for as long as it is answered Busy.
+    /// True where the step is done again for as long as it is answered Busy.
     pub wait: bool,
     /// The step.
     pub step: Step,
 }
 
-// Whether the first word says that the step waits, and the words of the step.
+// True where the first word says that the step waits; and the words of the step.
 fn wait_at(words: &[u8]) -> (bool, &[u8])
     ensures { (result.0, result.1.now) ≡ waits_in (cut_of words.now) words.now }
 {
@@ -36,7 +36,7 @@ fn wait_at(words: &[u8]) -> (bool, &[u8])
     }
 }
 
-// What the words behind the worker's number ask for.
+// Reads the step in the words behind the worker's number.
 #[tactic(auto, unfolding(crate::specs::Workers::words_at))]
 fn words_at(alloc: Global, worker: u8, words: &[u8]) -> Result<Option<WorkerStep>, RefusedGrowth>
     ensures { IfOk result (λ o. o ≡ words_at_of worker words.now) }
@@ -61,7 +61,7 @@ fn read_worker(alloc: Global, line: &[u8]) -> Result<Option<WorkerStep>, Refused
     words_at(alloc, worker as u8, words)
 }
 
-/// What a line of a script for threads asks for, if it is allowed. The line has no line feed.
+/// Reads the step in a line of a script for threads, if it is allowed. The line has no line feed.
 pub fn worker_step_at(alloc: Global, line: &[u8]) -> Result<Option<WorkerStep>, RefusedGrowth>
     ensures { IfOk result (λ o. SpellsWorker line.now o) }
 {

@@ -1,3 +1,4 @@
+-- To believe, 5 of 5 (docs/reading.md).
 -- What an engine promises of each step, whose sessions wait for each other.
 use Rattle.std.specs.Prelude.{◌≡◌, ℕ, Some, None, true, replicate, slice_set}
 use Rattle.std.specs.Option.{option_map}

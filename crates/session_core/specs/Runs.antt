@@ -29,18 +29,13 @@ pub record Ran (settings : Settings) (steps : List Step) (replies : List Reply) 
   pub leads : RepliesLead first steps replies last
   pub agrees : WaitingAgrees last (after (beginning settings.indexed) steps replies)
 
--- What had to grow, where memory was refused: the list of the replies, before the first step, or the copy of a step with a body,
--- when those before it were done.
+-- What had to grow, where memory was refused when there was an engine: the list of the replies, before the first step, or the copy
+-- of a step with a body, when those before it were done.
 pub data WantsMemory (old : WaitingView) (steps : List Step) (new : WaitingView) : Type 0 where
   for_replies : 0 < length steps → old ≡ new → WantsMemory old steps new
   for_copy : (done more : List Step) (step : Step) (replies : List Reply) → steps ≡ done ++ step ∷ more → RepliesLead old done replies new → HasBody step → WantsMemory old steps new
 
--- memory was refused to a new engine, or when there was one
-pub data WantsToRun (settings : Settings) (steps : List Step) : Type 0 where
-  for_engine : AreSettings settings → WantsToRun settings steps
-  for_steps : (first last : WaitingView) → IsNewWaiting settings first → AreSettings settings → WantsMemory first steps last → WantsToRun settings steps
-
--- a setting is the first out of its range, or all are in theirs and memory was refused
-abbrev pub FirstRunFault : Settings → List Step → RunFault → Type 0
-FirstRunFault settings steps (fault.Settings f) = FirstFault settings f × (f ≡ setting.NoMemory → ⊥)
-FirstRunFault settings steps fault.NoMemory = WantsToRun settings steps
+-- a setting is the first out of its range, or all are in theirs; then memory was refused, as no definition can say
+abbrev pub FirstRunFault : Settings → RunFault → Type 0
+FirstRunFault settings (fault.Settings f) = FirstFault settings f × (f ≡ setting.NoMemory → ⊥)
+FirstRunFault settings fault.NoMemory = AreSettings settings

@@ -30,8 +30,8 @@ use vacuum_passes::Vacuum;
 use waits::Waits;
 use xid_circle::Xid;
 
-/// A table with its sessions, of which there may be 64 open at a time, and a vacuum. It is kept for whom each session waits, and of
-/// ids that were asked for last what became of them: after each step as the table has it.
+/// A table with its sessions, at most 64 open at a time, and a vacuum. It also keeps who waits for whom, and a cache of the
+/// statuses of ids asked for last, which agrees with the table after each step.
 #[derive(Drop)]
 pub struct Engine {
     pub(crate) alloc: Global,
@@ -56,7 +56,7 @@ impl Model for Engine {
     ghost invariant = { λ e. KeepsCache e.cache e.core.heap.statuses };
 }
 
-/// Whether a step is a session's, be that open or not.
+/// True where a step is a session's, open or not.
 fn is_session(step: &Step) -> bool
     ensures { result ≡ is_session step.now }
 {
@@ -71,7 +71,7 @@ fn is_session(step: &Step) -> bool
     }
 }
 
-/// The session whose step it is, be that open or not.
+/// The session whose step it is, open or not.
 fn session_of(step: &Step) -> Option<u8>
     ensures { result ≡ session_of step.now }
 {
@@ -102,7 +102,7 @@ fn session_of(step: &Step) -> Option<u8>
     }
 }
 
-/// Whether a step gives back the keys of a level, or of all, where it is done.
+/// True where a step gives back the keys of a level, or of all, if it is done.
 fn gives_back(step: &Step) -> bool
     ensures { result ≡ gives_back step.now }
 {
@@ -162,7 +162,7 @@ impl Engine {
         self.note(s, gives, reply);
     }
 
-    /// Does one step without a look at who waits for whom.
+    /// Does one step, and leaves it to the caller to note who waits for whom.
     #[inline(always)]
     fn step_below(&mut self, step: Step, reply: &mut Reply)
         ensures follows { EngineFollows self.old.engine step reply.new self.new.engine }
@@ -195,10 +195,10 @@ impl Engine {
     }
 
     /// Writes the next rows of the session's cursor to the first places, and answers how many there are: none exactly where nothing
-    /// is left. It is answered as `Step::Next` of as many rows as there are places. But of the heap it hands out up to so many rows of
-    /// the next page, and what that page has left over is handed out by the next call; and it takes no memory. Places behind the
-    /// rows, and the bytes behind each body, stay as they were. Of a cursor over keys the key alone is written, and all else in its
-    /// place stays. Refusals in order: NoSuchSession, NotOpen, Failed, NoCursor.
+    /// is left. It is answered as `Step::Next` of as many rows as there are places. But of the heap it hands out up to so many rows
+    /// of the next page, and the next call hands out what that page has left over; and it takes no memory. Places behind the rows,
+    /// and the bytes behind each body, stay as they were. Of a cursor over keys the key alone is written, and all else in its place
+    /// stays. Refusals in order: NoSuchSession, NotOpen, Failed, NoCursor.
     pub fn next_rows(&mut self, s: u8, places: &mut [RowPlace]) -> Result<usize, Refusal>
         requires { 0 < length places.old }
         ensures { EngineNextRows self.old s places.old result places.new self.new }

@@ -21,8 +21,8 @@ use vacuum_passes::Vacuum;
 use xid_circle::{Tid, Xid};
 
 impl Engine {
-    /// The place to which the next entry of the key leads, in the order of the index by key: the first after the entry that leads to a
-    /// place, be that still there or not, or the first of all.
+    /// The place to which the next entry of the key leads, in the order of the index by key: the first after the entry that leads
+    /// to a place, still there or not, or the first of all.
     pub fn next_entry(&self, key: u64, after: Option<Tid>) -> Option<Tid>
         ensures { IsNextEntry self.now.engine.core key after result }
     {
@@ -50,7 +50,7 @@ impl Engine {
         self.core.open_session(s)
     }
 
-    /// For whom the session waits, if for anybody.
+    /// The session that this one waits for, if there is one.
     pub fn wait_of(&self, s: u8) -> Option<u8>
         ensures { result ≡ wait_at self.now s }
     {
@@ -64,7 +64,7 @@ impl Engine {
         self.core.horizon()
     }
 
-    /// Who holds the horizon back: the lowest session that does. Where none does, it is the next id.
+    /// The lowest session that holds the horizon back. Where none does, the horizon is the next id.
     pub fn horizon_holder(&self) -> Option<HorizonHolder>
         ensures { IsHolder self.now.engine.core result }
     {
@@ -80,7 +80,7 @@ impl Engine {
         session_looks::owner_of(&self.core, x)
     }
 
-    /// What pruning would do to a slot now, if the page is in use.
+    /// The fate of a slot: what pruning would do to it now, if the page is in use.
     pub fn slot_fate(&self, page: u32, slot: u16) -> Option<SlotFate>
         ensures { MatchOption result (slice_get self.now.engine.core.heap.pages.pages page ≡ None)
             (λ fate. IsFate self.now.engine.core.heap.statuses (horizon_of self.now.engine.core)

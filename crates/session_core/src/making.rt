@@ -8,7 +8,7 @@ use crate::engine::Engine;
 use calls::{Refusal, Reply};
 
 impl Engine {
-    /// Whether a vacuum bars the making of the index by a column: one runs, and the index is not there and may be made.
+    /// True where a vacuum bars the making of the index by a column: one runs, and the index is not there and may be made.
     fn vacuum_bars_index(&self, column: u8) -> bool
         ensures { IsTrue result
             ↔ (IsSome self.now.engine.vacuum × LacksIndexOn self.now.engine.core column) }

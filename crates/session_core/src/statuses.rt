@@ -1,4 +1,4 @@
-//! What became of an id.
+//! The status of an id.
 
 ghost use Rattle.std.specs.Prelude.{◌≡◌};
 ghost use Rattle.commit_status.specs.Window.{status_of};
@@ -10,7 +10,7 @@ use commit_status::{Status, StatusTable};
 use status_cache::StatusCache;
 use xid_circle::Xid;
 
-/// What became of an id, by the cache, if there is one.
+/// The status of an id, by the cache, if there is one.
 fn status_by(cache: &mut Option<StatusCache>, statuses: &StatusTable, x: Xid) -> Status
     requires { KeepsCache cache.old statuses.now }
     ensures value { result ≡ status_of statuses.now x.0 }
@@ -25,9 +25,9 @@ fn status_by(cache: &mut Option<StatusCache>, statuses: &StatusTable, x: Xid) ->
 }
 
 impl Engine {
-    /// What became of an id, such as one that a version on a page names; nothing where it was not given, or is forgotten. It is no step,
-    /// and changes nothing. Ids that were asked for last are told by the engine's cache, others by its table, with the same answer.
-    /// (pg_xact_status in the manual's "Transaction ID and Snapshot Information Functions".)
+    /// The status of an id, such as one that a version on a page names; nothing where it was not given, or is forgotten. It is no
+    /// step, and changes nothing. Ids that were asked for last are told by the engine's cache, others by its table, with the same
+    /// answer. (pg_xact_status in the manual's "Transaction ID and Snapshot Information Functions".)
     pub fn status_of(&mut self, x: Xid) -> Option<Status>
         ensures same { self.new ≡ self.old }
         ensures value { result ≡ state_of self.old.engine.core.heap.statuses x.0 }

@@ -83,7 +83,7 @@ impl Engine {
         truncate(&mut self.cache, cutoff);
     }
 
-    /// Drops the vacuum. What it did stays. Refusals: NoVacuum. It takes no memory.
+    /// Drops the vacuum. Its work stays. Refusals: NoVacuum. It takes no memory.
     pub(crate) fn cancel_vacuum(&mut self, reply: &mut Reply)
         ensures exact { ExactVacuumCancel self.old.engine reply.new self.new.engine }
         ensures waits { self.new.waits ≡ self.old.waits }

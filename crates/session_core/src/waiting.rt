@@ -1,4 +1,4 @@
-//! For whom each session waits.
+//! The waits: which session each one waits for.
 
 ghost use Rattle.std.specs.Prelude.{◌≡◌, ◌≢◌, ◌&&◌, not, ℕ, if◌then◌else◌, false, None, slice_set, MatchOption};
 ghost use Rattle.session_core.specs.State.{woken, with_waits};
@@ -22,7 +22,7 @@ fn holder_in(reply: &Reply) -> Option<u8>
     }
 }
 
-/// Whether a step with this reply gives back keys: it would, and was not refused.
+/// True where a step with this reply gives back keys: it would, and was not refused.
 fn gave_back(reply: &Reply, gives: bool) -> bool
     ensures { result ≡ (not (was_refused reply.now) && gives) }
 {
@@ -34,7 +34,8 @@ fn gave_back(reply: &Reply, gives: bool) -> bool
 
 impl Engine {
     /// Notes what the reply to a step of the session makes of the waits: by any step its own wait ends, and by Busy one begins.
-    /// Where that would close a ring the session fails, and the reply is Deadlock. Who gives back keys is awaited no more.
+    /// Where that would close a ring the session fails, and the reply is Deadlock. A session that gives back keys is awaited no
+    /// more.
     pub(crate) fn note(&mut self, s: u8, gives: bool, reply: &mut Reply)
         ensures { NotesWait self.old s gives reply.old self.new reply.new }
     {

@@ -17,7 +17,7 @@ use slot_fates::SlotFate;
 use xid_circle::Tid;
 
 /// The place to which the next entry of the key leads, in the order of the index by key: the first after the entry that leads to a
-/// place, be that still there or not, or the first of all.
+/// place, still there or not, or the first of all.
 pub fn next_entry(engine: &SessionEngine, key: u64, after: Option<Tid>) -> Option<Tid>
     ensures { IsNextEntry engine.now key after result }
 {
@@ -44,7 +44,7 @@ fn explain_on(
     shown_version(page, place.slot, n, &reader)
 }
 
-/// The same on any page. One that is not in use has no chains.
+/// As above, on any page. A page that is not in use has no chains.
 fn explain_to(
     engine: &SessionEngine,
     session: &Session,
@@ -78,7 +78,7 @@ pub fn explain(
     }
 }
 
-/// What pruning would do to a slot now, if the page is in use.
+/// The fate of a slot: what pruning would do to it now, if the page is in use.
 pub fn slot_fate(engine: &SessionEngine, page: u32, slot: u16) -> Option<SlotFate>
     ensures { MatchOption result (slice_get engine.now.heap.pages.pages page ≡ None)
         (λ fate. IsFate engine.now.heap.statuses (horizon_of engine.now)

@@ -1,4 +1,4 @@
-//! Who holds the horizon back, and who has an id.
+//! The session that holds the horizon back, and the session that has an id.
 
 ghost use Rattle.std.specs.Prelude.{◌≡◌, ◌<◌, ◌↔◌, ℕ, IsTrue, IsSome, MatchOption, take, Contains};
 ghost use Rattle.commit_status.specs.Window.{IsActive};
@@ -19,7 +19,7 @@ pub enum Hold {
     ById,
 }
 
-/// Who holds the horizon back.
+/// The session that holds the horizon back, and by what.
 #[derive(Clone, Copy, Debug, PartialEq, Eq)]
 pub struct HorizonHolder {
     /// The lowest session that does.
@@ -28,7 +28,7 @@ pub struct HorizonHolder {
     pub by: Hold,
 }
 
-/// Whether an id is the xmin of the snapshot that a session keeps.
+/// True where an id is the xmin of the snapshot that a session keeps.
 fn is_kept_xmin(isolation: &SessionIsolation, x: Xid) -> bool
     ensures { IsTrue result ↔ Contains (kept_xmin (kept_by isolation.now)) x.0 }
 {
@@ -38,7 +38,7 @@ fn is_kept_xmin(isolation: &SessionIsolation, x: Xid) -> bool
     }
 }
 
-/// Whether an id is the first of own ids.
+/// True where an id is the first of own ids.
 fn is_first(own: &OwnIds, x: Xid) -> bool
     ensures { IsTrue result ↔ Contains (take 1 own.now.ids) x.0 }
 {
@@ -74,7 +74,7 @@ fn hold_at(engine: &SessionEngine, s: u8, horizon: Xid) -> Option<Hold>
     }
 }
 
-/// Who holds the horizon back: the lowest session that does. Where none does, the horizon is the next id.
+/// The lowest session that holds the horizon back. Where none does, the horizon is the next id.
 pub fn horizon_holder(engine: &SessionEngine) -> Option<HorizonHolder>
     ensures { IsHolder engine.now result }
 {
@@ -88,7 +88,7 @@ pub fn horizon_holder(engine: &SessionEngine) -> Option<HorizonHolder>
     None
 }
 
-/// Whether the session is open, and has the id.
+/// True where the session is open, and has the id.
 fn has_id(engine: &SessionEngine, s: u8, x: Xid) -> bool
     requires { s < MOST_SESSIONS }
     ensures { IsTrue result ↔ HasId engine.now x.0 s }

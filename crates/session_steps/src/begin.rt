@@ -52,7 +52,7 @@ impl SessionEngine {
         )
     }
 
-    /// That the session may begin. Refusals in order: NoSuchSession, AlreadyOpen.
+    /// Tests whether the session may begin. Refusals in order: NoSuchSession, AlreadyOpen.
     fn may_begin(&self, s: u8) -> Result<(), Refusal>
         ensures { MatchResult result
             (λ _. (s < MOST_SESSIONS) × (session_at self.now s ≡ None))

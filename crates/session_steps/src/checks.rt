@@ -1,4 +1,4 @@
-//! What every write of a session asks first, and what it answers.
+//! The tests that every write of a session makes first, and its answers.
 
 ghost use Rattle.std.specs.Prelude.{◌≡◌, ◌≢◌, ◌≤◌, ℕ, length, MatchOption, MatchResult, Some, None, Contains, Err};
 ghost use Rattle.session_steps.specs.Keeps.{open_at};
@@ -31,8 +31,8 @@ fn owner(sessions: &[Option<Session>], x: Xid) -> Option<u8>
 }
 
 impl SessionEngine {
-    /// The place of the version of the key that a session reads; and where the key's last entry stands, or would, as a hint, or what
-    /// keeps it from writing the key, whatever it reads of it. Tests in order: Conflict, Busy.
+    /// The place of the version of the key that a session reads; and a hint where the key's last entry is, or would be, or else the
+    /// refusal that bars it from writing the key, whatever it reads of it. Tests in order: Conflict, Busy.
     fn write_conflict(
         &self,
         session: &Session,
@@ -59,8 +59,8 @@ impl SessionEngine {
         }
     }
 
-    /// What keeps a session that may act from inserting a row of the key; else a hint where its entry goes. Tests in order:
-    /// AlreadyThere, Conflict, Busy.
+    /// The refusal that bars a session that may act from inserting a row of the key; else a hint where its entry goes. Tests in
+    /// order: AlreadyThere, Conflict, Busy.
     pub(crate) fn check_insert(&self, session: &Session, key: u64) -> Result<PositionHint, Refusal>
         ensures { (s : ℕ) → MayAct self.now s session.now
             → MatchResult result (λ _. MayWriteKey self.now s key None)

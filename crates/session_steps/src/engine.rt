@@ -26,7 +26,7 @@ use std::marker::Model;
 use table_scans::CursorScan;
 use xid_circle::Xid;
 
-/// A table with its sessions, of which there may be 64 open at a time.
+/// A table with its sessions, at most 64 open at a time.
 #[derive(Drop)]
 pub struct SessionEngine {
     pub(crate) alloc: Global,

@@ -15,8 +15,7 @@ use table_scans::{no_row, resolve};
 use tuple_header::RowRef;
 
 impl SessionEngine {
-    /// The row of the key that the session reads, where it stands. Refusals in order: NoSuchSession, NotOpen, Failed. It takes no
-    /// memory.
+    /// Borrows the row of the key that the session reads. Refusals in order: NoSuchSession, NotOpen, Failed. It takes no memory.
     #[inline(always)]
     pub fn look_up(&self, s: u8, key: u64) -> Result<Option<RowRef<'_>>, Refusal>
         ensures answers { AnswersStep self.now (Step.Get s key) (found_reply result) self.now }

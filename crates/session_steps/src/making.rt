@@ -11,7 +11,7 @@ use crate::session::{Session, SessionIsolation};
 use calls::Refusal;
 
 impl SessionIsolation {
-    /// Whether a session reads by the snapshot of its beginning.
+    /// True where a session reads by the snapshot of its beginning.
     fn reads_by_snapshot(&self) -> bool
         ensures { result ≡ reads_by_snapshot self.now }
     {
@@ -23,7 +23,7 @@ impl SessionIsolation {
 }
 
 impl Session {
-    /// Whether the index of this number was made in use while the session was open by snapshot.
+    /// True where the index of this number was made while the session was open by snapshot.
     pub(crate) fn is_too_new(&self, index: u8) -> bool
         ensures { result ≡ is_too_new self.now index }
     {
@@ -88,7 +88,7 @@ impl SessionEngine {
         first_with_id(self.sessions.places_in_use())
     }
 
-    /// Whether there is no index by the column, and may be one.
+    /// True where there is no index by the column, and there may be one.
     pub fn lacks_index(&self, column: u8) -> bool
         ensures { IsTrue result ↔ LacksIndexOn self.now column }
     {

@@ -16,7 +16,7 @@ use std::alloc::AllocError;
 use table_scans::{CursorScan, KeyRange, Scan, put_next, take_keys, take_next};
 use tuple_header::RowPlace;
 
-/// That there are no more places than rows fit into a list. It does nothing; its contract is the fact.
+/// There are no more places than rows fit into a list. It does nothing; its contract is the fact.
 fn fact_few(places: &[RowPlace])
     ensures { length places.now < 2 ^ 63 }
 {
@@ -56,8 +56,8 @@ impl SessionEngine {
         }
     }
 
-    /// Puts what [`SessionEngine::next`] answers in the place of another reply. It stands alone, so that a reply by value is cleared
-    /// only where one is made.
+    /// Puts the answer of [`SessionEngine::next`] in the place of another reply. It is a function of its own, so that a reply by
+    /// value is cleared only where one is made.
     #[inline(never)]
     pub(crate) fn next_into(&mut self, s: u8, n: u16, reply: &mut Reply)
         ensures { AnswersStep self.old (Step.Next s n) reply.new self.new }

@@ -1,4 +1,4 @@
-//! What a step answers that hands out no row.
+//! The answers of steps that hand out no row.
 
 ghost use Rattle.std.specs.Prelude.{◌≡◌};
 ghost use Rattle.session_steps.specs.Replies.{reply_to};
@@ -8,18 +8,19 @@ use calls::{Refusal, Reply};
 use heap_write::WriteFault;
 use xid_circle::Xid;
 
-/// What a step has done that hands out no row. A `Reply` has room for one, which costs wherever it is made or handed on.
+/// The answer of a step that was done, and hands out no row. A `Reply` has room for one, which costs wherever it is made or handed
+/// on.
 #[derive(Clone, Copy, Debug, PartialEq, Eq)]
 pub enum Ack {
     /// The step was done, and there is nothing else to say.
     Done,
-    /// What the session wrote is part of the history.
+    /// The session's writes are part of the history.
     Committed,
     /// The transaction was rolled back.
     RolledBack,
 }
 
-/// What a write answers.
+/// The answer of a write.
 pub(crate) fn write_answer(tried: Result<Xid, WriteFault>) -> Result<Ack, Refusal>
     ensures { reply_to result ≡ reply_for (outcome_of tried) }
 {

@@ -17,8 +17,8 @@ use xid_circle::Xid;
 pub enum SessionIsolation {
     /// By that of its beginning.
     BySnapshot(Snapshot),
-    /// Each of its statements by one of its own, which lists nobody and is not kept. Then the session keeps the snapshot by which its
-    /// cursor reads, from the opening of the cursor to its closing.
+    /// Each of its statements by one of its own, which lists nobody and is not kept. The session keeps its cursor's snapshot, from
+    /// the opening of the cursor to its closing.
     ByStatement(Option<Snapshot>),
 }
 
@@ -54,15 +54,16 @@ impl SessionIsolation {
     }
 }
 
-/// An open session: what it sees of others, its own ids, whether it can only be rolled back, its cursor if it has one, and by the column
-/// which indexes are too new for it: they were made while it was open by snapshot, and may lack rows that it reads.
+/// An open session: what it sees of others, its own ids, whether it can only be rolled back, its cursor if it has one, and for each
+/// column whether its index is too new for it: such indexes were made while it was open by snapshot, and may lack rows that it
+/// reads.
 #[derive(Drop)]
 pub struct Session {
-    /// By which snapshot it reads.
+    /// The snapshot by which it reads.
     pub isolation: SessionIsolation,
     /// Its own ids and its savepoints.
     pub own: OwnIds,
-    /// Whether it can only be rolled back.
+    /// True where it can only be rolled back.
     pub failed: bool,
     /// Its cursor, if it has one.
     pub cursor: Option<CursorScan>,
@@ -90,7 +91,7 @@ impl SessionEngine {
         place.insert(Snapshot::empty(self.alloc, self.heap.statuses().next()))
     }
 
-    /// The snapshot by which a statement of the session reads: its own, or one that is put in the place.
+    /// The snapshot of a statement of the session: the session's own, or a new one that is put in the place.
     fn statement_snapshot<'a>(
         &self,
         session: &'a Session,
@@ -104,7 +105,7 @@ impl SessionEngine {
         }
     }
 
-    /// That by which its cursor reads: the one that the session keeps, or else one that is put in the place.
+    /// The snapshot of its cursor: the one that the session keeps, or else a new one that is put in the place.
     fn cursor_snapshot<'a>(
         &self,
         session: &'a Session,

@@ -12,7 +12,7 @@ use calls::MOST_SESSIONS;
 use std::alloc::{AllocError, Global};
 use std::marker::Model;
 
-/// Places for 64 sessions. What looks at every open session looks at the places that were used so far, and no further.
+/// Places for 64 sessions. A look at every open session goes over the places that were used so far, and no further.
 #[derive(Drop)]
 pub(crate) struct Sessions {
     places: Vec<Option<Session>>,

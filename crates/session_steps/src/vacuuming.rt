@@ -26,8 +26,9 @@ fn id_before(next: Xid, age: u32) -> Xid
     Xid(next.0.wrapping_sub(age).max(3))
 }
 
-/// What a vacuum marks as frozen was made before this id: the earlier of the horizon and of the id given so long before the next
-/// one, and never before the first, the oldest that is remembered. (vacuum_freeze_min_age in the manual's "Routine Vacuuming".)
+/// A vacuum marks as frozen only what was made before this id: the earlier of the horizon and of the id given so long before the
+/// next one, and never before the first, the oldest that is remembered. (vacuum_freeze_min_age in the manual's "Routine
+/// Vacuuming".)
 fn cutoff(first: Xid, next: Xid, horizon: Xid, age: u32) -> Xid
     ensures { result.0 ≡ cutoff_at first.0 next.0 horizon.0 age }
 {
@@ -39,7 +40,7 @@ fn cutoff(first: Xid, next: Xid, horizon: Xid, age: u32) -> Xid
     }
 }
 
-/// Whether the id is remembered or the next.
+/// True where the id is remembered or the next.
 fn is_up_to_next(statuses: &StatusTable, x: Xid) -> bool
     ensures { IsTrue result ↔ IsUpToNext statuses.now x.0 }
 {
@@ -47,7 +48,7 @@ fn is_up_to_next(statuses: &StatusTable, x: Xid) -> bool
     x.0 == statuses.next().0 || statuses.remembers(x)
 }
 
-/// Whether none of these ids precedes the cutoff.
+/// True where none of these ids precedes the cutoff.
 fn are_from(ids: &[Xid], cutoff: Xid) -> bool
     ensures { IsTrue result
         ↔ ((x : ℕ) → Contains (numbers ids.now) x → ¬ Precedes x cutoff.0) }
@@ -60,7 +61,7 @@ fn are_from(ids: &[Xid], cutoff: Xid) -> bool
     true
 }
 
-/// Whether no open session has an id that precedes the cutoff.
+/// True where no open session has an id that precedes the cutoff.
 fn own_from(sessions: &[Option<Session>], cutoff: Xid) -> bool
     ensures { IsTrue result ↔ ((s : ℕ) (e : OpenSession) (x : ℕ)
         → open_at sessions.now s ≡ Some e → Contains e.own.ids x → ¬ Precedes x cutoff.0) }
@@ -76,8 +77,8 @@ fn own_from(sessions: &[Option<Session>], cutoff: Xid) -> bool
 }
 
 impl SessionEngine {
-    /// That its settings are in their ranges, and its indexes are those that it was made with. And that each own id of an open session
-    /// is in progress, there once, and no other's, and each id in progress a session's. There are 64 places for sessions. It does
+    /// The settings are in their ranges, and the indexes are those that the engine was made with. Each own id of an open session is
+    /// in progress, there once, and no other's, and each id in progress is a session's. There are 64 places for sessions. It does
     /// nothing; its contract is the fact.
     pub fn fact_set_up(&self)
         ensures set_up { IsSetUp self.now }
@@ -120,7 +121,7 @@ impl SessionEngine {
         }
     }
 
-    /// Whether the ids before this one can be forgotten.
+    /// True where the ids before this one can be forgotten.
     fn may_forget(&self, cutoff: Xid) -> bool
         ensures { IsTrue result ↔ MayForget self.now cutoff.0 }
     {

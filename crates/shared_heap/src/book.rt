@@ -14,7 +14,7 @@ use std::alloc::{AllocError, Global};
 use std::marker::Model;
 use table_scans::Ticket;
 
-/// An engine with the journal of the calls that it answered, oldest first: a run from a new engine, at whose end the engine is.
+/// An engine with the journal of the calls that it answered, oldest first: a run that leads from a new engine to this one.
 #[derive(Drop)]
 pub struct Book {
     alloc: Global,
@@ -58,7 +58,8 @@ impl Book {
         &self.engine
     }
 
-    /// The calls with what they were answered, oldest first: a run of the history from its beginning, with whose end the engine agrees.
+    /// The calls with what they were answered, oldest first: a run of the history from its beginning; the engine agrees with its
+    /// end.
     pub fn journal(&self) -> &[(Step, Reply)]
         ensures value { result.now ≡ self.now.journal }
         ensures run { HasRun self.now }

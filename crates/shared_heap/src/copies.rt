@@ -73,7 +73,7 @@ fn copy_keys(keys: &[u64], room: &mut Vec<u64>)
     }
 }
 
-/// The same reply, in room that was made for it. It takes no memory.
+/// A copy of the reply, in room that was made for it. It takes no memory.
 pub fn copy_reply(reply: &Reply, spare: Spare) -> Reply
     requires { ListFits reply.now spare }
     ensures { IsSame reply.now result }
@@ -101,7 +101,7 @@ pub fn copy_reply(reply: &Reply, spare: Spare) -> Reply
     }
 }
 
-/// Whether the step was refused as Busy.
+/// True where the step was refused as Busy.
 pub(crate) fn is_busy(reply: &Reply) -> bool
     ensures { result ≡ is_busy_reply reply.now }
 {

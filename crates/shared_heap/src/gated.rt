@@ -34,7 +34,7 @@ struct SharedWork<J: Request> {
     changed: Condvar,
 }
 
-/// What a worker does next.
+/// The next turn of a worker.
 #[derive(Clone, Copy)]
 enum Turn {
     /// Its next line.
@@ -93,7 +93,7 @@ fn do_list<J: Request, R: Wait, G: Gate>(rt: &R, shared: &SharedWork<J>, gate: &
     }
 }
 
-/// Has the workers begin no more lines. What they leave is done when all have ended.
+/// Has the workers begin no more lines. The lines that they leave are done when all have ended.
 fn stop<J: Request, R: Wait>(rt: &R, shared: &SharedWork<J>) {
     let mut work = shared.latch.lock(rt);
     work.stops = true;
@@ -119,7 +119,7 @@ pub fn run_gated<R: Threads + Wait + Sync, G: Gate + Sync>(
     do_all::<Brand, R, G>(rt, alloc, settings, lists, gate)
 }
 
-/// The same, for the settings and lists that the type of the work names.
+/// Does what [`run_gated`] does, for the settings and lists that the type of the work names.
 fn do_all<J: Request + Send + Sync, R: Threads + Wait + Sync, G: Gate + Sync>(
     rt: &R,
     alloc: Global,

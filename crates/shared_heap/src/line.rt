@@ -8,7 +8,7 @@ use std::alloc::{AllocError, Global};
 /// A step that a worker is to do.
 #[derive(Debug, Drop)]
 pub struct WorkerLine {
-    /// Whether it is done again for as long as it is answered Busy.
+    /// True where it is done again for as long as it is answered Busy.
     pub wait: bool,
     /// The step.
     pub step: Step,

@@ -1,4 +1,4 @@
-//! What a run was asked for.
+//! The request of a run.
 
 ghost use Rattle.std.specs.Prelude.{List, []};
 ghost use Rattle.calls.specs.declared.settings.Settings.{Settings};

@@ -71,7 +71,7 @@ impl Shared {
         book.page_views(from, to)
     }
 
-    /// Takes the page of this number for the session as [`Book::take_page`] does. What it gives is resolved outside the latch.
+    /// Takes the page of this number for the session as [`Book::take_page`] does. The ticket is resolved outside the latch.
     pub fn take_page<R: Wait>(&self, rt: &R, session: u8, page: u32) -> Result<Ticket, Refusal> {
         let mut book = self.latch.lock(rt);
         book.take_page(session, page)

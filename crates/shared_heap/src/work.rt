@@ -1,4 +1,4 @@
-//! What stands under the latch while workers do their lists.
+//! The data under the latch while workers do their lists.
 
 ghost use Rattle.std.specs.Prelude.{◌≡◌, [], IfOk, IfErr, OnOk, OnSome, MatchOption, IsTrue, replicate, length, slice_index, ◌+◌, ◌^◌, ◌<◌, ◌&&◌, not};
 ghost use Rattle.shared_heap.specs.Books.{FirstThreadsFault, IsBookOf};
@@ -16,7 +16,7 @@ use std::alloc::{AllocError, Global};
 use std::marker::{Model, PhantomData};
 use std::sync::{Condvar, Mutex, Wait};
 
-/// What became of a worker's next line.
+/// The outcome of a worker's next line.
 #[derive(Clone, Copy, Debug, PartialEq, Eq)]
 pub(crate) enum Outcome {
     /// There was none.
@@ -148,7 +148,7 @@ impl<J: Request> Work<J> {
         }
     }
 
-    /// Whether no line is left.
+    /// True only where no line is left.
     pub(crate) fn is_done(&self) -> bool
         ensures { IsTrue result → AllDone self.now }
     {
@@ -160,7 +160,7 @@ impl<J: Request> Work<J> {
         true
     }
 
-    /// Each worker's next line once. Whether any was not answered Busy.
+    /// Does each worker's next line once. True where any was done.
     fn do_round(&mut self) -> Result<bool, AllocError> {
         let count = self.lists.len();
         let mut moved = false;
@@ -197,7 +197,7 @@ impl<J: Request> Work<J> {
     }
 }
 
-/// Whether an entry with this reply does a line.
+/// True where an entry with this reply does a line.
 fn is_done_by(wait: bool, reply: &Reply) -> bool
     ensures { result ≡ not (wait && is_busy_reply reply.now) }
 {

@@ -1,4 +1,4 @@
-//! What pruning would do to a slot.
+//! The fate of a slot: what pruning would do to it.
 
 ghost use Rattle.std.specs.Prelude.{◌≡◌};
 ghost use Rattle.slot_fates.specs.Fates.{goes};
@@ -6,7 +6,7 @@ ghost use Rattle.slot_fates.specs.Fates.{goes};
 use commit_status::Status;
 use xid_circle::Xid;
 
-/// Who deleted a version, and what became of that id.
+/// The id that deleted a version, and the status of that id.
 #[derive(Clone, Copy, Debug, PartialEq, Eq)]
 pub struct DeletedBy {
     /// The id.
@@ -15,20 +15,20 @@ pub struct DeletedBy {
     pub status: Status,
 }
 
-/// What pruning would do to a version: the first of these that holds.
+/// The fate of a version under pruning: the first of these that holds.
 #[derive(Clone, Copy, Debug, PartialEq, Eq)]
 pub enum VersionFate {
     /// It goes: this id, which made it, was rolled back.
     RolledBack(Xid),
     /// It goes: this id, which deleted it, has committed and is before the horizon.
     Deleted(Xid),
-    /// It goes, though it isn't dead: of the versions that come after it in its chain, the last that is dead stands in this slot.
+    /// It goes, though it isn't dead: the last dead version after it in its chain is in this slot.
     GoesWith(u16),
     /// It stays. It was deleted by this id, if by any.
     Kept(Option<DeletedBy>),
 }
 
-/// What pruning would do to a slot.
+/// The fate of a slot: what pruning would do to it.
 #[derive(Clone, Copy, Debug, PartialEq, Eq)]
 pub enum SlotFate {
     /// The page has no such slot.
@@ -44,7 +44,7 @@ pub enum SlotFate {
 }
 
 impl VersionFate {
-    /// Whether pruning takes the version.
+    /// True where pruning takes the version.
     pub fn goes(self) -> bool
         ensures { result ≡ goes self }
     {

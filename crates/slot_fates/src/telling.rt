@@ -33,7 +33,7 @@ fn last_dead(page: &Page, number: u16, statuses: &StatusTable, horizon: Xid) -> 
     last_of(listed.as_slice(), cut)
 }
 
-/// Who deleted a version, if anybody did.
+/// The deleter of a version, if it has one.
 fn deleter_of(header: &Header, statuses: &StatusTable) -> Option<DeletedBy>
     ensures { IsDeleter statuses.now header.now result }
 {
@@ -69,7 +69,7 @@ fn version_fate(
     }
 }
 
-/// What pruning at this horizon would do to a slot now. It takes no memory.
+/// The fate of a slot: what pruning at this horizon would do to it now. It takes no memory.
 pub fn slot_fate(page: &Page, number: u16, statuses: &StatusTable, horizon: Xid) -> SlotFate
     ensures { IsFate statuses.now horizon.0 page.now.slots number result }
 {

@@ -17,7 +17,7 @@ pub fn found_by_index()
     ensures { FoundByIndex }
 {}
 
-/// What an id made or deleted, that isn't aborted, is found by an index that always was exact.
+/// An index that always was exact finds all that an id made or deleted, if the id isn't aborted.
 pub fn touched_by_index()
     ensures { TouchedByIndex }
 {}
@@ -49,12 +49,12 @@ pub fn other_writer_is_on_heap()
     ensures { OtherWriterIsOnHeap }
 {}
 
-/// Whoever's snapshot's xmin is not before the id from which on an index is exact sees no version that the index leaves out.
+/// A reader whose snapshot's xmin is not before the id from which on an index is exact sees no version that the index leaves out.
 pub fn who_may_scan_sees_no_excused()
     ensures { WhoMayScanSeesNoExcused }
 {}
 
-/// Of an index that is exact from an id on, whoever takes a snapshot now may scan it.
+/// A snapshot that is taken now may scan an index that is exact from an id on.
 pub fn who_begins_may_scan()
     ensures { WhoBeginsMayScan }
 {}
@@ -127,7 +127,7 @@ pub fn aborting_keeps_entries()
     ensures { AbortingKeepsEntries }
 {}
 
-/// What an entry leads to after two steps is what the law of one step says, if both steps keep it.
+/// If each of two steps keeps what entries lead to, and the first keeps the entries, both together keep it.
 pub fn led_by_two_steps()
     ensures { LedByTwoSteps }
 {}

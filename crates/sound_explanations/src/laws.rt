@@ -2,7 +2,7 @@
 
 ghost use Rattle.sound_explanations.specs.Showing.{ExplanationsShowWhatIsFound, EachIsShownOnce};
 
-/// What is found of a key is what an explanation shows as seen: exactly one version, with that row, or none.
+/// An explanation shows as seen just what is found of a key: exactly one version, with that row, or none.
 pub fn explanations_show_what_is_found()
     ensures { ExplanationsShowWhatIsFound }
 {}

@@ -1,4 +1,4 @@
-//! What an explanation of a key shows, through sound entries: as seen exactly what a reader finds of the key (`specs/Showing.antt`).
+//! Explanations of a key, through sound entries: they show as seen exactly what a reader finds of it (`specs/Showing.antt`).
 #![tactic(auto)]
 
 pub mod laws;

@@ -19,8 +19,8 @@ pub fn sound_is_unshared()
     ensures { SoundIsUnshared }
 {}
 
-/// Who reads by a snapshot that is not before the horizon, and by own ids in progress, counts what committed before the
-/// horizon, and nothing that is aborted.
+/// A reader whose snapshot is not before the horizon, and whose own ids are in progress, counts what committed before the horizon,
+/// and nothing that is aborted.
 pub fn open_readers_are_readers()
     ensures { OpenReadersAreReaders }
 {}

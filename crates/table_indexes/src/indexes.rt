@@ -41,7 +41,7 @@ impl Model for Indexes {
 }
 
 impl Indexes {
-    /// Indexes without entries: one by key, and one by each column of which this says so.
+    /// Indexes without entries: one by key, and one by each column where `indexed` is true.
     pub fn new(alloc: Global, indexed: [bool; 4]) -> Self
         ensures entries { (n : ℕ) → entries_at result n ≡ new_entries indexed n }
         ensures since { (n : ℕ) → since_at result n ≡ None }
@@ -79,7 +79,7 @@ impl Indexes {
         }
     }
 
-    /// That index 0 is in use, and at most five are. It does nothing; its contract is the fact.
+    /// Index 0 is in use, and at most five are. It does nothing; its contract is the fact.
     pub fn fact_few(&self)
         ensures { HasIndexes self.now }
     {
@@ -159,7 +159,7 @@ impl Indexes {
         }
     }
 
-    /// Whether two rows have the same value in each index in use.
+    /// True where two rows have the same value in each index in use.
     pub fn same_values(&self, old: &RowRef<'_>, new: &Row) -> bool
         ensures { IsTrue result ↔ SameValues self.now old.now new.now }
     {

@@ -1,4 +1,4 @@
-//! What each step keeps of a table. Each function does nothing: its contract is the law.
+//! The properties of a table that each step keeps. Each function does nothing: its contract is the law.
 
 ghost use Rattle.table_integrity.specs.Laws.{InsertingKeepsTable, UpdatingKeepsTable, DeletingKeepsTable, FailingUpdateKeepsTable, PruningKeepsTable, ApplyingKeepsTable, KeepingKeepsTable, CommittingKeepsTable, AbortingKeepsTable, EmptyTableIsSound};
 ghost use Rattle.table_integrity.specs.Making.{MakingLeavesTableSound, MakingKeepsTargets, MakingKeepsSince};
@@ -60,7 +60,7 @@ pub fn making_leaves_table_sound()
     ensures { MakingLeavesTableSound }
 {}
 
-/// What an entry leads to stays when an index is made.
+/// Entries lead where they led when an index is made.
 pub fn making_keeps_targets()
     ensures { MakingKeepsTargets }
 {}
@@ -81,7 +81,7 @@ pub fn forgetting_keeps_since()
     ensures { ForgettingKeepsSince }
 {}
 
-/// When old ids are forgotten, whoever might scan an index still may.
+/// When old ids are forgotten, a reader that might scan an index still may.
 pub fn forgetting_keeps_scan()
     ensures { ForgettingKeepsScan }
 {}

@@ -1,9 +1,9 @@
-//! What each step keeps of a table: its pages, its ids and its indexes.
+//! The properties of a table that each step keeps: of its pages, its ids and its indexes.
 //!
-//! `heap_write` says exactly what a write, a pruning or a refusal leaves of a table. The laws here say what that means: a
-//! table whose pages are sound, and in each of whose indexes the entries lead to the roots of chains of their values, stays
-//! such a table (`specs/Table.antt`, `specs/Laws.antt`); nobody else can tell that a transaction wrote, and it finds what it
-//! wrote itself (`specs/Readers.antt`, `specs/ByKey.antt`). Each law is the contract of a function that does nothing.
+//! `heap_write` says exactly what a write, a pruning or a refusal leaves of a table. The laws here say what that means: the pages
+//! of a sound table stay sound, and the entries of each of its indexes go on to lead to the roots of chains of their values
+//! (`specs/Table.antt`, `specs/Laws.antt`); nobody else can tell that a transaction wrote, and it finds what it wrote itself
+//! (`specs/Readers.antt`, `specs/ByKey.antt`). Each law is the contract of a function that does nothing.
 #![tactic(auto)]
 
 pub mod laws;

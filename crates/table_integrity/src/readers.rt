@@ -1,4 +1,4 @@
-//! What readers find after each step. Each function does nothing: its contract is the law.
+//! The rows that readers find after each step. Each function does nothing: its contract is the law.
 
 ghost use Rattle.table_integrity.specs.Readers.{PruningIsUnseen, ApplyingIsUnseen, InsertingIsUnseen, UpdatingIsUnseen, DeletingIsUnseen, InsertIsFound, UpdateIsFound, DeleteIsFound};
 ghost use Rattle.table_integrity.specs.ByKey.{InsertPutsRow, UpdatePutsRow, DeleteTakesRow};
@@ -28,17 +28,17 @@ pub fn deleting_is_unseen()
     ensures { DeletingIsUnseen }
 {}
 
-/// Who has inserted a row finds what it found before, and the row at one more place.
+/// After an insert its writer finds what it found before, and the row at one more place.
 pub fn insert_is_found()
     ensures { InsertIsFound }
 {}
 
-/// Who has updated a version finds what it found elsewhere before, and the new row at one place that held nothing for it.
+/// After an update its writer finds what it found elsewhere before, and the new row at one place that held nothing for it.
 pub fn update_is_found()
     ensures { UpdateIsFound }
 {}
 
-/// Who has deleted a version finds what it found elsewhere before, and nothing else.
+/// After a delete its writer finds what it found elsewhere before, and nothing else.
 pub fn delete_is_found()
     ensures { DeleteIsFound }
 {}

@@ -7,7 +7,7 @@ ghost use Rattle.table_scans.specs.Keys.{span_of};
 use index_lookup::{IndexPosition, IndexRange};
 use xid_circle::Tid;
 
-/// What is left of a scan. It keeps no rows: it looks for them as it goes on, for whoever reads.
+/// The rest of a scan. It keeps no rows: it looks for them as it goes on, for any reader.
 #[derive(Clone, Copy, Debug, PartialEq, Eq)]
 pub enum Scan {
     /// In the order of an index: what is left of a part of it.
@@ -16,15 +16,15 @@ pub enum Scan {
     Heap(Tid),
 }
 
-/// What is left of a scan over keys alone: those between two bounds, both included, and after a place of the order of the index by
-/// key, if one is given.
+/// The rest of a scan over keys alone: those between two bounds, both included, and after a place of the order of the index by key,
+/// if one is given.
 #[derive(Clone, Copy, Debug, PartialEq, Eq)]
 pub struct KeyRange {
     /// The least key.
     pub low: i128,
     /// The greatest; one below `low` makes the range empty.
     pub high: i128,
-    /// What comes after this place alone; where there is none, all.
+    /// Only keys after this place are meant; where there is none, all.
     pub last: Option<IndexPosition>,
 }
 
@@ -53,7 +53,7 @@ impl KeyRange {
     }
 }
 
-/// What a cursor hands out, and how far it has got.
+/// The scan of a cursor: rows or keys, and how far it has got.
 #[derive(Clone, Copy, Debug, PartialEq, Eq)]
 pub enum CursorScan {
     /// The rows of a scan.

@@ -12,10 +12,10 @@ use tuple_header::RowPlace;
 use visibility::Reader;
 use xid_circle::Tid;
 
-/// Writes the next rows of a cursor to the first places, and answers how many there are, and what is left of it behind them: none
-/// exactly where nothing is left. Of an index they are as many as there are places, or all; of the heap those of the next page on
-/// which the reader sees any, up to so many. Of a cursor over keys it writes keys, as many as there are places, or all; all else in
-/// these places stays.
+/// Writes the next rows of a cursor to the first places, and answers how many there are, and the rest of the cursor behind them:
+/// none exactly where nothing is left. Of an index they are as many as there are places, or all; of the heap those of the next page
+/// on which the reader sees any, up to so many. Of a cursor over keys it writes keys, as many as there are places, or all; all else
+/// in these places stays.
 pub fn put_next(
     heap: &HeapState,
     reader: &Reader<'_>,

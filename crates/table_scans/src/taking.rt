@@ -28,7 +28,7 @@ pub fn no_row() -> Row
     }
 }
 
-/// Adds a copy of a row to those that are handed out, of which there may be so many in all.
+/// Adds a copy of a row to those that are handed out, at most `most` in all.
 fn add_row(rows: &mut Vec<Row>, row: &RowRef<'_>, most: u16) -> Result<(), AllocError>
     ensures { OnOk result (rows.new.items ≡ rows.old.items ++ row.now ∷ []) }
 {

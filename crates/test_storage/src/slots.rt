@@ -133,8 +133,8 @@ fn bytes_of_a_page(rt: HostRuntime) -> Result<(), Fail> {
     run(rt.alloc(), Page::new(), &BYTES)
 }
 
-/// Seven versions, without the third, and another in its place.
-static COMPACTION: [PageStep; 26] = [
+/// Seven versions, without the third, and another in its place; then versions for which the gap is wide enough.
+static COMPACTION: [PageStep; 41] = [
     PageStep::Add(1, 1024, 1),
     PageStep::Add(2, 1024, 2),
     PageStep::Add(3, 1024, 3),
@@ -163,6 +163,23 @@ static COMPACTION: [PageStep; 26] = [
     PageStep::Place(7, 1616, 1090),
     PageStep::Place(3, 520, 1090),
     PageStep::Change(9),
+    // no version is moved, since the gap of 468 bytes suffices for 72, and that of 396 for 272 and a pointer of 4
+    PageStep::SetUnused(2),
+    PageStep::Add(9, 0, 2),
+    PageStep::Place(3, 520, 1090),
+    PageStep::Place(2, 448, 66),
+    PageStep::Add(10, 200, 8),
+    PageStep::Place(3, 520, 1090),
+    PageStep::Place(2, 448, 66),
+    PageStep::Place(8, 176, 266),
+    // nor does a slot that turns dead move one; then a gap of 120 bytes suffices for 120
+    PageStep::SetDead(6),
+    PageStep::SetUnused(8),
+    PageStep::Add(11, 54, 8),
+    PageStep::Place(3, 520, 1090),
+    PageStep::Place(7, 1616, 1090),
+    PageStep::Place(8, 56, 120),
+    PageStep::Change(15),
 ];
 
 #[test]

@@ -26,9 +26,9 @@ fn marked_hot(hot: bool, mask2: u16) -> u16
     }
 }
 
-/// The header of a version that `x`, a normal id, replaced by one at `place`, whose slot is from 1 to 291: `hot` says
-/// whether by a HOT update. What was known of a deleter is cleared; so an aborted one leaves no trace.
-/// (PostgreSQL, `heap_update` in src/backend/access/heap/heapam.c.)
+/// The header of a version that `x`, a normal id, replaced by one at `place`, whose slot is from 1 to 291: `hot` says whether by a
+/// HOT update. All notes of an earlier deleter are cleared, so an aborted one leaves no trace. (PostgreSQL, `heap_update` in
+/// src/backend/access/heap/heapam.c.)
 pub fn replace_header(header: &Header, x: Xid, place: Tid, hot: bool) -> Header
     requires faultless { header_fault header.now ≡ None }
     requires normal { IsNormal x.0 }

@@ -1,4 +1,4 @@
-//! Writes. None takes memory, and each fits: whoever calls one has tested the page's room.
+//! Writes. None takes memory, and each fits: the caller has tested the page's room.
 
 ghost use Rattle.std.specs.Prelude.{◌≡◌, ◌≤◌, false, true};
 ghost use Rattle.xid_circle.specs.Circle.{IsNormal};

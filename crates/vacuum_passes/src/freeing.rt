@@ -35,8 +35,8 @@ pub(crate) fn free_from(
     free_lowest(heap, places, horizon)
 }
 
-/// What comes after slots were freed, of which the store holds the first so many: once it holds no others it is emptied, and pages are
-/// visited again. It answers how many of its places are those of freed slots then.
+/// The next phase after the first `freed` slots of the store were freed: once it holds no others it is emptied, and pages are
+/// visited again. It answers as well how many places of freed slots the store has then.
 pub(crate) fn after_freeing(store: &mut DeadSet, freed: usize) -> (usize, Phase)
     requires { freed ≤ length store.old }
     ensures shown { drop result.0 store.new ≡ drop freed store.old }

@@ -91,7 +91,7 @@ impl Vacuum {
         Some(Piece::Index(0))
     }
 
-    /// Whether the vacuum passes over the page of this number.
+    /// True where the vacuum passes over the page of this number.
     fn skips(&self, heap: &HeapState, number: u32) -> bool
         ensures { result ≡ skips self.now.mode (mark_on heap.now.pages.marks number) }
     {

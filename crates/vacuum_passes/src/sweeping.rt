@@ -41,7 +41,7 @@ fn sweep(
     heap.sweep(index, dead, from, near)
 }
 
-/// What comes after a piece of an index that ended so.
+/// The next phase after a piece of an index with this progress.
 fn phase_after_piece(heap: &HeapState, index: u8, progress: Progress) -> Phase
     ensures { PhaseAfter heap.now.indexes index progress result }
 {
@@ -51,7 +51,7 @@ fn phase_after_piece(heap: &HeapState, index: u8, progress: Progress) -> Phase
     }
 }
 
-/// What comes after an index: the next one, or the dead slots become unused.
+/// The next phase after an index: the next index, or the freeing of the dead slots.
 fn phase_after(heap: &HeapState, index: u8) -> Phase
     ensures { PhaseAfter heap.now.indexes index Done result }
 {

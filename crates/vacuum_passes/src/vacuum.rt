@@ -10,7 +10,7 @@ use root_index::{Entry, PositionHint};
 use std::marker::Model;
 use xid_circle::Xid;
 
-/// What a vacuum does next.
+/// The phase of a vacuum: the work of its next step.
 #[derive(Clone, Copy, Debug, PartialEq, Eq)]
 pub enum Phase {
     /// Visits pages.
@@ -24,7 +24,7 @@ pub enum Phase {
 /// A vacuum in progress. It holds at most 4096 dead slots at a time.
 #[derive(Debug, Drop)]
 pub struct Vacuum {
-    // What its beginning fixed.
+    // Fixed when it began.
     /// Which pages it passes over.
     pub(crate) mode: Mode,
     /// The horizon of that moment.
@@ -39,23 +39,23 @@ pub struct Vacuum {
     pub(crate) limit: u32,
 
     // Where it is.
-    /// What its next step does.
+    /// The work of its next step.
     pub(crate) phase: Phase,
     /// The next page to visit.
     pub(crate) next: u32,
     /// Where in its index the last piece ended.
     pub(crate) near: PositionHint,
 
-    // What it collected.
+    // Collected so far.
     /// Dead slots, in ascending order of pages and slots.
     pub(crate) store: DeadSet,
     /// How many of them, from the first on, are unused by now.
     pub(crate) freed: usize,
 
-    // What came between its steps.
-    /// Whether nothing did.
+    // Steps of others between its own.
+    /// True while there were none.
     pub(crate) alone: bool,
-    /// Whether no step of a session did.
+    /// True while none of them was a session's.
     pub(crate) quiet: bool,
     /// How many of its own steps there were while it was alone.
     pub(crate) steps: u64,
@@ -136,7 +136,7 @@ impl Vacuum {
         self.cutoff
     }
 
-    /// What its next step does.
+    /// The work of its next step.
     pub fn phase(&self) -> Phase
         ensures { result ≡ self.now.phase }
     {

@@ -43,7 +43,7 @@ fn page_after(number: u32, left_over: bool) -> u32
     if left_over { number } else { number + 1 }
 }
 
-/// What comes after a visit: the indexes, where the store is full.
+/// The next phase after a visit: the indexes, where the store is full.
 fn phase_after(store: &DeadSet, limit: usize) -> Phase
     ensures { result ≡ phase_with limit store.now }
 {

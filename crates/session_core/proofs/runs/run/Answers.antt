@@ -1,12 +1,11 @@
 use Rattle.std.proofs.Common.{rules}
 use Rattle.history.specs.World.{beginning}
 use Rattle.refinement.proofs.Runs.{lawful}
-use Rattle.session_core.specs.Runs.{for_engine}
 use Rattle.session_core.proofs.Running.{Leads-run, Leads-ran}
 use Rattle.session_core.proofs.runs.run.Goals as goal
 
 pub returns-in-Err-NoMemory-clause-fault : goal.returns-in-Err-NoMemory-clause-fault
-returns-in-Err-NoMemory-clause-fault c = for_engine (search rules)
+returns-in-Err-NoMemory-clause-fault c = search rules
 
 pub returns-in-Ok-replies_to-clause-run : goal.returns-in-Ok-replies_to-clause-run
 returns-in-Ok-replies_to-clause-run c = (Leads-run (beginning c.args.settings.indexed) c.in-Ok.engine c.args.steps.now c.in-Ok-replies_to.replies.items _ c.in-Ok.ensures.new.agrees c.in-Ok-replies_to.ensures.led).0

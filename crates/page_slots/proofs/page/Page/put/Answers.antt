@@ -1,6 +1,5 @@
-use Rattle.std.proofs.Common.{◌≡◌, ◌-◌, ◌<◌, ◌≤◌, ℕ, [], true, length, get_or, set, sym, ap, ◌∙◌, subst, arith, List}
+use Rattle.std.proofs.Common.{◌≡◌, ◌-◌, ◌<◌, ◌≤◌, ℕ, [], true, length, get_or, set, sum_by, ◌+◌, sym, ap, ◌∙◌, subst, arith, List}
 use Rattle.std.proofs.lemmas.Bool.{true≢false}
-use Rattle.std.proofs.lemmas.Bool.Decides.{nat_tests}
 use Rattle.std.specs.List.{position_or_len}
 use Rattle.page_slots.specs.View.{PageView, AreTallied}
 use Rattle.page_slots.specs.declared.slot.Slot.{Slot}
@@ -9,11 +8,12 @@ use Rattle.page_slots.specs.Layout.{shown_by, slots_in}
 use Rattle.page_layout.specs.Sound.{HoldsNoVersion}
 use Rattle.page_slots.specs.Slots.{SlotIsThere, is_unused, bytes_taken}
 use Rattle.page_slots.proofs.Kept.{kept_bare, taken-within, sum-bare}
+use Rattle.page_slots.proofs.PlacingLemmas.{some-lost, none-lost}
 use Rattle.page_slots.proofs.FreeLemmas.{first-after_set}
 use Rattle.page_slots.proofs.PointerSet.{bare-takes_none, bare-used}
 use Rattle.page_slots.proofs.Sounds.{slots_in-at, length-slots_in}
 use Rattle.page_slots.proofs.page.Page.put.Goals as goal
-use Rattle.page_slots.proofs.page.Page.put.Goals.{in-Unused, in_default}
+use Rattle.page_slots.proofs.page.Page.put.Goals.{in-Unused, in_default, then-taken-gt0, else-taken-gt0}
 
 pub version_size-taken-requires : goal.version_size-taken-requires
 version_size-taken-requires c =
@@ -134,4 +134,15 @@ clear-requires-clause-last c =
     let bare : HoldsNoVersion count c.args.pointer = subst (λ (n : ℕ). HoldsNoVersion n c.args.pointer) long (subst (λ (p : PageView). HoldsNoVersion (length p.slots) c.args.pointer) (sym c.self.view_is) c.requires.bare) in
     let old : bytes_taken (get_or slots index Unused) ≡ c.version_size-taken.result = ap bytes_taken (slots_in-at count bytes index Unused within) ∙ sym c.version_size-taken.ensures in
     let sum = sum-bare slots c.self.inside.free c.self.inside.taken_bytes index (shown_by [] c.args.pointer) inside (bare-takes_none count c.args.pointer bare) c.self.invariant in
-    λ last. grind (arith, nat_tests)
+    let before = sum_by bytes_taken slots in
+    let after = sum_by bytes_taken (set slots index (shown_by [] c.args.pointer)) in
+    let taken = c.version_size-taken.result in
+    let left = c.self.inside.taken_bytes - taken in
+    let most = taken-within slots c.self.inside.free c.self.inside.taken_bytes index inside c.self.invariant in
+    let all = c.self.invariant.sum in
+    let whole : before ≡ left + taken = omega arith in
+    let rest : after ≡ left = omega arith in
+    elim c.if-taken-gt0.branch [
+      | then-taken-gt0 w ↦ w.last-is ∙ some-lost before after taken left whole rest (omega (arith, w.if-taken-gt0.true))
+      | else-taken-gt0 w ↦ w.last-is ∙ none-lost before after taken left whole rest (omega (arith, w.if-taken-gt0.false))
+    ]

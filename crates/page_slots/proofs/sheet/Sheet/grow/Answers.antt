@@ -27,3 +27,6 @@ returns-clause-flags c = rw (← c.self.view_is) (whole c).flags
 
 pub returns-clause-upper : goal.returns-clause-upper
 returns-clause-upper c = rw (← c.self.view_is) (whole c).upper
+
+pub returns-clause-places : goal.returns-clause-places
+returns-clause-places c = rw (← c.self.view_is) (whole c).pointers

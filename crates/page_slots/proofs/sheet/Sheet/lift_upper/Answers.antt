@@ -25,3 +25,6 @@ returns-clause-flags c = rw (← c.self.view_is) (lifted c).flags
 
 pub returns-clause-upper : goal.returns-clause-upper
 returns-clause-upper c = (lifted c).upper
+
+pub returns-clause-places : goal.returns-clause-places
+returns-clause-places c = rw (← c.self.view_is) (λ i h. (lifted c).pointers i)

@@ -28,3 +28,12 @@ returns-clause-change c = rw (← c.self.view_is) (placed c).change
 
 pub returns-clause-flags : goal.returns-clause-flags
 returns-clause-flags c = rw (← c.self.view_is) (placed c).flags
+
+pub returns-clause-upper : goal.returns-clause-upper
+returns-clause-upper c = rw (← c.self.view_is) (placed c).upper
+
+pub returns-clause-here : goal.returns-clause-here
+returns-clause-here c = (placed c).here
+
+pub returns-clause-places : goal.returns-clause-places
+returns-clause-places c = rw (← c.self.view_is) (λ i h other. (placed c).others i other)

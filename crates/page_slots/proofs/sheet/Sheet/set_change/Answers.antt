@@ -22,3 +22,7 @@ returns-clause-flags c =
 pub returns-clause-upper : goal.returns-clause-upper
 returns-clause-upper c =
     rw (← c.self.view_is) (change-noted c.self.inside.bytes c.put_u64.new.bytes c.self.inside.count c.args.change c.self.invariant c.put_u64.ensures).upper
+
+pub returns-clause-places : goal.returns-clause-places
+returns-clause-places c =
+    rw (← c.self.view_is) (λ i h. (change-noted c.self.inside.bytes c.put_u64.new.bytes c.self.inside.count c.args.change c.self.invariant c.put_u64.ensures).pointers i)

@@ -33,3 +33,8 @@ pub returns-clause-upper : goal.returns-clause-upper
 returns-clause-upper c =
     let one : (c.if-flag.put_u16 ≡ 0) ⊎ (c.if-flag.put_u16 ≡ 4) = elim c.if-flag.branch [ then-flag w ↦ inr w.put_u16-is | else-flag w ↦ inl w.put_u16-is ] in
     rw (← c.self.view_is) (flags-noted c.self.inside.bytes c.put_u16.new.bytes c.self.inside.count c.if-flag.put_u16 c.self.invariant c.put_u16.ensures one).upper
+
+pub returns-clause-places : goal.returns-clause-places
+returns-clause-places c =
+    let one : (c.if-flag.put_u16 ≡ 0) ⊎ (c.if-flag.put_u16 ≡ 4) = elim c.if-flag.branch [ then-flag w ↦ inr w.put_u16-is | else-flag w ↦ inl w.put_u16-is ] in
+    rw (← c.self.view_is) (λ i h. (flags-noted c.self.inside.bytes c.put_u16.new.bytes c.self.inside.count c.if-flag.put_u16 c.self.invariant c.put_u16.ensures one).pointers i)

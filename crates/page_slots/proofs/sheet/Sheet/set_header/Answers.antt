@@ -28,11 +28,15 @@ returns-in-Normal-clause-flags c = rw (← c.self.view_is) (reheaded c).flags
 pub returns-in-Normal-clause-upper : goal.returns-in-Normal-clause-upper
 returns-in-Normal-clause-upper c = rw (← c.self.view_is) (reheaded c).upper
 
+pub returns-in-Normal-clause-places : goal.returns-in-Normal-clause-places
+returns-in-Normal-clause-places c = rw (← c.self.view_is) (reheaded c).pointers
+
 pub returns-in_default : goal.returns-in_default
 returns-in_default c = record {
   count = refl;
   change = refl;
   flags = refl;
   upper = refl;
+  places = λ i h. refl;
   slots = header-none c.args.self.now.bytes c.args.self.now.count c.args.index c.pointer.result c.args.header c.requires.there c.pointer.ensures.value c.in_default.not-Normal;
 }

@@ -20,6 +20,7 @@ returns-clause-new c = record {
   pages = c.new-3.ensures.pages;
   marks = c.new-3.ensures.marks;
   indexes = c.new-3.ensures.indexes;
+  since = c.new-3.ensures.since;
   agrees = subst (λ (s : Settings). Agrees (record { settings = s; heap = c.new-3.result; sessions = c.in-Ok.sessions }) (beginning c.args.settings.indexed)) (sym c.new-2.ensures)
       (Agrees-new (record { settings = c.args.settings; heap = c.new-3.result; sessions = c.in-Ok.sessions }) c.new-3.ensures.pages c.new-3.ensures.indexes c.new-3.ensures.since c.new-3.ensures.entries c.new-3.ensures.window
       c.new-3.ensures.max_pages c.new-3.ensures.stop_age c.in-Ok.ensures);

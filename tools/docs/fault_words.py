@@ -51,7 +51,7 @@ def wrong():
     """Each fault whose words or status are not the table's: the page, the line, and what to say."""
     code, table, status = in_code(), in_library_table(), statuses()
     if len(code) != attributes():
-        yield LIBRARY, 1, f"{attributes()} variants have words in the code, of which tools/fault_words.py reads {len(code)}"
+        yield LIBRARY, 1, f"{attributes()} variants have words in the code, of which tools/docs/fault_words.py reads {len(code)}"
     library = {fault: words for fault, words in code.items() if fault[0] != OF_PROGRAM}
     for fault in sorted(library.keys() | table.keys()):
         if library.get(fault) != table.get(fault):

@@ -12,7 +12,7 @@
 import os
 import re
 
-import sentences
+from docs import sentences
 
 LINK = re.compile(r"\[`([^`]+)`\]\(([^)#\s]+)\)")
 NAMED = re.compile(r"((?:`[A-Za-z_][\w:.]*`(?:, (?:and )?| and |\s+))+)\((?:in )?(?:`(crates/[\w/]+\.\w+)`|\[`[\w.]+`\]\(([^)#\s]+)\))")
