@@ -131,7 +131,7 @@ class Said:
             out.seek(0)
             said = out.read()
         self.status, self.spent, self.clock = status, used.ru_utime + used.ru_stime, time.time() - before
-        self.functions = {m[1]: m[2] for m in re.finditer(r"^fn (\S+): (.*)$", said, re.M)}
+        self.functions = {m[1]: m[2] for m in re.finditer(r"^(?:fn|impl) (\S+): (.*)$", said, re.M)}
         self.unread = re.findall(r"^.*error\[.*$", said, re.M)[:3]
         wrong = {}
         for path, error in ERROR.findall(said):

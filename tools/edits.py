@@ -11,9 +11,10 @@ An edit that was refused is refused again as long as all stays that its verdict 
 sources and specs of the crates below, and the toolchain's logic. A line of the lock has a sum of these for a crate, and the day on which
 each of its edits was tried and refused.
 
-An edit has a first line `fn: PATH`. A first check of these functions has to prove each as it stands. Then the edits are made, many in one
-check where none stands in another's way, as tools/audit.py makes them. One is refused where the check that has it does not prove its
-function, and not by form alone. Exits 1 where one is let through; that crate's line is not written then.
+An edit has a first line `fn: PATH`, or `impl: PATH` where it breaks a law of a type. A first check has to prove each of these as it
+stands. Then the edits are made, many in one check where none stands in another's way, as tools/audit.py makes them. One is refused where
+the check that has it does not prove its function, and not by form alone. Exits 1 where one is let through; that crate's line is not
+written then.
 
 The libraries below are those that `rt ci` or a check has left; `rt lib` makes what is missing.
 """
@@ -81,8 +82,8 @@ def write_lock(rows: Dict[str, List[str]], crates: List[str]) -> None:
 
 
 def function_of(path: str) -> str:
-    """The function that an edit is to break."""
-    found = re.findall(r"^fn: (\S+)$", audit.text_of(path), re.M)
+    """The function that an edit is to break, or the impl."""
+    found = re.findall(r"^(?:fn|impl): (\S+)$", audit.text_of(path), re.M)
     if len(found) != 1:
         sys.exit(f"edits.py: {path} has to name one function")
     return found[0]
@@ -92,7 +93,9 @@ def edits_in(crate: str) -> List[dict]:
     """The crate's edits, as tools/audit.py has them, each with its function."""
     files = audit.edits_of(f"{ROOT}/crates/{crate}", "by-function")
     name = lambda file: f"{crate}/{os.path.basename(file).removesuffix('.edit')}"
-    return [{"name": name(it), "function": function_of(it), "pairs": audit.pairs_of(it), "of": None, "tries": 0} for it in files]
+    is_impl = lambda file: audit.text_of(file).startswith("impl: ")
+    found = lambda it: {"name": name(it), "function": function_of(it), "is_impl": is_impl(it), "pairs": audit.pairs_of(it)}
+    return [{**found(it), "of": None, "tries": 0} for it in files]
 
 
 def make_libraries(crate: str, uses: Dict[str, List[str]]) -> None:
@@ -106,6 +109,9 @@ def make_libraries(crate: str, uses: Dict[str, List[str]]) -> None:
 def said_of(crate: str, folder: str, edits: List[dict], texts: Dict[str, str]) -> audit.Said:
     """What the prover says of the edits' functions, with these texts in the crate's folder. It goes on from what earlier checks there kept."""
     only = [word for function in sorted({edit["function"] for edit in edits}) for word in ("--only", function)]
+    if any(edit["is_impl"] for edit in edits):
+        # (no check of a function looks at the laws of a type)
+        only = []
     words = [PROVER, "check", *words_for(crate, used()), "--jobs", "1", "--incremental", f"{folder}/kept", *only]
     return audit.try_round(folder, crate, texts, words)
 
@@ -189,7 +195,8 @@ def main() -> None:
     crates = [crate for crate in uses if audit.edits_of(f"{ROOT}/crates/{crate}", "by-function")]
     sums, rows = {crate: sum_of(crate, uses, of_logic) for crate in crates}, locked()
     old = [crate for crate in crates if rows.get(crate, [""])[0] != sums[crate]]
-    print(f"edits.py: {len(crates) - len(old)} of {len(crates)} lines of tests/edits.lock are fresh" + (f"; old: {' '.join(old)}" if old else ""), flush=True)
+    names = f"; old: {' '.join(old)}" if old else ""
+    print(f"edits.py: {len(crates) - len(old)} of {len(crates)} lines of tests/edits.lock are fresh{names}", flush=True)
     if words.check:
         sys.exit(1 if old else 0)
 
