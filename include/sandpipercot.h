@@ -57,7 +57,7 @@ struct sandpiper_settings {
 };
 
 /* The widest settings, with no index but that by key. */
-#define SANDPIPER_WIDEST {65536, 2144483648u, 0, 3, 64, {false, false, false, false}}
+#define SANDPIPER_WIDEST {65536, 2144483648u, 0, 3, 4096, {false, false, false, false}}
 
 #define SANDPIPER_SESSIONS 64    /* sessions are numbered from 0 to 63 */
 #define SANDPIPER_SAVEPOINTS 32  /* that a session may have at a time */

@@ -113,7 +113,7 @@ class Table(Owned):
         stop_age: int = 2144483648,
         freeze_min_age: int = 0,
         first_xid: int = 3,
-        dead_limit: int = 64,
+        dead_limit: int = 4096,
         indexed: Sequence[bool] = (False, False, False, False),
     ) -> None:
         self._make()
