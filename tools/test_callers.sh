@@ -37,6 +37,7 @@ in_c table ""
 in_c state ""
 in_c loops ""
 in_c statuses "$wrap"
+in_c waits "$wrap"
 in_c misuse "" 20000
 in_c memory "$wrap"
 in_c making "$wrap" 300
