@@ -31,9 +31,9 @@ def orders(rows):
     return {"ascending": range(rows), "random": shuffled}
 
 
-def write_script(path, rows, keys, ending):
+def write_script(path, rows, keys, ending, dead_limit=4096):
     with open(path, "w") as script:
-        script.write("heap 65536 2144483648 0 3 4096 0000\n")
+        script.write(f"heap 65536 2144483648 0 3 {dead_limit} 0000\n")
         for lines, _ in in_transactions((insert(0, key) for key in keys), LOADED):
             script.write(lines)
         for lines, _ in in_transactions((delete(0, key) for key in range(0, rows, 2)), LOADED):

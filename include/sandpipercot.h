@@ -1,5 +1,7 @@
 /* Sandpipercot: a multi-version table heap in memory, for C and for what calls C.
  *
+ * It is C99, and what C++ of any year reads too. (sandpipercot.hpp has classes over it.)
+ *
  * THE HANDLE. A struct sandpiper that is all zeros has no table. sandpiper_open gives it one, and sandpiper_close takes it away,
  * with all its memory. In between the struct may be moved (memcpy it, and use only the new place), but neither copied nor changed:
  * its fields belong to the library.
@@ -14,12 +16,14 @@
  * came from.
  *
  * WAITS. After SANDPIPER_BUSY it is noted that the session waits for the other, until its own next step, whatever that answers, or until
- * the other is committed, aborted or returned to a savepoint. Where a wait would close a ring, the answer is SANDPIPER_DEADLOCK.
+ * the other is committed, aborted or returned to a savepoint. Where a wait would close a ring, the answer is SANDPIPER_DEADLOCK. A step
+ * is a call that is handed the session's number, but not sandpiper_take_page, nor sandpiper_next with no capacity, nor _insert_many or
+ * _update_many of no rows, nor a write of a body over 1024 bytes that answers SANDPIPER_NO_MEMORY.
  *
  * MEMORY comes from the program's malloc, realloc and free. Where that is refused, the call says SANDPIPER_NO_MEMORY and has changed
  * nothing; it may be repeated. (Of _insert_many and _update_many the rows before stay written; and where memory for the places of keys
  * is refused, fewer are noted, and the call goes on.) sandpiper_begin_read_committed, _get, _rollback_to, _release, _commit, _abort,
- * _prune, _close, _next, _close_cursor, _slot_at, _page_at, _page_bytes, _check_page, _state, _version, _keep_places, _vacuum_begin,
+ * _prune, _close, _next, _close_cursor, _slot_at, _page_at, _page_bytes, _check_page, _state_of, _version, _keep_places, _vacuum_begin,
  * _vacuum_step, _vacuum_cancel and _close_ticket ask for none.
  * Nor do _open_heap, _open_by_key, _open_index and _open_keys, unless the session reads by statement and more than 8 ids are in progress.
  *
@@ -34,9 +38,9 @@
 #include <stddef.h>
 #include <stdint.h>
 
-#define SANDPIPER_VERSION "0.2"
+#define SANDPIPER_VERSION "0.3"
 #define SANDPIPER_VERSION_MAJOR 0
-#define SANDPIPER_VERSION_MINOR 2
+#define SANDPIPER_VERSION_MINOR 3
 
 #ifdef __cplusplus
 extern "C" {
@@ -56,8 +60,9 @@ struct sandpiper_settings {
     bool indexed[4];         /* which of the columns have an index */
 };
 
-/* The widest settings, with no index but that by key. */
-#define SANDPIPER_WIDEST {65536, 2144483648u, 0, 3, 64, {false, false, false, false}}
+/* The widest settings, with no index but that by key. A vacuum is the faster the more dead slots it may collect, and 4096 cost no memory
+ * before they are there. */
+#define SANDPIPER_WIDEST {65536, 2144483648u, 0, 3, 4096, {false, false, false, false}}
 
 #define SANDPIPER_SESSIONS 64    /* sessions are numbered from 0 to 63 */
 #define SANDPIPER_SAVEPOINTS 32  /* that a session may have at a time */
@@ -154,7 +159,8 @@ uint32_t sandpiper_insert(struct sandpiper *table, uint8_t session, const struct
 uint32_t sandpiper_update(struct sandpiper *table, uint8_t session, const struct sandpiper_row *row);
 uint32_t sandpiper_delete(struct sandpiper *table, uint8_t session, uint64_t key);
 /* The same of many rows, in their order: DONE, or what the first row that is refused was answered. *done says how many were written, so
- * rows[*done] is the one that was refused. Those before it stay written. */
+ * rows[*done] is the one that was refused. Those before it stay written. Of no rows nothing is done and nothing looked at: DONE, also where
+ * there is no such session, or no table. */
 uint32_t sandpiper_insert_many(struct sandpiper *table, uint8_t session, const struct sandpiper_row *rows, size_t count, size_t *done);
 uint32_t sandpiper_update_many(struct sandpiper *table, uint8_t session, const struct sandpiper_row *rows, size_t count, size_t *done);
 
@@ -261,7 +267,7 @@ struct sandpiper_state {
 };
 
 /* Writes what the table is like to `state`: DONE. */
-uint32_t sandpiper_state(struct sandpiper *table, struct sandpiper_state *state);
+uint32_t sandpiper_state_of(struct sandpiper *table, struct sandpiper_state *state);
 
 /* What a page tells of itself. */
 struct sandpiper_page {

@@ -1,7 +1,7 @@
 #!/usr/bin/env bash
 # tools/install.sh ARCHIVE PREFIX: installs under PREFIX what callers need, over an archive with the calls of `sandpiper_c`:
-# include/sandpipercot.h, lib/libsandpipercot.a, .so and .so.0, lib/pkgconfig/sandpipercot.pc, and in lib/python the Python module and a
-# wheel of it. What makes the archive calls this: tools/build_c.sh a proved one, tools/unproved_c.py one that nothing has proved.
+# include/sandpipercot.h and .hpp, lib/libsandpipercot.a, .so and .so.0, lib/pkgconfig/sandpipercot.pc, in lib/rust the crate for Rust, and in
+# lib/python the Python module and a wheel of it. What makes the archive calls this: tools/build_c.sh a proved one, tools/unproved_c.py one that nothing has proved.
 # CC names the C compiler, if it is not cc.
 set -euo pipefail
 
@@ -33,7 +33,9 @@ ar rcsD "$prefix/lib/libsandpipercot.a" "$work/sandpipercot.o"
 "$compiler" -shared -o "$prefix/lib/libsandpipercot.so.0" "$work/sandpipercot.o" \
     -Wl,-soname,libsandpipercot.so.0 -Wl,-z,defs -Wl,-z,noexecstack
 ln -sf libsandpipercot.so.0 "$prefix/lib/libsandpipercot.so"
-install -m 644 "$root/include/sandpipercot.h" "$prefix/include/"
+install -m 644 "$root/include/sandpipercot.h" "$root/include/sandpipercot.hpp" "$prefix/include/"
+install -D -m 644 -t "$prefix/lib/rust/sandpipercot" "$root/rust/Cargo.toml" "$root/rust/build.rs"
+install -D -m 644 -t "$prefix/lib/rust/sandpipercot/src" "$root"/rust/src/*.rs
 rm -f "$prefix/lib/python/sandpipercot.py" "$prefix"/lib/python/*.whl
 install -m 644 "$root"/python/sandpipercot/*.py "$root/python/sandpipercot/py.typed" "$prefix/lib/python/sandpipercot/"
 wheel=$(python3 "$root/python/wheel_backend.py" "$prefix/lib/libsandpipercot.so" "$prefix/lib/python")

@@ -37,6 +37,7 @@ in_c table ""
 in_c state ""
 in_c loops ""
 in_c statuses "$wrap"
+in_c waits "$wrap"
 in_c misuse "" 20000
 in_c memory "$wrap"
 in_c making "$wrap" 300
@@ -90,6 +91,10 @@ if command -v "$cplusplus" >/dev/null; then
         "$prefix/lib/libsandpipercot.a" -o "$work/table_cpp"
     say "table.cpp, with the address sanitizer"
     "$work/table_cpp"
+    "$cplusplus" -std=c++17 "${flags[@]}" -fsanitize=address,undefined -fno-sanitize-recover=all "$tests/classes.cpp" \
+        "$prefix/lib/libsandpipercot.a" -o "$work/classes_cpp"
+    say "classes.cpp, with the address sanitizer"
+    "$work/classes_cpp"
     "$cplusplus" -std=c++17 "${flags[@]}" "$root/examples/cpp/first_committer_wins.cpp" -L"$prefix/lib" -lsandpipercot \
         -o "$work/example_cpp"
     example "the example in C++" "$work/example_cpp"
@@ -99,6 +104,8 @@ if command -v rustc >/dev/null; then
     rustc --edition 2021 -D warnings -O "$tests/table.rs" -L "$prefix/lib" -l static=sandpipercot -o "$work/table_rs"
     say "table.rs"
     "$work/table_rs"
+    say "the crate for Rust"
+    python3 "$tests/test_crate.py" "$prefix"
     rustc --edition 2021 -D warnings -O "$root/examples/rust/first_committer_wins.rs" -L "$prefix/lib" -l sandpipercot \
         -o "$work/example_rs"
     example "the example in Rust" "$work/example_rs"

@@ -47,7 +47,7 @@ static void load(void) {
     DID(sandpiper_open(&(struct sandpiper_settings)SANDPIPER_WIDEST, &table) == SANDPIPER_DONE);
     DID(sandpiper_begin(&table, 0) == SANDPIPER_DONE);
     for (row.key = 0; row.key < rows; row.key++) DID(sandpiper_insert(&table, 0, &row) == SANDPIPER_DONE);
-    DID(sandpiper_commit(&table, 0) == SANDPIPER_COMMITTED && sandpiper_state(&table, &state) == SANDPIPER_DONE);
+    DID(sandpiper_commit(&table, 0) == SANDPIPER_COMMITTED && sandpiper_state_of(&table, &state) == SANDPIPER_DONE);
     pages = state.pages;
 }
 
@@ -94,7 +94,7 @@ static uint64_t scan_by_tickets(void) {
     lock();
     DID(sandpiper_begin(&table, 1) == SANDPIPER_DONE);
     struct sandpiper_state state;
-    DID(sandpiper_state(&table, &state) == SANDPIPER_DONE);
+    DID(sandpiper_state_of(&table, &state) == SANDPIPER_DONE);
     unlock();
     for (uint32_t page = 0; page < state.pages;) {
         int taken = 0;

@@ -36,7 +36,7 @@ fn say(what: &str, status: u32) {
 
 fn main() {
     let (mut table, mut found) = (Table(std::ptr::null_mut(), false), row(0, 0));
-    assert_eq!(sandpiper_open(&Settings([65536, 2144483648, 0, 3, 64], [false; 4]), &mut table), 0);
+    assert_eq!(sandpiper_open(&Settings([65536, 2144483648, 0, 3, 4096], [false; 4]), &mut table), 0);
     (0..2).for_each(|session| assert_eq!(sandpiper_begin(&mut table, session), 0));
     say("session 0 inserts key 1", sandpiper_insert(&mut table, 0, &row(1, 10)));
     say("session 1 inserts key 1", sandpiper_insert(&mut table, 1, &row(1, 20))); // an open session has written the key

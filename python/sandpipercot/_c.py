@@ -13,7 +13,7 @@ SAVEPOINTS = 32  # that a session may have at a time
 BODY = 1024  # bytes of the longest body
 PAGE_ROWS = 291  # that a page may have
 
-VERSION = (0, 2)  # of this module, and of the library that it takes
+VERSION = (0, 3)  # of this module, and of the library that it takes
 
 
 class Handle(Structure):
@@ -106,7 +106,7 @@ ARGUMENTS: Dict[str, List[Any]] = {
     "check_page": [POINTER, c_size_t, POINTER],
     "slot_at": [POINTER, c_uint32, c_uint16, POINTER],
     "page_at": [POINTER, c_uint32, POINTER],
-    "state": [POINTER, POINTER],
+    "state_of": [POINTER, POINTER],
     "version": [],
 }
 

@@ -14,6 +14,10 @@ from .sessions import Session
 from .statuses import AlreadyOpen, NoEngine, NoSuchSession, NoVacuum, Status, VacuumRunning, refusal
 
 
+# (a number of an enum is compared ten times as slowly as a plain one)
+WORKED = int(Status.WORKED)
+
+
 class Kind(enum.IntEnum):
     """What is in a slot of a page."""
 
@@ -113,7 +117,7 @@ class Table(Owned):
         stop_age: int = 2144483648,
         freeze_min_age: int = 0,
         first_xid: int = 3,
-        dead_limit: int = 64,
+        dead_limit: int = 4096,
         indexed: Sequence[bool] = (False, False, False, False),
     ) -> None:
         self._make()
@@ -252,9 +256,14 @@ class Table(Owned):
             raise VacuumRunning()
         try:
             self.vacuum_begin(aggressive)
-            while (piece := self.vacuum_step()).kind != PieceKind.NO_PIECE:
-                pass
-            return piece.oldest
+            piece, step = _c.Piece(), _c.CALLS["vacuum_step"]
+            address, status = ctypes.addressof(piece), WORKED
+            # (a step costs the library less than a call of `vacuum_step`)
+            while status == WORKED:
+                status = step(self._address, address)
+            if status >= Status.NOT_OPEN:
+                raise refusal(status)
+            return int(piece.oldest)
         except BaseException:
             # (none runs where it came before the beginning, or after the end)
             with contextlib.suppress(NoVacuum, NoEngine):
@@ -264,7 +273,7 @@ class Table(Owned):
     def state(self) -> State:
         """What the table is like now."""
         state = _c.State()
-        self._call("state", ctypes.addressof(state))
+        self._call("state_of", ctypes.addressof(state))
         numbers = tuple(it for it in range(_c.SESSIONS) if state.open_sessions >> it & 1)
         entries = tuple(count if there else None for count, there in zip(state.entries, state.has_index))
         return State(state.next_id, state.oldest_id, state.ids_left, state.pages, numbers, entries, Vacuum(state.vacuum))

@@ -137,7 +137,7 @@ static void check_alike(void) {
     struct sandpiper_state a, b;
     struct sandpiper_page x, y;
     memset(&a, 0, sizeof a), memset(&b, 0, sizeof b);
-    CHECK(sandpiper_state(&t, &a) == SANDPIPER_DONE && sandpiper_state(&twin, &b) == SANDPIPER_DONE);
+    CHECK(sandpiper_state_of(&t, &a) == SANDPIPER_DONE && sandpiper_state_of(&twin, &b) == SANDPIPER_DONE);
     CHECK(memcmp(&a, &b, sizeof a) == 0);
     for (uint32_t page = 0; page < a.pages; page++) {
         CHECK(sandpiper_page_at(&t, page, &x) == SANDPIPER_FOUND && sandpiper_page_at(&twin, page, &y) == SANDPIPER_FOUND);
@@ -175,7 +175,7 @@ static void count_roots(uint32_t pages, uint64_t *roots, uint64_t *dead) {
 static void check_counts(void) {
     struct sandpiper_state state;
     uint64_t roots, dead;
-    CHECK(sandpiper_state(&t, &state) == SANDPIPER_DONE);
+    CHECK(sandpiper_state_of(&t, &state) == SANDPIPER_DONE);
     count_roots(state.pages, &roots, &dead);
     for (int index = 0; index < 5; index++) {
         bool is_old = index == 0 || settings.indexed[index - 1];
@@ -233,7 +233,7 @@ static void close_both(uint8_t s) {
 static void look(void) {
     struct sandpiper_state state;
     looks++;
-    CHECK(sandpiper_state(&t, &state) == SANDPIPER_DONE);
+    CHECK(sandpiper_state_of(&t, &state) == SANDPIPER_DONE);
     for (uint8_t s = 0; s < SESSIONS; s++) {
         if (!(state.open_sessions >> s & 1) || (s > 11 && s % 8 != 0)) continue;
         if (!opens(OPEN_HEAP, s, 0)) {
@@ -366,7 +366,7 @@ static void scan_all(uint8_t s) {
 /* Tickets of some pages, as the session sees them. The rows that a ticket shows are those that a get finds. */
 static void take_pages(uint8_t s) {
     struct sandpiper_state state;
-    CHECK(sandpiper_state(&t, &state) == SANDPIPER_DONE);
+    CHECK(sandpiper_state_of(&t, &state) == SANDPIPER_DONE);
     for (uint32_t page = 0; page < state.pages; page += 1 + state.pages / 4) {
         uint32_t status = ask((struct step){TAKE_PAGE, s, page, 0});
         CHECK(status == SANDPIPER_ROWS || status == SANDPIPER_NO_ROW);

@@ -10,7 +10,7 @@ static struct sandpiper_row *row, *place, *batch;
 /* A table with an index by column 0, in which the keys 0 to ROWS - 1 are committed, with the key in column 0. Its rows take several
  * pages. Session 0 is open. */
 static void open_table(void) {
-    const struct sandpiper_settings settings = {64, 2144483648u, 0, 3, 64, {true, false, false, false}};
+    const struct sandpiper_settings settings = {64, 2144483648u, 0, 3, 4096, {true, false, false, false}};
     CHECK(sandpiper_open(&settings, &t) == SANDPIPER_DONE && sandpiper_begin(&t, 0) == SANDPIPER_DONE);
     for (uint64_t key = 0; key < ROWS; key++)
         CHECK(sandpiper_insert(&t, 0, set_row(row, key, (int64_t)key, "first")) == SANDPIPER_DONE);

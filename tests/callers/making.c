@@ -88,7 +88,7 @@ static uint64_t scan(uint8_t index) {
 /* The scans come first, since what they read leaves hints. */
 static struct shown show(void) {
     struct shown now = {.rows = {scan(0), scan(1)}};
-    CHECK(sandpiper_state(&t, &now.state) == SANDPIPER_DONE);
+    CHECK(sandpiper_state_of(&t, &now.state) == SANDPIPER_DONE);
     now.bytes = malloc(now.state.pages * (size_t)SANDPIPER_PAGE_BYTES + 1);
     now.heads = calloc(now.state.pages + 1, sizeof *now.heads);
     CHECK(now.bytes && now.heads);
@@ -126,7 +126,7 @@ static void check_unchanged(const struct shown *before) {
 /* The index has an entry for each row and no other, and who was open by snapshot may not use it. */
 static void check_made(const struct shown *before) {
     struct sandpiper_state state;
-    CHECK(sandpiper_state(&t, &state) == SANDPIPER_DONE && state.has_index[MADE]);
+    CHECK(sandpiper_state_of(&t, &state) == SANDPIPER_DONE && state.has_index[MADE]);
     CHECK(scan(MADE) == before->rows[0] && state.entries[MADE] == before->rows[0]);
     CHECK(state.pages == before->state.pages && state.next_id == before->state.next_id);
     CHECK(sandpiper_open_index(&t, BY_SNAPSHOT, MADE, 0, 0) == SANDPIPER_INDEX_TOO_NEW);

@@ -15,7 +15,7 @@ static void open_table(uint32_t first, uint32_t stop) {
 
 static struct sandpiper_state state_now(void) {
     struct sandpiper_state state;
-    CHECK(sandpiper_state(&t, &state) == SANDPIPER_DONE);
+    CHECK(sandpiper_state_of(&t, &state) == SANDPIPER_DONE);
     return state;
 }
 
@@ -48,7 +48,7 @@ static void a_new_table_is_empty(void) {
 static void without_a_table_nothing_is_written(void) {
     struct sandpiper_state state = {.next_id = 77, .vacuum = 77};
     struct sandpiper_page head = {77, 77, 77};
-    CHECK(sandpiper_state(&t, &state) == SANDPIPER_NO_ENGINE && state.next_id == 77 && state.vacuum == 77);
+    CHECK(sandpiper_state_of(&t, &state) == SANDPIPER_NO_ENGINE && state.next_id == 77 && state.vacuum == 77);
     CHECK(sandpiper_page_at(&t, 0, &head) == SANDPIPER_NO_ROW && head.change == 77 && head.bits == 77 && head.slots == 77);
 }
 

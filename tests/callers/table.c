@@ -12,7 +12,7 @@ static struct sandpiper_row *row, *place;
 
 /* A table with an index by column 0, in which session 0 has committed the keys 1 to 10, with ten times the key in column 0. */
 static void open_table(void) {
-    const struct sandpiper_settings settings = {64, 2144483648u, 0, 3, 64, {true, false, false, false}};
+    const struct sandpiper_settings settings = {64, 2144483648u, 0, 3, 4096, {true, false, false, false}};
     CHECK(sandpiper_open(&settings, &t) == SANDPIPER_DONE && t.is_open);
     CHECK(sandpiper_begin(&t, 0) == SANDPIPER_DONE);
     for (uint64_t key = 1; key <= 10; key++)

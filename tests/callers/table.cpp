@@ -61,7 +61,7 @@ static void check(bool is, const char *what) {
 }
 
 int main() {
-    const sandpiper_settings settings{64, 2144483648u, 0, 3, 64, {true, false, false, false}};
+    const sandpiper_settings settings{64, 2144483648u, 0, 3, 4096, {true, false, false, false}};
     Table opened(settings);
     Table table(std::move(opened));
     sandpiper_row row{}, other{};
@@ -90,7 +90,7 @@ int main() {
     table.begin(0);
     check(table.column(0, 1) == std::vector<std::int64_t>{-5, -4, -2, -1, 20}, "a new session reads the update");
     try {
-        Table(sandpiper_settings{64, 0, 0, 3, 64, {}});
+        Table(sandpiper_settings{64, 0, 0, 3, 4096, {}});
         check(false, "a bad setting is refused");
     } catch (const Refused &refused) {
         check(refused.status == SANDPIPER_BAD_STOP_AGE, "by its name");

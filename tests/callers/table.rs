@@ -152,7 +152,7 @@ fn row_of(key: u64, column: i64) -> Row {
 fn main() -> Result<(), Refused> {
     assert_eq!((size_of::<Handle>(), size_of::<Settings>(), size_of::<Row>()), (16, 24, 1072));
     let mut settings =
-        Settings { max_pages: 0, stop_age: 2144483648, freeze_min_age: 0, first_xid: 3, dead_limit: 64, indexed: [false; 4] };
+        Settings { max_pages: 0, stop_age: 2144483648, freeze_min_age: 0, first_xid: 3, dead_limit: 4096, indexed: [false; 4] };
     assert_eq!(Table::open(&settings).err(), Some(BAD_MAX_PAGES));
     settings.max_pages = 64;
     let mut table = Table::open(&settings)?;

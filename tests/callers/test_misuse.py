@@ -46,12 +46,13 @@ class Signals:
 
 
 def interrupting(seconds: float) -> Signals:
-    """A handler that raises. (What it raises may be swallowed, as in a `__del__`, so it comes again.)"""
+    """A handler that raises. (What it raises may be swallowed, as in a `__del__`, so it comes again; that is long after, so that it does not
+    come while the block is left.)"""
 
     def interrupt() -> None:
         raise Interrupted
 
-    return Signals(interrupt, seconds, 0.05)
+    return Signals(interrupt, seconds, 1.0)
 
 
 class TableTest(unittest.TestCase):
@@ -67,7 +68,7 @@ class TableTest(unittest.TestCase):
 class SignalTest(TableTest):
     """Signal handlers that use the table which they interrupt."""
 
-    def until(self, signals: Signals, work: Callable[[int], None], least: int = 400) -> None:
+    def until(self, signals: Signals, work: Callable[[int], None], least: int = 200) -> None:
         """Works on until so many signals have come."""
         with signals:
             number = 0
@@ -136,7 +137,7 @@ class SignalTest(TableTest):
         self.assertEqual(self.table.state().open_sessions, ())
 
     def test_an_interrupted_begin_leaves_no_session(self) -> None:
-        for number in range(300):
+        for number in range(150):
             with self.assertRaises(Interrupted), interrupting(0.0001 + number * 1e-6):
                 while True:
                     self.table.begin().abort()

@@ -31,7 +31,7 @@ static void unlock(void) {
 static void take(struct view *view) {
     struct sandpiper_state state;
     lock();
-    CHECK(sandpiper_begin(&table, 1) == SANDPIPER_DONE && sandpiper_state(&table, &state) == SANDPIPER_DONE);
+    CHECK(sandpiper_begin(&table, 1) == SANDPIPER_DONE && sandpiper_state_of(&table, &state) == SANDPIPER_DONE);
     CHECK(state.pages <= MOST_PAGES);
     view->pages = state.pages;
     for (uint32_t page = 0; page < view->pages; page++)

@@ -93,7 +93,7 @@ fn of_engine(engine: &Engine) -> SandpiperState
 
 /// Writes what the table is like to `state`.
 #[unsafe(no_mangle)]
-pub extern "C" fn sandpiper_state(
+pub extern "C" fn sandpiper_state_of(
     alloc: Global,
     table: &mut Sandpiper,
     state: &mut SandpiperState,

@@ -1,0 +1,141 @@
+//! The crate of rust/: a bank, scans and a retry.
+use sandpipercot::{Refused, Row, Session, Settings, Table, Ticket, SESSIONS};
+use std::time::Duration;
+
+const SOON: Duration = Duration::from_micros(1);
+
+fn row(key: u64, column: i64, body: &[u8]) -> Row {
+    Row { key, cols: [column, 0, 0, 0], body: body.to_vec() }
+}
+
+fn keys(rows: impl Iterator<Item = Result<Row, Refused>>) -> Vec<u64> {
+    rows.map(|row| row.expect("a row").key).collect()
+}
+
+fn check_rows() -> Result<(), Refused> {
+    let table = Table::open(&Settings { indexed: [true, false, false, false], ..Settings::default() })?;
+    let mut session = table.begin()?;
+    let widest = Row { key: u64::MAX, cols: [i64::MAX, i64::MIN, 0, -1], body: vec![255; 1024] };
+    session.insert(&widest)?;
+    assert_eq!(session.get(u64::MAX)?, Some(widest));
+    for key in 0..100 {
+        session.insert(&row(key, -(key as i64), b"row"))?;
+    }
+    for length in [1025, 65536 + 5] {
+        assert_eq!(session.insert(&row(200, 0, &vec![0; length])), Err(Refused::TooLarge));
+    }
+    assert_eq!(session.insert(&row(5, 0, b"")), Err(Refused::AlreadyThere));
+    session.put(&row(5, -5, b"put"))?;
+    session.put(&row(100, -100, b"put"))?;
+    assert_eq!((session.get(5)?, session.get(100)?), (Some(row(5, -5, b"put")), Some(row(100, -100, b"put"))));
+    session.delete(100)?;
+    assert_eq!(session.get(100)?, None);
+    assert_eq!(keys(session.by_key(7, 9)?), [7, 8, 9]);
+    assert_eq!(keys(session.by_column(0, -9, -7)?), [9, 8, 7]);
+    assert_eq!(keys(session.rows()?).len(), 101);
+    assert_eq!(session.by_column(4, 0, 1).err(), Some(Refused::NoSuchIndex));
+    assert_eq!(session.by_column(255, 0, 1).err(), Some(Refused::NoSuchIndex));
+    assert_eq!(session.by_key(1, 0).err(), Some(Refused::BadBounds));
+    {
+        let mut cursor = session.by_key(0, u64::MAX)?;
+        assert_eq!(cursor.next(), Some(Ok(row(0, 0, b"row"))));
+        assert_eq!(session.get(7)?.map(|row| row.key), Some(7));
+        assert_eq!(session.rows().err(), Some(Refused::CursorOpen));
+    }
+    session.savepoint()?;
+    session.delete(7)?;
+    session.rollback_to()?;
+    session.release()?;
+    assert!(session.get(7)?.is_some());
+    session.commit()?;
+    assert_eq!((table.vacuum(false)?, table.state()?.entries), (3, [Some(101), Some(101), None, None, None]));
+    table.create_index(1)?;
+    assert!(table.vacuum(true)? > 3 && table.state()?.entries[2] == Some(101));
+    assert_eq!(table.prune(99), Err(Refused::NoSuchPage));
+    let refused = Table::open(&Settings { stop_age: 0, ..Settings::default() });
+    assert_eq!(refused.err(), Some(Refused::BadStopAge));
+    Ok(())
+}
+
+fn transfer(session: &mut Session<'_>, from: u64, to: u64, amount: i64) -> Result<(), Refused> {
+    let (mut a, mut b) = (session.get(from)?.expect("from"), session.get(to)?.expect("to"));
+    a.cols[0] -= amount;
+    b.cols[0] += amount;
+    session.update(&a)?;
+    session.update(&b)
+}
+
+fn check_bank() -> Result<(), Refused> {
+    let bank = Table::open(&Settings::default())?;
+    bank.run(1, SOON, |session| (0..10).try_for_each(|account| session.insert(&row(account, 100, b""))))?;
+    let mut tries = 0;
+    let left = bank.run(10, SOON, |session| {
+        let before = session.get(1)?.expect("account 1");
+        if tries == 0 {
+            let mut other = bank.begin()?;
+            transfer(&mut other, 1, 2, 30)?;
+            other.commit()?;
+        }
+        tries += 1;
+        transfer(session, 1, 3, 20)?;
+        Ok(before.cols[0] - 20)
+    })?;
+    assert_eq!((tries, left), (2, 50));
+    // a session that holds the row all along: after so many tries the refusal comes through
+    let mut holder = bank.begin()?;
+    transfer(&mut holder, 4, 5, 1)?;
+    tries = 0;
+    let refused = bank.run(3, SOON, |session| {
+        tries += 1;
+        transfer(session, 4, 6, 1)
+    });
+    assert_eq!((refused, tries), (Err(Refused::Busy(holder.number())), 3));
+    assert_eq!(Refused::Busy(7).to_string(), "open session 7 has written the key");
+    holder.abort()?;
+    // what is no such refusal comes through at once
+    tries = 0;
+    let refused = bank.run(3, SOON, |session| {
+        tries += 1;
+        session.delete(99)
+    });
+    assert_eq!((refused, tries, bank.state()?.open_sessions), (Err(Refused::NotThere), 1, 0));
+    let reader = bank.begin_read_committed()?;
+    bank.run(1, SOON, |session| transfer(session, 1, 2, 5))?;
+    assert_eq!(reader.get(1)?.expect("account 1").cols[0], 45);
+    assert_eq!(reader.by_key(0, 9)?.map(|row| row.expect("a row").cols[0]).sum::<i64>(), 1000);
+    Ok(())
+}
+
+fn check_ends() -> Result<(), Refused> {
+    let table = Table::open(&Settings::default())?;
+    let mut lost = table.begin()?;
+    lost.insert(&row(1, 0, b"lost"))?;
+    drop(lost);
+    assert_eq!((table.state()?.open_sessions, table.begin()?.get(1)?), (0, None));
+    let mut old = table.begin()?;
+    table.run(1, SOON, |session| session.insert(&row(1, 0, b"first")))?;
+    assert_eq!(old.insert(&row(1, 0, b"second")), Err(Refused::Conflict));
+    assert_eq!(old.get(1), Err(Refused::Failed));
+    assert_eq!(old.commit(), Err(Refused::RolledBack));
+    assert_eq!(table.state()?.open_sessions, 0);
+    let sessions: Vec<_> = (0..SESSIONS).map(|_| table.begin().expect("a session")).collect();
+    assert_eq!(table.begin().err(), Some(Refused::NoSuchSession));
+    drop(sessions);
+    // a ticket outlives its session and its table, and goes to another thread
+    let mut session = table.begin()?;
+    session.insert(&row(2, 0, b"taken"))?;
+    let mut ticket: Ticket = session.take_page(0)?;
+    session.abort()?;
+    drop(table);
+    let rows = std::thread::spawn(move || ticket.rows()).join().expect("it ends")?;
+    assert_eq!(rows, [row(1, 0, b"first"), row(2, 0, b"taken")]);
+    Ok(())
+}
+
+fn main() -> Result<(), Refused> {
+    check_rows()?;
+    check_bank()?;
+    check_ends()?;
+    println!("all right");
+    Ok(())
+}
