@@ -107,6 +107,7 @@ fi
 say "the Python module"
 CC=$compiler python3 "$tests/test_constants.py" "$prefix/include" "$work/statuses.out"
 python3 "$tests/test_table.py"
+python3 "$tests/test_misuse.py"
 python3 "$root/tests/pages/test_pages.py"
 python3 "$tests/test_random.py"
 python3 "$tests/test_plans.py"

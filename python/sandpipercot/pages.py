@@ -6,6 +6,7 @@ import enum
 from typing import NamedTuple, Optional
 
 from . import _c
+from .rows import text_of
 
 
 class FaultKind(enum.IntEnum):
@@ -29,6 +30,6 @@ class PageFault(NamedTuple):
 
 def check_page(page: bytes) -> Optional[PageFault]:
     """What is wrong first with these bytes, as those of a page (docs/format.md), or None. It needs no table."""
-    slot = ctypes.c_uint32()
-    kind = _c.CALLS["check_page"](ctypes.cast(page, ctypes.c_void_p).value or 0, len(page), ctypes.addressof(slot))
+    given, slot = bytes(text_of(page, "page")), ctypes.c_uint32()
+    kind = _c.CALLS["check_page"](ctypes.cast(given, ctypes.c_void_p).value or 0, len(given), ctypes.addressof(slot))
     return PageFault(FaultKind(kind), slot.value) if kind else None

@@ -3,6 +3,7 @@ from __future__ import annotations
 
 import ctypes
 import functools
+import operator
 import struct
 from typing import Any, Callable, List, NamedTuple, Tuple
 
@@ -32,22 +33,36 @@ MOST = range(_c.BODY + 1)
 _row: Callable[[Tuple[Any, ...]], Row] = functools.partial(tuple.__new__, Row)
 
 
-def fits(value: int, bits: int) -> int:
+def whole(value: object, name: str) -> int:
+    """The number, if it is a whole one."""
+    try:
+        return operator.index(value)  # type: ignore[arg-type]
+    except TypeError:
+        raise TypeError(f"{name} is no whole number: {value!r}") from None
+
+
+def fits(value: int, bits: int, name: str) -> int:
     """The number, if it is one of so many bits: ctypes would cut it without a word."""
-    if not isinstance(value, int):
-        raise TypeError(f"{value!r} is no whole number")
-    if not 0 <= value < 1 << bits:
-        raise OverflowError(f"{value} is not from 0 to {(1 << bits) - 1}")
-    return value
+    number = whole(value, name)
+    if not 0 <= number < 1 << bits:
+        raise OverflowError(f"{name} is not from 0 to {(1 << bits) - 1}: {number}")
+    return number
 
 
-def fits_signed(value: int) -> int:
+def fits_signed(value: int, name: str) -> int:
     """The number, if it is one of 64 bits with its sign."""
-    if not isinstance(value, int):
-        raise TypeError(f"{value!r} is no whole number")
-    if not -(1 << 63) <= value < 1 << 63:
-        raise OverflowError(f"{value} is not from {-(1 << 63)} to {(1 << 63) - 1}")
-    return value
+    number = whole(value, name)
+    if not -(1 << 63) <= number < 1 << 63:
+        raise OverflowError(f"{name} is not from {-(1 << 63)} to {(1 << 63) - 1}: {number}")
+    return number
+
+
+def text_of(value: object, name: str) -> memoryview:
+    """The bytes, if they are some: `bytes` of a number would be that many zeros."""
+    try:
+        return memoryview(value)  # type: ignore[arg-type]
+    except TypeError:
+        raise TypeError(f"{name} has no bytes: {value!r}") from None
 
 
 class Places:
@@ -61,21 +76,26 @@ class Places:
 
     def put(self, row: Row, number: int = 0) -> None:
         """Writes a row to the place of this number."""
-        key, cols, body = row
         try:
+            key, cols, body = row
             # (a body that is too long would be cut without a word)
             PLACE.pack_into(self._bytes, number * SIZE, key, *cols, MOST[len(body)], body)
-        except (struct.error, TypeError, IndexError):
+        except (struct.error, TypeError, ValueError, IndexError):
             self._put_checked(row, number * SIZE)
 
     def _put_checked(self, row: Row, at: int) -> None:
         """The same, with a word on what is wrong with the row."""
-        if len(row.cols) != 4:
-            raise ValueError("a row has four columns")
+        try:
+            key, cols, body = row
+            a, b, c, d = cols
+        except TypeError:
+            raise TypeError(f"row is no key, columns and body: {row!r}") from None
+        except ValueError:
+            raise ValueError(f"row has a key, four columns and a body: {row!r}") from None
+        columns = [fits_signed(it, f"cols[{number}]") for number, it in enumerate((a, b, c, d))]
         # (one byte too many is enough: the library refuses the row as too large, whatever is behind)
-        # (`bytes` of a number would be that many zeros)
-        body = bytes(memoryview(row.body))[: _c.BODY + 1]
-        PLACE.pack_into(self._bytes, at, fits(row.key, 64), *map(fits_signed, row.cols), len(body), body)
+        some = bytes(text_of(body, "body"))[: _c.BODY + 1]
+        PLACE.pack_into(self._bytes, at, fits(key, 64, "key"), *columns, len(some), some)
 
     def row(self) -> Row:
         """The row in the first place."""

@@ -1,6 +1,7 @@
 """Sessions and their cursors."""
 from __future__ import annotations
 
+import contextlib
 import ctypes
 import itertools
 import warnings
@@ -10,8 +11,9 @@ from types import TracebackType
 from typing import TYPE_CHECKING, Any, Iterable, Iterator, List, Optional, Type, TypeVar
 
 from . import _c
-from .rows import Places, Row, fits, fits_signed
-from .statuses import NoSuchIndex, NotOpen, RolledBack, Status, refusal
+from .owned import Owned
+from .rows import Places, Row, fits, fits_signed, whole
+from .statuses import Failed, NoSuchIndex, NotOpen, NotThere, RolledBack, Status, refusal
 from .tickets import Ticket
 
 if TYPE_CHECKING:
@@ -28,18 +30,22 @@ FOUND, NO_ROW = int(Status.FOUND), int(Status.NO_ROW)
 _get = _c.CALLS["get"]
 
 
-class Session:
+class Session(Owned):
     """A transaction, from `Table.begin` to `commit` or `abort`. Each call may be refused as NotOpen, or as Failed. One that is let go
     without an end is aborted by the next call of its table."""
 
     _is_open = False
 
-    def __init__(self, table: Table, number: int) -> None:
+    def __init__(self, table: Table, number: int = 0) -> None:
+        self._make()
         self._table, self._number = table, number
+        # what the table knows it by, while its number is taken
+        self._mine = object()
+        # how many savepoints there are
+        self._depth = 0
         # a cursor was let go and is still to be closed: what the collector runs makes no call of the library
         self._has_lost_cursor = False
         self._cursor: Optional[weakref.ref[BaseCursor[Any]]] = None
-        self._is_open = True
 
     def _ready(self) -> None:
         """Looks whether a call may be made, and does what was left to the next one."""
@@ -57,13 +63,21 @@ class Session:
         return self._table._call(name, self._number, *arguments)
 
     def _end(self, name: str) -> int:
-        status = self._call(name)
+        try:
+            status = self._call(name)
+        except NotOpen:
+            # (it had ended, and a signal handler raised before that was noted)
+            self._has_ended()
+            raise
+        self._has_ended()
+        return status
+
+    def _has_ended(self) -> None:
         self._is_open = False
-        self._table._sessions.discard(self._number)
+        self._table._frees(self._number, self._mine)
         cursor = self._cursor and self._cursor()
         if cursor:
             cursor._drop_rows()
-        return status
 
     @property
     def number(self) -> int:
@@ -77,19 +91,50 @@ class Session:
     def get(self, key: int) -> Optional[Row]:
         """The row of the key, or None."""
         self._ready()
-        place = self._table._place
-        status = _get(self._table._address, self._number, key if 0 <= key <= MOST_KEY else fits(key, 64), place.address)
-        if status == FOUND:
-            return place.row()
-        if status == NO_ROW:
-            return None
-        raise refusal(status, key)
+        if type(key) is not int or not 0 <= key <= MOST_KEY:
+            key = fits(key, 64, "key")
+        # (whatever comes in between, as a signal handler, takes places of its own)
+        free = self._table._free
+        try:
+            place = free.pop()
+        except IndexError:
+            place = Places(1)
+        status = _get(self._table._address, self._number, key, place.address)
+        row = place.row() if status == FOUND else None
+        free.append(place)
+        if status > NO_ROW:
+            raise refusal(status, key)
+        return row
+
+    def get_many(self, keys: Iterable[int]) -> List[Optional[Row]]:
+        """The rows of the keys, or None where a key has none, in the order of the keys."""
+        return [self.get(key) for key in keys]
+
+    def __contains__(self, key: int) -> bool:
+        return self.get(key) is not None
+
+    def __len__(self) -> int:
+        """How many rows the session reads. They are counted by a cursor over keys, so that takes as long as a scan. Refusal: CursorOpen."""
+        with self.keys(batch=MOST_AT_ONCE) as keys:
+            return sum(1 for _ in keys)
+
+    def __bool__(self) -> bool:
+        # (without this a session that reads no row would count as none)
+        return True
+
+    def __repr__(self) -> str:
+        return f"<sandpipercot.Session {self._number}, {'open' if self.is_open else 'ended'}>"
 
     def _write(self, name: str, row: Row) -> None:
         self._ready()
-        place = self._table._place
+        free = self._table._free
+        try:
+            place = free.pop()
+        except IndexError:
+            place = Places(1)
         place.put(row)
         status = _c.CALLS[name](self._table._address, self._number, place.address)
+        free.append(place)
         if status:
             raise refusal(status, row[0])
 
@@ -127,16 +172,35 @@ class Session:
         before it stay updated. Refusals: as of `update`."""
         return self._write_many("update_many", rows)
 
+    def put(self, row: Row) -> None:
+        """Writes a row, whether its key has one or not: updates it, or else inserts it. Refusals: as of `insert`, without AlreadyThere."""
+        try:
+            self.update(row)
+        except NotThere:
+            self.insert(row)
+
     def delete(self, key: int) -> None:
         """Takes the row of the key away. Refusals: CursorOpen, NotThere, Conflict, Busy, Deadlock, NeedsFreeze, NoMemory."""
         self._ready()
-        status = _c.CALLS["delete"](self._table._address, self._number, fits(key, 64))
+        status = _c.CALLS["delete"](self._table._address, self._number, fits(key, 64, "key"))
         if status:
             raise refusal(status, key)
 
-    def savepoint(self) -> None:
-        """Sets a savepoint above those that there are. Refusals: CursorOpen, TooDeep after 32 of them, NoMemory."""
+    def delete_many(self, keys: Iterable[int]) -> int:
+        """Takes the rows of the keys away, in their order, and answers how many there were. A refusal names its key; the rows before it
+        stay deleted. Refusals: as of `delete`."""
+        count = 0
+        for key in keys:
+            self.delete(key)
+            count += 1
+        return count
+
+    def savepoint(self) -> Savepoint:
+        """Sets a savepoint above those that there are, and answers it for a `with` block. Refusals: CursorOpen, TooDeep after 32 of them,
+        NoMemory."""
         self._call("savepoint")
+        self._depth += 1
+        return Savepoint(self, self._depth)
 
     def rollback_to(self) -> None:
         """Takes back what was written since the newest savepoint, which stays; a failed transaction is usable again. Refusals:
@@ -146,6 +210,7 @@ class Session:
     def release(self) -> None:
         """Forgets the newest savepoint, and keeps what was written since. Refusals: CursorOpen, NoSavepoint."""
         self._call("release")
+        self._depth -= 1
 
     def commit(self) -> None:
         """Makes what was written part of the table, and ends the session. Raises RolledBack where the transaction had failed."""
@@ -162,27 +227,29 @@ class Session:
         return Cursor(self, batch, "open_heap")
 
     def by_key(self, low: int = 0, high: int = (1 << 64) - 1, batch: int = 64) -> Cursor:
-        """The same over the rows with keys from low to high, both included, in ascending order. Refusals: CursorOpen, BadBounds."""
-        return Cursor(self, batch, "open_by_key", fits(low, 64), fits(high, 64))
+        """The same over the rows with keys from low to high, both included, in ascending order; there is no scan backwards. Refusals:
+        CursorOpen, BadBounds."""
+        return Cursor(self, batch, "open_by_key", fits(low, 64, "low"), fits(high, 64, "high"))
 
     def by_column(self, column: int, low: int = -(1 << 63), high: int = (1 << 63) - 1, batch: int = 64) -> Cursor:
         """The same by the values of a column, 0 to 3, that has an index, and by key where values are equal. Refusals: CursorOpen,
         NoSuchIndex, IndexTooNew, BadBounds."""
-        if not 0 <= column < COLUMNS:
+        if not 0 <= whole(column, "column") < COLUMNS:
             raise NoSuchIndex(f"there is no column {column}: they are 0 to {COLUMNS - 1}")
-        return Cursor(self, batch, "open_index", column + 1, fits_signed(low), fits_signed(high))
+        return Cursor(self, batch, "open_index", column + 1, fits_signed(low, "low"), fits_signed(high, "high"))
 
     def keys(self, low: int = 0, high: int = (1 << 64) - 1, batch: int = 64) -> KeyCursor:
         """A cursor over the keys alone that `by_key` would hand out rows of, in ascending order: no page is read that is noted as
         all-visible. Refusals: CursorOpen, BadBounds."""
-        return KeyCursor(self, batch, "open_keys", fits(low, 64), fits(high, 64))
+        return KeyCursor(self, batch, "open_keys", fits(low, 64, "low"), fits(high, 64, "high"))
 
     def take_page(self, page: int) -> Ticket:
         """A page, counted from 0, as it is now, with what the session sees of it now: its rows can be read at any time. Refusals:
         NoSuchPage, NoMemory."""
-        place = _c.Ticket()
-        self._call("take_page", fits(page, 32), ctypes.addressof(place))
-        return Ticket(place)
+        # (made first, so that it lets go of the page where a signal handler raises)
+        ticket = Ticket(_c.Ticket(), fits(page, 32, "page"))
+        self._call("take_page", ticket._page, ticket._address)
+        return ticket
 
     def __enter__(self) -> Session:
         return self
@@ -196,27 +263,72 @@ class Session:
             # (raises NoEngine where the table was closed before: nothing was committed)
             self.commit()
         elif self._table.is_open:
-            self.abort()
+            with contextlib.suppress(NotOpen):
+                self.abort()
 
     def __del__(self) -> None:
         if self._is_open and self._table.is_open:
-            self._table._lost.append(self._number)
+            self._table._lost.append((self._number, self._mine))
             warnings.warn(f"session {self._number} was let go while it was open", ResourceWarning, source=self)
+        elif self._is_made:
+            self._table._frees(self._number, self._mine)
 
 
-class BaseCursor(Iterator[Item]):
+class Savepoint:
+    """A savepoint as a `with` block: at its end the savepoint is released, and what was written stays. An exception that leaves the block
+    takes back what was written in it, and goes on; after that the session is usable also where it had failed. A cursor that is open
+    then is closed."""
+
+    def __init__(self, session: Session, depth: int) -> None:
+        self._session, self._depth = session, depth
+
+    def _is_there(self) -> bool:
+        return self._session.is_open and self._session._depth >= self._depth
+
+    def _release(self) -> None:
+        """Releases it, and those above it."""
+        while self._is_there():
+            self._session.release()
+
+    def _take_back(self) -> None:
+        """Returns to it, and releases it."""
+        cursor = self._session._cursor and self._session._cursor()
+        if cursor:
+            cursor.close()
+        while self._is_there():
+            self._session.rollback_to()
+            self._session.release()
+
+    def __enter__(self) -> Savepoint:
+        return self
+
+    def __exit__(
+        self, kind: Optional[Type[BaseException]], fault: Optional[BaseException], trace: Optional[TracebackType]
+    ) -> None:
+        if kind is not None:
+            self._take_back()
+            return
+        try:
+            self._release()
+        except Failed:
+            self._take_back()
+            raise
+
+
+class BaseCursor(Owned, Iterator[Item]):
     """What cursors over rows and over keys have in common."""
 
     _is_open = False
 
     def __init__(self, session: Session, batch: int, opening: str, *arguments: Any) -> None:
-        if fits(batch, 16) == 0:
+        self._make()
+        if fits(batch, 16, "batch") == 0:
             raise ValueError("a batch is of one row at least")
-        self._session = session
-        self._places = session._table._places_for(min(batch, MOST_AT_ONCE))
+        self._session, self._opening = session, opening
         self._batch = min(batch, MOST_AT_ONCE)
         self._fetched: List[Item] = []
         self._rows = iter(self._fetched)
+        self._is_fetching = False
         session._call(opening, *arguments)
         session._cursor = weakref.ref(self)
         self._is_open = True
@@ -225,16 +337,33 @@ class BaseCursor(Iterator[Item]):
         """Asks for the next rows, and answers whether there are any. After the last the cursor is closed."""
         if not self._is_open:
             return False
-        count = ctypes.c_size_t()
-        status = self._session._call("next", self._places.address, self._batch, ctypes.addressof(count))
+        if self._is_fetching:
+            # (rows of one of the two would be lost)
+            raise RuntimeError("the cursor is asked for rows while it fetches some")
+        self._is_fetching = True
+        try:
+            return self._fetch_alone()
+        finally:
+            self._is_fetching = False
+
+    def _fetch_alone(self) -> bool:
+        between = list(self._rows)
+        if between:
+            # (a signal handler has fetched them, and left them)
+            self._fetched, self._rows = between, iter(between)
+            return True
+        table, count = self._session._table, ctypes.c_size_t()
+        places = table._places_for(self._batch)
+        status = self._session._call("next", places.address, self._batch, ctypes.addressof(count))
+        if status != Status.END:
+            self._fetched = self._read(places, count.value)
+            self._rows = iter(self._fetched)
+        table._free_many.append(places)
         if status == Status.END:
             self.close()
-            return False
-        self._fetched = self._read(count.value)
-        self._rows = iter(self._fetched)
-        return True
+        return status != Status.END
 
-    def _read(self, count: int) -> List[Item]:
+    def _read(self, places: Places, count: int) -> List[Item]:
         """What was written to the first places."""
         raise NotImplementedError
 
@@ -250,11 +379,11 @@ class BaseCursor(Iterator[Item]):
                 return
 
     def __next__(self) -> Item:
-        for row in self._rows:
-            return row
-        if not self._fetch():
-            raise StopIteration
-        return next(self._rows)
+        while True:
+            for row in self._rows:
+                return row
+            if not self._fetch():
+                raise StopIteration
 
     def close(self) -> None:
         """Ends the cursor; rows that were fetched and not handed out are dropped. A cursor that is closed stays so."""
@@ -262,6 +391,10 @@ class BaseCursor(Iterator[Item]):
         self._drop_rows()
         if was_open and self._session.is_open:
             self._session._call("close_cursor")
+
+    def __repr__(self) -> str:
+        state = "open" if self._is_open and self._session.is_open else "closed"
+        return f"<sandpipercot.{type(self).__name__} of session {self._session._number}, {state}>"
 
     def __enter__(self) -> BaseCursor[Item]:
         return self
@@ -279,12 +412,12 @@ class Cursor(BaseCursor[Row]):
     its `with` block, or when it is let go; it ends with its session, as NotOpen. While it is open the session reads, and writes
     nothing. Rows that it has handed out stay."""
 
-    def _read(self, count: int) -> List[Row]:
-        return self._places.rows(count)
+    def _read(self, places: Places, count: int) -> List[Row]:
+        return places.rows(count)
 
 
 class KeyCursor(BaseCursor[int]):
     """The same over keys alone."""
 
-    def _read(self, count: int) -> List[int]:
-        return self._places.keys(count)
+    def _read(self, places: Places, count: int) -> List[int]:
+        return places.keys(count)

@@ -1,15 +1,17 @@
 """Tables, and what they tell of themselves."""
 from __future__ import annotations
 
+import contextlib
 import ctypes
 import enum
 import threading
-from typing import Any, Iterable, Iterator, List, NamedTuple, Optional, Sequence, Set, Tuple
+from typing import Any, Dict, Iterable, Iterator, List, NamedTuple, Optional, Sequence, Tuple
 
 from . import _c
+from .owned import Owned
 from .rows import Places, fits
 from .sessions import Session
-from .statuses import NoSuchSession, Status, refusal
+from .statuses import AlreadyOpen, NoEngine, NoSuchSession, NoVacuum, Status, VacuumRunning, refusal
 
 
 class Kind(enum.IntEnum):
@@ -96,7 +98,7 @@ class State(NamedTuple):
     vacuum: Vacuum
 
 
-class Table:
+class Table(Owned):
     """A table of these settings, whose ranges sandpipercot.h gives; column `c` has an index where `indexed[c]` is true.
 
     It is closed at the end of its `with` block, by `close`, or when it is let go; sessions that are open then are aborted.
@@ -114,29 +116,49 @@ class Table:
         dead_limit: int = 64,
         indexed: Sequence[bool] = (False, False, False, False),
     ) -> None:
-        numbers = [fits(it, 32) for it in (max_pages, stop_age, freeze_min_age, first_xid, dead_limit)]
+        self._make()
+        named = {
+            "max_pages": max_pages,
+            "stop_age": stop_age,
+            "freeze_min_age": freeze_min_age,
+            "first_xid": first_xid,
+            "dead_limit": dead_limit,
+        }
+        numbers = [fits(value, 32, name) for name, value in named.items()]
         if len(indexed) != 4:
             raise ValueError("indexed has one flag for each of the four columns")
         settings = _c.Settings(*numbers, (ctypes.c_bool * 4)(*indexed))
         handle = _c.Handle()
         self._address, self._thread = ctypes.addressof(handle), threading.get_ident()
-        self._place = self._places = Places(1)
-        self._sessions: Set[int] = set()
+        # places that no call has just now, for one row, and for a cursor's
+        self._free, self._free_many = [Places(1)], [Places(1)]
+        # the sessions that are open, each with what tells whose its number is
+        self._sessions: Dict[int, object] = {}
         # sessions that were let go and are still to be aborted: what the collector runs makes no call of the library
-        self._lost: List[int] = []
+        self._lost: List[Tuple[int, object]] = []
+        self._is_aborting = False
+        # (kept first, so that the table is closed where a signal handler raises)
+        self._handle = handle
         status = _c.CALLS["open"](ctypes.addressof(settings), self._address)
         if status != Status.DONE:
             raise refusal(status)
-        self._handle = handle
 
     def _ready(self) -> None:
         """Looks whether a call may be made here, and aborts the sessions that were let go."""
         if threading.get_ident() != self._thread:
             raise RuntimeError("a table stays on the thread that opened it")
-        while self._lost:
-            number = self._lost.pop()
-            _c.CALLS["abort"](self._address, number)
-            self._sessions.discard(number)
+        if not self._lost or self._is_aborting:
+            return
+        self._is_aborting = True
+        try:
+            for number, mine in [*self._lost]:
+                # (a number that is taken anew is another session's)
+                if self._sessions.get(number) is mine:
+                    _c.CALLS["abort"](self._address, number)
+                    self._frees(number, mine)
+                self._lost.remove((number, mine))
+        finally:
+            self._is_aborting = False
 
     def _call(self, name: str, *arguments: Any) -> int:
         self._ready()
@@ -146,10 +168,22 @@ class Table:
         return status
 
     def _places_for(self, count: int) -> Places:
-        """So many places or more. All cursors share them: what a call has written there is read before the next one."""
-        if self._places.count < count:
-            self._places = Places(count)
-        return self._places
+        """So many places or more, for one call. Whatever comes before they are given back, as a signal handler, takes others."""
+        try:
+            places = self._free_many.pop()
+        except IndexError:
+            places = Places(count)
+        return places if places.count >= count else Places(count)
+
+    def _takes(self, number: int, session: Session) -> bool:
+        """Takes a number for a session, where no open one has it."""
+        session._number = number
+        return self._sessions.setdefault(number, session._mine) is session._mine
+
+    def _frees(self, number: int, mine: object) -> None:
+        """Frees a session's number, where it has it still."""
+        if self._sessions.get(number) is mine:
+            self._sessions.pop(number, None)
 
     @property
     def is_open(self) -> bool:
@@ -160,13 +194,20 @@ class Table:
         `read_committed` each of its calls reads what is committed by then, and no write of it meets a Conflict. Refusals:
         NoSuchSession, also where all 64 are open, AlreadyOpen, and NoMemory, not by `read_committed`."""
         self._ready()
-        if number is None:
-            number = next((it for it in range(_c.SESSIONS) if it not in self._sessions), _c.SESSIONS)
-            if number == _c.SESSIONS:
-                raise NoSuchSession("all 64 sessions are open")
-        self._call("begin_read_committed" if read_committed else "begin", fits(number, 8))
-        self._sessions.add(number)
-        return Session(self, number)
+        session = Session(self)
+        if number is not None:
+            is_taken = self._takes(fits(number, 8, "number"), session)
+        else:
+            is_taken = any(self._takes(it, session) for it in range(_c.SESSIONS))
+        if not is_taken:
+            raise AlreadyOpen() if number is not None else NoSuchSession("all 64 sessions are open")
+        # (open from here on, so that it is aborted where a signal handler raises)
+        session._is_open = True
+        status = _c.CALLS["begin_read_committed" if read_committed else "begin"](self._address, session._number)
+        if status:
+            session._has_ended()
+            raise refusal(status)
+        return session
 
     def keep_places(self, wanted: bool) -> None:
         """Forgets where keys were put, and notes it from now on, or never. A new table notes it. It makes gets faster and takes 8 to
@@ -176,18 +217,18 @@ class Table:
     def create_index(self, column: int) -> None:
         """Makes the index of a column, from 0 to 3, which is index column + 1; nothing is done where it is there. A session that was
         open by snapshot opens no cursor by it. Refusals: NoSuchIndex, VacuumRunning, IndexBusy, NoMemory."""
-        self._call("create_index", fits(column, 8))
+        self._call("create_index", fits(column, 8, "column"))
 
     def prune(self, page: int) -> None:
         """Takes from a page, counted from 0, the versions that no session can see any more. Refusal: NoSuchPage."""
-        self._call("prune", fits(page, 32))
+        self._call("prune", fits(page, 32, "page"))
 
     def apply_plan(self, page: int, change: int, actions: Iterable[Action] = ()) -> None:
         """Does to the slots of a page what a plan names, in ascending order of slots. It was made when the page's change number was
         `change` (`page` tells it), and may take less than `prune` does. Refusals: NoMemory, NoSuchPage, Stale."""
-        named = [_c.Action(*(fits(it, 16) for it in action)) for action in actions]
+        named = [_c.Action(*(fits(it, 16, name) for it, name in zip(action, Action._fields))) for action in actions]
         places = (_c.Action * max(1, len(named)))(*named)
-        self._call("apply_plan", fits(page, 32), fits(change, 64), ctypes.addressof(places), len(named))
+        self._call("apply_plan", fits(page, 32, "page"), fits(change, 64, "change"), ctypes.addressof(places), len(named))
 
     def vacuum_begin(self, aggressive: bool = False) -> None:
         """Begins a vacuum, which runs beside the sessions; at the end of an aggressive one old ids are forgotten. Refusal:
@@ -205,11 +246,20 @@ class Table:
         self._call("vacuum_cancel")
 
     def vacuum(self, aggressive: bool = False) -> int:
-        """A whole vacuum, and the oldest id that is remembered after it. Refusal: VacuumRunning (`state` says of which mode)."""
-        self.vacuum_begin(aggressive)
-        while (piece := self.vacuum_step()).kind != PieceKind.NO_PIECE:
-            pass
-        return piece.oldest
+        """A whole vacuum, and the oldest id that is remembered after it. One that an exception leaves, as KeyboardInterrupt, is cancelled.
+        Refusal: VacuumRunning (`state` says of which mode)."""
+        if self.state().vacuum != Vacuum.NONE:
+            raise VacuumRunning()
+        try:
+            self.vacuum_begin(aggressive)
+            while (piece := self.vacuum_step()).kind != PieceKind.NO_PIECE:
+                pass
+            return piece.oldest
+        except BaseException:
+            # (none runs where it came before the beginning, or after the end)
+            with contextlib.suppress(NoVacuum, NoEngine):
+                self.vacuum_cancel()
+            raise
 
     def state(self) -> State:
         """What the table is like now."""
@@ -219,30 +269,47 @@ class Table:
         entries = tuple(count if there else None for count, there in zip(state.entries, state.has_index))
         return State(state.next_id, state.oldest_id, state.ids_left, state.pages, numbers, entries, Vacuum(state.vacuum))
 
+    def _finds(self, name: str, *arguments: Any) -> bool:
+        """Whether there is what a call looks for. Where there is no table the library says that there is none."""
+        found = self._call(name, *arguments) == Status.FOUND
+        if not found and not self.is_open:
+            raise NoEngine()
+        return found
+
     def page(self, page: int) -> Optional[Page]:
         """What a page, counted from 0, tells of itself, or None where it is not in use."""
         head = _c.Page()
-        if self._call("page_at", fits(page, 32), ctypes.addressof(head)) != Status.FOUND:
+        if not self._finds("page_at", fits(page, 32, "page"), ctypes.addressof(head)):
             return None
         return Page(head.change, head.bits >= 1, head.bits == 2, head.slots)
 
     def slots(self, page: int) -> Iterator[Slot]:
         """The slots of a page, counted from 0: slot 1, 2 and so on. Of a page that is not in use there are none."""
+        self._finds("page_at", fits(page, 32, "page"), ctypes.addressof(_c.Page()))
+        return self._slots(page)
+
+    def _slots(self, page: int) -> Iterator[Slot]:
         slot, number = _c.Slot(), 1
-        while self._call("slot_at", fits(page, 32), number, ctypes.addressof(slot)) == Status.FOUND:
+        while self._finds("slot_at", page, number, ctypes.addressof(slot)):
             yield Slot(Kind(slot.kind), slot.target, slot.xmin, slot.xmax, slot.key)
             number += 1
 
     def page_bytes(self, page: int) -> Optional[bytes]:
         """The 8192 bytes of a page, counted from 0, in PostgreSQL's layout (docs/format.md), or None where it is not in use."""
         place = (ctypes.c_uint8 * _c.PAGE_BYTES)()
-        found = self._call("page_bytes", fits(page, 32), ctypes.addressof(place), _c.PAGE_BYTES)
-        return bytes(place) if found == Status.FOUND else None
+        found = self._finds("page_bytes", fits(page, 32, "page"), ctypes.addressof(place), _c.PAGE_BYTES)
+        return bytes(place) if found else None
 
     def close(self) -> None:
         """Aborts what is open, and gives the memory back. A table that is closed stays so."""
         if self.is_open:
             self._call("close")
+
+    def __repr__(self) -> str:
+        if not self.is_open:
+            return "<sandpipercot.Table, closed>"
+        numbers = ", ".join(map(str, sorted(self._sessions)))
+        return f"<sandpipercot.Table, open, sessions: {numbers or 'none'}>"
 
     def __enter__(self) -> Table:
         return self

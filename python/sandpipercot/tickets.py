@@ -2,25 +2,29 @@
 from __future__ import annotations
 
 import ctypes
-from typing import List
+from typing import List, Optional
 
 from . import _c
+from .owned import Owned
 from .rows import Places, Row
 from .statuses import Status, refusal
 
 
-class Ticket:
+class Ticket(Owned):
     """A page as it was when `Session.take_page` took it, with what the session saw of it then. It is no part of its table: it may be read
     on any thread, one call at a time, whatever is done to the table meanwhile. Its memory is given back by `close`, at the end of its
     `with` block, or when it is let go."""
 
-    def __init__(self, place: _c.Ticket) -> None:
-        self._place = place
+    _place: Optional[_c.Ticket] = None
+
+    def __init__(self, place: _c.Ticket, page: int) -> None:
+        self._make()
+        self._page, self._place = page, place
         self._address = ctypes.addressof(place)
 
     @property
     def is_open(self) -> bool:
-        return bool(self._place.is_taken)
+        return self._place is not None and bool(self._place.is_taken)
 
     def rows(self) -> List[Row]:
         """The rows that the session saw, in the order of their slots. Refusals: NoTicket once it is closed, and NoMemory."""
@@ -34,6 +38,9 @@ class Ticket:
         """Gives the memory back. A ticket that is closed stays so."""
         if self.is_open:
             _c.CALLS["close_ticket"](self._address)
+
+    def __repr__(self) -> str:
+        return f"<sandpipercot.Ticket of page {self._page}, {'open' if self.is_open else 'closed'}>"
 
     def __enter__(self) -> Ticket:
         return self

@@ -3,7 +3,8 @@
 The scripts are the worked ones, those that loops make (both of tests/scripts), and the examples.
 Of a cut script the lines before the cut are answered as they are in the whole one. A cut inside line N makes that the bad line N. A cut
 page is no page. Scripts are also cut as the lines of one worker, for `heapsh threads`: there nothing is written where a line is bad.
-The answers of the whole are those beside the lines of the worked scripts, and those on the pages of the examples.
+The answers of the whole are those beside the lines of the worked scripts, and those on the pages of the examples; what is told of a whole
+page stands in the tables of tests/scripts.
 
 The program begins anew for each cut, without being loaded anew: cutting.c copies it where it is about to begin.
 """
@@ -16,7 +17,7 @@ import sys
 import tempfile
 import time
 from multiprocessing import Pool
-from typing import IO, Iterable, Iterator, List, NamedTuple, Optional
+from typing import IO, Iterable, Iterator, List, NamedTuple, Optional, Tuple
 
 HERE = os.path.dirname(os.path.abspath(__file__))
 ROOT = os.path.dirname(os.path.dirname(HERE))
@@ -25,6 +26,7 @@ sys.path[:0] = [os.path.join(ROOT, folder) for folder in ("examples", "tests/pag
 import check  # noqa: E402
 import made_scripts  # noqa: E402
 import page_format  # noqa: E402
+import tables  # noqa: E402
 import worked  # noqa: E402
 
 class Script(NamedTuple):
@@ -142,10 +144,9 @@ def try_script(program: Program, word: str, script: Script) -> int:
     return compare(f"{word} of {script.name}", ends_on(program, word, script.text), ends_of_cuts(script, word))
 
 
-def try_page(program: Program, page: bytes) -> int:
-    whole = subprocess.run([program.heapsh, "inspect"], input=page, capture_output=True, check=True).stdout
-    assert whole.startswith(b"page "), f"of a whole page is told {whole}"
-    return compare("a page", ends_on(program, "inspect", page), ends_of_page(page, whole))
+def try_page(program: Program, page: Tuple[bytes, str]) -> int:
+    whole, told = page
+    return compare("a page", ends_on(program, "inspect", whole), ends_of_page(whole, told.encode()))
 
 
 def compiled(room: str) -> str:
@@ -158,7 +159,7 @@ def compiled(room: str) -> str:
 def main() -> None:
     began, scripts = time.monotonic(), [*worked_scripts(), *examples(), *made_by_loops()]
     workers = [script for script in map(for_threads, scripts) if script]
-    pages = [page_format.VECTOR, page_format.SIX_SLOTS]
+    pages = [(page_format.VECTOR, tables.TOLD_OF_ONE_ROW), (page_format.SIX_SLOTS, tables.TOLD_OF_SIX_SLOTS)]
     with tempfile.TemporaryDirectory() as room, Pool() as pool:
         program = Program(os.path.abspath(sys.argv[1]), compiled(room))
         cuts = sum(pool.imap_unordered(functools.partial(try_script, program, "run"), scripts))

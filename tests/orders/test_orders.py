@@ -1,9 +1,9 @@
 #!/usr/bin/env python3
 """Every order in which a vacuum's steps can stand between those of two short sessions: test_orders.py HEAPSH [--all]
 
-Of two pairs of sessions, each beside a vacuum of either mode. What the sessions are answered has to be what a history that is never
-cleaned allows, which is reckoned here, by dictionaries. When all have ended, a vacuum more has to leave one version of each row, and no
-dead slot. Without --all one order in 97 is tried.
+Of three pairs of sessions, each beside a vacuum of either mode. What the sessions are answered has to be what a history that is never
+cleaned allows, which is reckoned here, by dictionaries. So is what the vacuum is answered, by the ids that are open. When all have ended, a
+vacuum more has to leave one version of each row, and no dead slot. Without --all one order in 97 is tried.
 """
 import itertools
 import os
@@ -14,23 +14,29 @@ from multiprocessing import Pool
 from typing import Dict, Iterator, List, NamedTuple, Optional, Tuple
 
 EVERY = 97
-# Keys 1 and 2 were there; key 2 is deleted, and nobody sees it any more.
-BEFORE = ["begin 0", "insert 0 1 5", "insert 0 2 5", "commit 0", "begin 0", "delete 0 2", "commit 0"]
+KEYS = range(1, 5)
+# Keys 1, 2 and 4 were there; key 2 is deleted, and nobody sees it any more.
+BEFORE = ["begin 0", "insert 0 1 5", "insert 0 2 5", "insert 0 4 5", "commit 0", "begin 0", "delete 0 2", "commit 0"]
 # The page, its entry and its slot take a step each; by the last the vacuum has ended.
-VACUUM_STEPS = 4
+VACUUM = ["heap 0", "index 0", "free 0", "ended"]
+FIRST_ID = 3
 PAIRS = [
     # one deletes a row that the other reads, and inserts another
     (["begin 0", "delete 0 1", "insert 0 3 6", "commit 0"], ["begin 1", "get 1 1", "get 1 3", "commit 1"]),
     # both write one row
     (["begin 0", "update 0 1 6", "commit 0"], ["begin 1", "update 1 1 7", "get 1 1", "commit 1"]),
+    # one writes a row, and fails where the other has committed a row that it then writes: its first row stays its own
+    (["begin 0", "update 0 1 6", "update 0 4 6"], ["begin 1", "update 1 4 7", "commit 1", "begin 1", "update 1 1 9"]),
 ]
 
 
 class Session:
-    """What a session reads and writes, and whether it has failed."""
+    """What a session reads and writes, and whether it has failed; the first id that its snapshot doesn't see, and its own."""
 
-    def __init__(self, view: Dict[int, int]) -> None:
+    def __init__(self, view: Dict[int, int], low: int) -> None:
         self.view, self.written, self.late, self.failed = dict(view), set(), set(), False
+        self.low = low
+        self.id: Optional[int] = None
 
 
 class History:
@@ -39,6 +45,29 @@ class History:
     def __init__(self) -> None:
         self.rows: Dict[int, int] = {}
         self.open: Dict[int, Session] = {}
+        self.next_id = FIRST_ID
+        # frozen below, and what it is to be when the vacuum has ended; what its steps are still to be answered
+        self.below = self.cutoff = FIRST_ID
+        self.vacuum: List[str] = []
+
+    def open_ids(self) -> List[int]:
+        return [session.id for session in self.open.values() if session.id is not None]
+
+    def horizon(self) -> int:
+        """The earliest of the next id, of all open ids, and of what each snapshot doesn't see first."""
+        return min([self.next_id, *self.open_ids(), *(session.low for session in self.open.values())])
+
+    def clean(self, words: List[str]) -> str:
+        """What a line of the vacuum is answered: it has one page to visit, whose dead slot has one entry."""
+        if words[0] == "begin":
+            self.cutoff = self.horizon() if words[1] == "aggressive" else self.below
+            self.vacuum = list(VACUUM)
+            return "ok"
+        answer = self.vacuum.pop(0)
+        if answer != "ended":
+            return answer
+        self.below = self.cutoff
+        return f"ended {self.below}"
 
     def refusal(self, s: int, key: int, is_there: bool) -> Optional[str]:
         """Why the session may not write the key, which it has to read, or not to."""
@@ -50,17 +79,20 @@ class History:
         if key in session.late:
             session.failed = True
             return "error 6 Conflict"
-        holders = [o for o, other in self.open.items() if o != s and key in other.written and not other.failed]
+        holders = [o for o, other in self.open.items() if o != s and key in other.written]
         return f"error 7 Busy {holders[0]}" if holders else None
 
     def write(self, s: int, key: int, value: Optional[int], is_there: bool) -> str:
         refused = self.refusal(s, key, is_there)
         if refused is None:
-            self.open[s].written.add(key)
+            session = self.open[s]
+            session.written.add(key)
+            if session.id is None:
+                session.id, self.next_id = self.next_id, self.next_id + 1
             if value is None:
-                del self.open[s].view[key]
+                del session.view[key]
             else:
-                self.open[s].view[key] = value
+                session.view[key] = value
         return refused or "ok"
 
     def commit(self, s: int) -> str:
@@ -77,9 +109,11 @@ class History:
 
     def answer(self, line: str) -> str:
         verb, *words = line.split()
+        if verb == "vacuum":
+            return self.clean(words)
         s, *numbers = map(int, words)
         if verb == "begin":
-            self.open[s] = Session(self.rows)
+            self.open[s] = Session(self.rows, min([self.next_id, *self.open_ids()]))
             return "ok"
         if verb == "commit":
             return self.commit(s)
@@ -112,12 +146,12 @@ def turns_of(counts: List[int]) -> Iterator[Tuple[int, ...]]:
 def all_orders() -> Iterator[Order]:
     for pair, mode in itertools.product(range(len(PAIRS)), ["normal", "aggressive"]):
         first, second = PAIRS[pair]
-        for turns in turns_of([len(first), len(second), 1 + VACUUM_STEPS]):
+        for turns in turns_of([len(first), len(second), 1 + len(VACUUM)]):
             yield Order(pair, mode, turns)
 
 
 def lines_of(order: Order) -> Iterator[str]:
-    vacuum = [f"vacuum begin {order.mode}", *["vacuum step"] * VACUUM_STEPS]
+    vacuum = [f"vacuum begin {order.mode}", *["vacuum step"] * len(VACUUM)]
     steps = [iter(PAIRS[order.pair][0]), iter(PAIRS[order.pair][1]), iter(vacuum)]
     return (next(steps[who]) for who in order.turns)
 
@@ -129,16 +163,18 @@ def written_out(line: str) -> str:
 
 def try_order(heapsh: str, order: Order) -> Optional[str]:
     """What is answered otherwise, if anything is."""
-    history, lines, wanted = History(), [*BEFORE, *lines_of(order)], []
-    for line in lines:
-        wanted.append(None if line.startswith("vacuum") else history.answer(line))
-    after = ["vacuum cancel", "vacuum begin normal", "vacuum finish", "begin 2", "get 2 1", "get 2 2", "get 2 3", "page 0"]
-    wanted += [None, "ok", None, "ok", *(shown(key, history.rows) for key in (1, 2, 3))]
+    history, lines = History(), [*BEFORE, *lines_of(order)]
+    wanted = [history.answer(line) for line in lines]
+    for session in sorted(history.open):
+        lines.append(f"commit {session}")
+        wanted.append(history.answer(lines[-1]))
+    after = ["vacuum cancel", "vacuum begin normal", "vacuum finish", "begin 2", *(f"get 2 {key}" for key in KEYS), "page 0"]
+    wanted += ["error 18 NoVacuum", "ok", f"ended {history.below}", "ok", *(shown(key, history.rows) for key in KEYS)]
     text = "".join(f"{written_out(line)}\n" for line in ["heap 4 1000 0 3 64 0000", *lines, *after])
     ran = subprocess.run([heapsh, "run"], input=text, capture_output=True, text=True, check=True, timeout=60)
     answers = ran.stdout.splitlines()
     for line, answer, want in zip([*lines, *after], answers, wanted):
-        if want is not None and answer != want:
+        if answer != want:
             return f"{order}: {line} is answered {answer}, and not {want}"
     slots = [line.split()[1] for line in answers[len(wanted) + 1 :]]
     if slots.count("normal") != len(history.rows) or "dead" in slots:

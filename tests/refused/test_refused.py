@@ -25,6 +25,7 @@ HERE = os.path.dirname(os.path.abspath(__file__))
 sys.path[:0] = [os.path.join(os.path.dirname(HERE), folder) for folder in ("cuts", "pages", "scripts")]
 
 import page_format  # noqa: E402
+import tables  # noqa: E402
 import worked  # noqa: E402
 from test_cuts import whole_answers  # noqa: E402
 
@@ -32,6 +33,8 @@ NO_MEMORY = "error 16 NoMemory\n"
 LEAST, MOST = -(2**63), 2**63 - 1
 INDEXES, READER = 5, 63
 THREADS_PAGES = 4
+# The steps that may grow something (docs/rules.md, Refusals): each script has each of them refused, and no other may be.
+GROWING = {"begin", "createindex", "delete", "insert", "next", "openheap", "openindex", "openkeys", "savepoint", "takepage", "update"}
 # the session by which worker 0 reads; each further worker has the next one
 WORKERS_READER = 32
 # The main thread asks for some thirty pieces while it begins eight workers. So a step's piece may come so much earlier or later in
@@ -216,12 +219,15 @@ class Run:
         answers, wanted = whole_answers(end.output), self.expected_at(at)
         assert end.status == 0 and answers == [*wanted[: at - 1], NO_MEMORY, *wanted[at - 1 :]], f"piece {piece}, in line {at + 1}, {line}"
         kind = line.split()[0]
+        assert kind in GROWING, f"piece {piece}: {line} is refused memory, and grows nothing"
         self.kinds[kind] = self.kinds.get(kind, 0) + 1
 
     def refuse_in_turn(self) -> str:
         """Refuses each piece, and says what came of it."""
         for piece in range(self.count):
             self.refuse(piece)
+        never = GROWING - self.kinds.keys()
+        assert not never, f"never refused memory: {', '.join(sorted(never))}"
         kinds = ", ".join(f"{kind} {count}" for kind, count in sorted(self.kinds.items()))
         return (
             f"{self.count} pieces, of {len(self.lines)} lines: {self.shell_refused} end the shell, {self.passed_over} are done"
@@ -409,23 +415,26 @@ class Threads:
             at = journal.refused_line(self.lines) if journal else None
             ended += journal is None
             if at is not None:
+                step = self.lines[at].split()[1]
+                assert step in GROWING, f"piece {piece}: {self.lines[at]} is refused memory, and grows nothing"
                 refused, repeated = refused + 1, repeated + self.ask_again(piece, at)
         assert 0 < repeated and (repeated == refused or self.workers > 1), f"{refused} steps are refused, {repeated} asked for again"
         again = f"{refused} steps are refused, {repeated} of them asked for again"
         return f"{self.workers} threads: {self.count} pieces, of {len(self.lines)} lines: {ended} end the shell, and {again}"
 
 
-def refuse_page(shell: Shell, page: bytes) -> str:
+def refuse_page(shell: Shell, page: bytes, told: str) -> str:
     """Refuses each piece that the look into a page asks for: the shell ends for want of memory, after a beginning of what it tells."""
     whole = shell.run_on("inspect", page)
     count = shell.asked_for()
-    assert whole.status == 0 and count > 0, f"with memory: {whole}"
+    assert whole == End(0, told, "") and count > 0, f"with memory: {whole}"
     ended = 0
     for piece in range(count):
         end = shell.run_on("inspect", page, piece)
         is_ended = end.status == 3 and end.errors == "no memory\n" and whole.output.startswith(end.output)
         assert is_ended or end == whole, f"piece {piece}: {end}"
         ended += is_ended
+    assert ended > 0, "a look into a page is never refused memory"
     return f"inspect: {count} pieces, of which {ended} end the shell"
 
 
@@ -459,7 +468,7 @@ def main() -> None:
             print(f"test_refused.py: {Run(shell, lines, pages).refuse_in_turn()}")
         for workers in (1, 2):
             print(f"test_refused.py: {Threads(shell, workers).refuse_in_turn()}")
-        print(f"test_refused.py: {refuse_page(shell, page_format.SIX_SLOTS)}")
+        print(f"test_refused.py: {refuse_page(shell, page_format.SIX_SLOTS, tables.TOLD_OF_SIX_SLOTS)}")
         scripts = [case.text.decode().splitlines() for case in worked.cases() if case.status == 0]
         looked = [look_after_each_line(shell, lines) for lines in (all_steps(12, 12), *scripts)]
         print(f"test_refused.py: the entries are right after each of {sum(looked)} lines of {len(looked)} scripts")

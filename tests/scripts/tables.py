@@ -262,6 +262,23 @@ COMMANDS: List[Tuple[Tuple[str, ...], str]] = [
 # what is told of the page with one row, `VECTOR` of tests/pages/page_format.py
 TOLD_OF_ONE_ROW = "page change 1 visible 0 slots 1 room 8088\n1 normal 3 0 1 8120 66 0006 0800\n"
 
+# and of `SIX_SLOTS`, whose versions of 71, 66 and 69 bytes take 72 each, from 8192 down: 8168 less these and 24 for pointers are room
+TOLD_OF_SIX_SLOTS = """page change 9 visible 0 slots 6 room 7928
+1 redirect 3
+2 unused
+3 normal 4 0 1 8120 71 8006 2800
+4 dead
+5 normal 5 7 9 8048 66 4006 0000
+6 normal 7 0 9 7976 69 8006 2900
+"""
+
+# bytes that may stand there in its place, and what is told then: all is visible, slot 3 is frozen, slot 5 is heap-only too
+OTHERS_OF_SIX_SLOTS = {
+    10: (0x04, "visible 0", "visible 1"),
+    8120 + 21: (0x2B, "8006 2800", "8006 2b00"),
+    8048 + 19: (0xC0, "4006 0000", "c006 0000"),
+}
+
 
 class BadPage(NamedTuple):
     changes: Dict[int, bytes]  # what stands there in that page

@@ -158,8 +158,19 @@ def one_row() -> Run:
     return Run("the page of one row", ("inspect",), page_format.VECTOR, (End(0, tables.TOLD_OF_ONE_ROW, ""),))
 
 
+def six_slots() -> Iterator[Run]:
+    """The page with a slot of each kind, as it is and with other bytes in some places."""
+    for changes in ({}, tables.OTHERS_OF_SIX_SLOTS):
+        page, words = bytearray(page_format.SIX_SLOTS), tables.TOLD_OF_SIX_SLOTS
+        for place, (byte, said, instead) in changes.items():
+            assert words.count(said) == 1, f"{said} is not told once"
+            page[place], words = byte, words.replace(said, instead)
+        yield Run(f"the page of six slots, {len(changes)} bytes changed", ("inspect",), bytes(page), (End(0, words, ""),))
+
+
 def pages() -> Iterator[Run]:
     yield one_row()
+    yield from six_slots()
     for changes, size, words in tables.BAD_PAGES:
         page = bytearray(page_format.VECTOR + b"\0")
         for place, part in changes.items():
