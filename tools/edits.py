@@ -13,8 +13,8 @@ each of its edits was tried and refused.
 
 An edit has a first line `fn: PATH`, or `impl: PATH` where it breaks a law of a type. A first check has to prove each of these as it
 stands. Then the edits are made, many in one check where none stands in another's way, as tools/audit.py makes them. One is refused where
-the check that has it does not prove its function, and not by form alone. Exits 1 where one is let through; that crate's line is not
-written then.
+the check that has it does not prove its function, and not by form alone. (Of an edit of a definition form can't be told: the proof of a
+law stands in lemmas, which are refused as a whole.) Exits 1 where one is let through; that crate's line is not written then.
 
 The libraries below are those that `rt ci` or a check has left; `rt lib` makes what is missing.
 """
@@ -120,7 +120,8 @@ def fault_of(edit: dict, said: audit.Said, is_alone: bool) -> Optional[str]:
     """Why an edit counts as let through by a check that has it: nothing where it is refused, None where one with it alone has to tell."""
     verdict = said.functions.get(edit["function"], "there is no such function")
     if verdict.startswith(("not proved", "no proof")) and not verdict.startswith(audit.NOT_REACHED):
-        return "refused by form alone" if edit["function"] in said.by_form else ""
+        turns_code = all(file.startswith("src/") for file, _, _ in edit["pairs"])
+        return "refused by form alone" if turns_code and edit["function"] in said.by_form else ""
     if not is_alone:
         return None
     return f"it is no code: {said.unread[0].strip()}" if said.unread else f"{edit['function']}: {verdict}"
