@@ -263,8 +263,10 @@ class TableTest(unittest.TestCase):
                     session.update(row(4, 444))
                     session.savepoint()
                     session.delete(5)
-                    next(session.rows())
+                    cursor = session.rows()
+                    next(cursor)
                     raise KeyError
+                self.assertEqual(list(cursor), [])
                 self.assertEqual((session.get(4), session.get(5)), (row(4, 40, b"first"), row(5, 50, b"first")))
                 session.savepoint()
                 session.update(row(6, 666))
@@ -385,8 +387,15 @@ class TableTest(unittest.TestCase):
         calls.clear()
         sp.run(self.table, swallow, sleep=lambda _: None)
         self.assertEqual(calls, [0, 1])
-        by_statement = sp.run(self.table, lambda session: session, read_committed=True)
-        self.assertFalse(by_statement.is_open)
+        self.assertFalse(sp.run(self.table, lambda session: session).is_open)
+
+        def read_twice(session: sp.Session) -> list[int]:
+            before = session.get(3).cols[0]
+            sp.run(self.table, lambda other: other.update(row(3, before + 1)))
+            return [before, session.get(3).cols[0]]
+
+        self.assertEqual(sp.run(self.table, read_twice), [30, 30])
+        self.assertEqual(sp.run(self.table, read_twice, read_committed=True), [31, 32])
 
     def test_each_shows_what_it_is(self) -> None:
         session = self.table.begin(3)
