@@ -3,6 +3,7 @@ import gc
 import threading
 import unittest
 import warnings
+from typing import List
 
 import sandpipercot as sp
 from sandpipercot import Row, Table
@@ -389,7 +390,7 @@ class TableTest(unittest.TestCase):
         self.assertEqual(calls, [0, 1])
         self.assertFalse(sp.run(self.table, lambda session: session).is_open)
 
-        def read_twice(session: sp.Session) -> list[int]:
+        def read_twice(session: sp.Session) -> List[int]:
             before = session.get(3).cols[0]
             sp.run(self.table, lambda other: other.update(row(3, before + 1)))
             return [before, session.get(3).cols[0]]
