@@ -40,12 +40,13 @@ OTHERS = """
 AllocError Brand Err Global None Ok Option Result SmallVec Some String Vec IfSome ensures requires unwrap
 arrayvec byteorder itoa lru rayon smallvec thiserror mremap sqlite3 pip PKG_CONFIG_PATH linux_x86_64
 std mem bool size_t uint64_t UINT64_MAX malloc realloc rattle_alloc rattle_realloc rattle_dealloc
+Duration from_millis try_for_each unwrap_or_default static_cast
 """.split()
 # A word in capitals is to be replaced by another, as in `rt ci NAME`, or is of SQL.
 PLACEHOLDER = r"[A-Z][A-Z0-9]*"
 
 IDENTIFIER = r"[A-Za-z_][A-Za-z0-9_]*"
-ENDINGS = ("rt", "antt", "py", "md", "sh", "script", "edit", "txt", "rs", "page")
+ENDINGS = ("rt", "antt", "py", "md", "sh", "script", "edit", "txt", "rs", "page", "cpp", "toml")
 
 
 def tracked():

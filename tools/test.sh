@@ -10,6 +10,10 @@ cd "$(dirname "$0")/.."
 . tools/needs.sh
 needs test.sh
 not_tried test.sh
+# which commit it is that all below was said of (tools/release.sh looks for it)
+commit=$(git rev-parse HEAD 2>/dev/null || echo "none")
+[ -z "$(git status --porcelain 2>/dev/null)" ] || commit+=", and changes that are not committed"
+echo "test.sh: commit $commit"
 python3 tools/names.py
 python3 tools/alloc_errors.py
 python3 tools/check_docs.py

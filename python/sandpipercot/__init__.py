@@ -8,15 +8,15 @@
 
 A session is a transaction: its `with` block commits it at the end, and aborts it where an exception leaves the block. It reads what
 was committed when it began, and its own writes over that. What the table refuses is raised, each refusal as a class of its own under
-`Refused`; the session goes on after all but `Conflict` and `Deadlock`. A table stays on the thread that opened it. The numbers are those of
-sandpipercot.h, which says more of each call.
+`Refused`; the session goes on after all but `Conflict` and `Deadlock`, and `run` does a whole transaction again. A table stays on the
+thread that opened it. The numbers are those of sandpipercot.h, which says more of each call.
 """
 from __future__ import annotations
 
 from ._c import BODY, PAGE_BYTES, PAGE_ROWS, SAVEPOINTS, SESSIONS, VERSION
 from .pages import FaultKind, PageFault, check_page
 from .rows import Row
-from .sessions import Cursor, KeyCursor, Session
+from .sessions import Cursor, KeyCursor, Savepoint, Session
 from .statuses import (
     AlreadyOpen,
     AlreadyThere,
@@ -59,6 +59,7 @@ from .statuses import (
 )
 from .table import Action, ActionKind, Kind, Page, Piece, PieceKind, Slot, State, Table, Vacuum
 from .tickets import Ticket
+from .transactions import run
 
 __version__ = ".".join(map(str, VERSION))
 
@@ -113,6 +114,7 @@ __all__ = [
     "Refused",
     "RolledBack",
     "Row",
+    "Savepoint",
     "Session",
     "Slot",
     "Stale",
@@ -125,4 +127,5 @@ __all__ = [
     "Vacuum",
     "VacuumRunning",
     "check_page",
+    "run",
 ]

@@ -29,6 +29,15 @@ static void check_closed(void) {
     CHECK(sandpiper_vacuum_step(&t, &piece) == SANDPIPER_NO_ENGINE && piece.kind == 77);
     CHECK(sandpiper_slot_at(&t, 0, 1, &slot) == SANDPIPER_NO_ROW && slot.kind == 77);
     CHECK(sandpiper_page_bytes(&t, 0, bytes, sizeof bytes) == SANDPIPER_NO_ROW && bytes[0] == 77);
+    struct sandpiper_action action = {1, SANDPIPER_UNUSE, 0};
+    struct sandpiper_state state = {.next_id = 77};
+    struct sandpiper_page head = {.slots = 77};
+    CHECK(sandpiper_begin_read_committed(&t, 0) == SANDPIPER_NO_ENGINE);
+    for (size_t n = 0; n < 2; n++) CHECK(sandpiper_apply_plan(&t, 0, 0, &action, n) == SANDPIPER_NO_ENGINE);
+    CHECK(sandpiper_insert_many(&t, 0, row, 1, &count) == SANDPIPER_NO_ENGINE && count == 0);
+    CHECK(sandpiper_update_many(&t, 0, row, 1, &count) == SANDPIPER_NO_ENGINE && count == 0);
+    CHECK(sandpiper_state_of(&t, &state) == SANDPIPER_NO_ENGINE && state.next_id == 77);
+    CHECK(sandpiper_page_at(&t, 0, &head) == SANDPIPER_NO_ROW && head.slots == 77);
     CHECK(sandpiper_close(&t) == SANDPIPER_NO_ENGINE && !t.is_open && !t.held);
 }
 
@@ -89,6 +98,42 @@ static uint32_t below(uint32_t limit) {
     return (uint32_t)((seed * 2685821657736338717u) >> 32) % limit;
 }
 
+/* How many calls a table is asked for by this session, and in vain. */
+static uint64_t done, refused;
+
+/* A step's answer is one of the header's, that there is no such session just where there is none, and Busy of another that is open. */
+static uint32_t told(uint8_t session, uint32_t status) {
+    CHECK(strcmp(sandpiper_words(status), "no status") != 0);
+    CHECK((session >= SANDPIPER_SESSIONS) == (status == SANDPIPER_NO_SUCH_SESSION));
+    CHECK(status != SANDPIPER_NO_ENGINE && status != SANDPIPER_HAS_ENGINE && status != (uint32_t)SANDPIPER_BUSY + session);
+    if (status < SANDPIPER_NOT_OPEN) done++;
+    else refused++;
+    if (status < SANDPIPER_BUSY) return status;
+    struct sandpiper_state state;
+    CHECK(sandpiper_state_of(&t, &state) == SANDPIPER_DONE && state.open_sessions >> (status - SANDPIPER_BUSY) & 1);
+    return status;
+}
+
+/* A write is of a row that fits. A get has the key that was asked for. Of a cursor there are as many rows as is said, and no more. */
+static void write_told(uint8_t session, uint32_t status) {
+    told(session, status);
+    CHECK(row->length <= SANDPIPER_BODY || status >= SANDPIPER_NOT_OPEN);
+}
+
+static void get_told(uint8_t session, uint64_t key) {
+    place->key = ~key;
+    uint32_t status = told(session, sandpiper_get(&t, session, key, place));
+    CHECK((status == SANDPIPER_FOUND) == (place->key == key) && (place->key == key || place->key == ~key));
+    CHECK(status != SANDPIPER_FOUND || place->length <= SANDPIPER_BODY);
+}
+
+static void next_told(uint8_t session, struct sandpiper_row *rows, size_t capacity) {
+    size_t count = PLACES + 1;
+    uint32_t status = sandpiper_next(&t, session, rows, capacity, &count);
+    if (capacity) told(session, status);
+    CHECK((status == SANDPIPER_ROWS) == (count > 0) && count <= capacity);
+}
+
 /* A plan of up to three actions, most of which do not check, and then a pruning. */
 static void apply_at_random(uint32_t page) {
     struct sandpiper_page head = {0};
@@ -96,9 +141,10 @@ static void apply_at_random(uint32_t page) {
     size_t count = below(4);
     for (size_t i = 0; i < count; i++)
         actions[i] = (struct sandpiper_action){(uint16_t)below(300), (uint16_t)below(4), (uint16_t)below(300)};
-    sandpiper_page_at(&t, page, &head);
-    sandpiper_apply_plan(&t, page, head.change, actions, count);
-    sandpiper_prune(&t, page);
+    uint32_t none = sandpiper_page_at(&t, page, &head) == SANDPIPER_NO_ROW ? SANDPIPER_NO_SUCH_PAGE : SANDPIPER_DONE;
+    uint32_t status = sandpiper_apply_plan(&t, page, head.change, actions, count);
+    CHECK(none ? status == none : status == SANDPIPER_DONE || (status == SANDPIPER_STALE && count > 0));
+    CHECK(sandpiper_prune(&t, page) == none);
 }
 
 /* Takes a page for one of eight tickets that live on, or reads one, or closes it. */
@@ -112,10 +158,9 @@ static void use_ticket(uint8_t session, uint32_t page, struct sandpiper_row *row
     for (int i = 0; closes_all && i < 8; i++) sandpiper_close_ticket(tickets + i);
 }
 
-/* Calls in no order, on keys below 1000, of which nobody reads what they answer. */
+/* Calls in no order, on keys below 1000. */
 static void call_at_random(int calls) {
     static struct sandpiper_row rows[PLACES];
-    size_t count;
     struct sandpiper_slot slot;
     struct sandpiper_piece piece;
     for (int i = 0; i < calls; i++) {
@@ -124,19 +169,22 @@ static void call_at_random(int calls) {
         set_row(row, key, (int64_t)below(100), "");
         row->length = (uint16_t)below(below(8) ? 200 : 65536);
         switch (below(21)) {
-        case 0: sandpiper_commit(&t, session); break;
-        case 1: sandpiper_abort(&t, session); break;
-        case 2: sandpiper_savepoint(&t, session); break;
-        case 3: sandpiper_rollback_to(&t, session); break;
-        case 4: sandpiper_release(&t, session); break;
-        case 5: sandpiper_get(&t, session, key, place); break;
-        case 6: sandpiper_insert(&t, session, row); break;
-        case 7: sandpiper_update(&t, session, row); break;
-        case 8: sandpiper_delete(&t, session, key); break;
-        case 9: below(2) ? sandpiper_open_heap(&t, session) : sandpiper_open_keys(&t, session, key, key + below(500)); break;
-        case 10: sandpiper_open_index(&t, session, (uint8_t)below(256), below(9), below(9)); break;
-        case 11: sandpiper_next(&t, session, rows, below(PLACES + 1), &count); break;
-        case 12: sandpiper_close_cursor(&t, session); break;
+        case 0: told(session, sandpiper_commit(&t, session)); break;
+        case 1: told(session, sandpiper_abort(&t, session)); break;
+        case 2: told(session, sandpiper_savepoint(&t, session)); break;
+        case 3: told(session, sandpiper_rollback_to(&t, session)); break;
+        case 4: told(session, sandpiper_release(&t, session)); break;
+        case 5: get_told(session, key); break;
+        case 6: write_told(session, sandpiper_insert(&t, session, row)); break;
+        case 7: write_told(session, sandpiper_update(&t, session, row)); break;
+        case 8: told(session, sandpiper_delete(&t, session, key)); break;
+        case 9:
+            if (below(2)) told(session, sandpiper_open_heap(&t, session));
+            else told(session, sandpiper_open_keys(&t, session, key, key + below(500)));
+            break;
+        case 10: told(session, sandpiper_open_index(&t, session, (uint8_t)below(256), below(9), below(9))); break;
+        case 11: next_told(session, rows, below(PLACES + 1)); break;
+        case 12: told(session, sandpiper_close_cursor(&t, session)); break;
         case 13: apply_at_random(below(64)); break;
         case 14: sandpiper_slot_at(&t, below(64), (uint16_t)below(400), &slot); break;
         case 15: sandpiper_vacuum_begin(&t, below(2)); break;
@@ -147,9 +195,11 @@ static void call_at_random(int calls) {
         case 17:
         case 18: sandpiper_vacuum_step(&t, &piece); break;
         case 19: use_ticket(session, below(64), rows, false); break;
-        default: sandpiper_begin(&t, session);
+        default: told(session, sandpiper_begin(&t, session));
         }
     }
+    /* (else the calls would show little) */
+    CHECK(done > (uint64_t)calls / 20 && refused > (uint64_t)calls / 20);
     for (int session = 0; session < 256; session++) sandpiper_abort(&t, (uint8_t)session);
     use_ticket(0, 0, rows, true);
 }

@@ -46,8 +46,8 @@ class Signals:
 
 
 def interrupting(seconds: float) -> Signals:
-    """A handler that raises. (What it raises may be swallowed, as in a `__del__`, so it comes again; that is long after, so that it does not
-    come while the block is left.)"""
+    """A handler that raises. (What it raises may be swallowed, as in a `__del__`, so it comes again: long after, and not while the block
+    is left.)"""
 
     def interrupt() -> None:
         raise Interrupted

@@ -31,12 +31,15 @@ class Version(NamedTuple):
     hot_updated: bool = False
     heap_only: bool = False
     frozen: bool = False
+    row: bytes = b""
 
 
-def version_at(page: bytes, offset: int) -> Version:
+def version_at(page: bytes, offset: int, length: int) -> Version:
     xmin, xmax, _, high, low, slot, mask2, mask = struct.unpack_from("<IIIHHHHH", page, offset)
     frozen = mask & 0x0300 == 0x0300
-    return Version(Kind.NORMAL, 0, xmin, xmax, high << 16 | low, slot, bool(mask2 & 0x4000), bool(mask2 & 0x8000), frozen)
+    start = offset + page[offset + 22]
+    row = page[start : offset + length]
+    return Version(Kind.NORMAL, 0, xmin, xmax, high << 16 | low, slot, bool(mask2 & 0x4000), bool(mask2 & 0x8000), frozen, row)
 
 
 class PageRead:
@@ -50,7 +53,7 @@ class PageRead:
             word = struct.unpack_from("<I", page, 20 + 4 * number)[0]
             offset, flags = word & 0x7FFF, word >> 15 & 3
             kind = (Kind.UNUSED, Kind.NORMAL, Kind.REDIRECT, Kind.DEAD)[flags]
-            self.slots[number] = version_at(page, offset) if kind == Kind.NORMAL else Version(kind, offset)
+            self.slots[number] = version_at(page, offset, word >> 17) if kind == Kind.NORMAL else Version(kind, offset)
 
 
 def is_aborted(it: Version, fates: Fates) -> bool:
@@ -289,8 +292,9 @@ class World:
         for number, it in page.slots.items():
             asked = named.get(number)
             kinds = {ActionKind.UNUSE: Kind.UNUSED, ActionKind.KILL: Kind.DEAD, ActionKind.LEAD: Kind.REDIRECT}
-            assert after.slots[number].kind == (kinds[asked.kind] if asked else it.kind)
-            assert asked is None or asked.kind != ActionKind.LEAD or after.slots[number].target == asked.target
+            # (a slot that is not named keeps its version, with whom it is from and where it leads; its key and columns too)
+            target = asked.target if asked and asked.kind == ActionKind.LEAD else 0
+            assert after.slots[number] == (Version(kinds[asked.kind], target) if asked else it), (number, it, after.slots[number])
 
 
 def main(rounds: int = 20000, seed: Optional[int] = None) -> None:

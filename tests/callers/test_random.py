@@ -1,9 +1,11 @@
-"""Random calls on one session after another, beside a dictionary: test_random.py [ROUNDS [SEED]]."""
+"""Random calls on one session after another, beside a dictionary, and on several that go on together, beside the rules of who is first:
+test_random.py [ROUNDS [SEED]]."""
 from __future__ import annotations
 
 import random
 import sys
-from typing import Any, Callable, Dict, List, Optional
+from collections import Counter
+from typing import Any, Callable, Dict, List, Optional, Set
 
 import sandpipercot as sp
 from sandpipercot import Row, Session, Table
@@ -17,29 +19,27 @@ def any_row(draw: random.Random, key: int) -> Row:
     return Row(key, cols, draw.randbytes(draw.choice((0, 1, 7, 8, 100, 1024))))
 
 
-def is_there(call: Callable[..., None], *arguments: Any) -> bool:
-    """Whether the call was done; where the key has a row already, or has none, it was not."""
+def refusal(call: Callable[..., None], *arguments: Any) -> Optional[sp.Refused]:
+    """How the call was refused, if it was."""
     try:
         call(*arguments)
-    except (sp.AlreadyThere, sp.NotThere):
-        return False
-    return True
+    except sp.Refused as refused:
+        return refused
+    return None
 
 
 def write(draw: random.Random, session: Session, rows: Rows) -> None:
     """One write, which has to be done just where the dictionary would take it."""
     key = draw.randrange(KEYS)
     kind = draw.choice(("insert", "update", "delete"))
-    if kind == "delete":
-        assert is_there(session.delete, key) == (key in rows)
-        rows.pop(key, None)
-        return
     row = any_row(draw, key)
-    if is_there(getattr(session, kind), row):
-        assert (key in rows) == (kind == "update")
+    refused = refusal(getattr(session, kind), key if kind == "delete" else row)
+    assert type(refused) is (type(None) if (key in rows) == (kind != "insert") else sp.AlreadyThere if kind == "insert" else sp.NotThere)
+    assert refused is None or refused.key == key
+    if refused is None and kind == "delete":
+        del rows[key]
+    elif refused is None:
         rows[key] = row
-    else:
-        assert (key in rows) == (kind == "insert")
 
 
 def read(draw: random.Random, session: Session, rows: Rows) -> None:
@@ -107,6 +107,110 @@ def run_session(draw: random.Random, table: Table, committed: Rows) -> Rows:
     return rows
 
 
+class Together:
+    """Sessions by snapshot that go on at once, and what each has to be answered."""
+
+    def __init__(self, draw: random.Random, table: Table, committed: Rows) -> None:
+        self.draw, self.table, self.committed = draw, table, committed
+        self.sessions: Dict[int, Session] = {}
+        self.rows: Dict[int, Rows] = {}  # what each session reads
+        self.written: Dict[int, Set[int]] = {}  # the keys that it wrote
+        self.late: Dict[int, Set[int]] = {}  # the keys that others have committed since it began
+        self.waits: Dict[int, int] = {}  # for whom it waits
+        self.failed: Set[int] = set()
+        self.counts: Counter[str] = Counter()
+
+    def begin(self, number: int) -> None:
+        self.sessions[number] = self.table.begin(number)
+        self.rows[number], self.written[number], self.late[number] = dict(self.committed), set(), set()
+
+    def end(self, number: int) -> None:
+        session, has_failed = self.sessions.pop(number), number in self.failed
+        self.failed.discard(number)
+        keys, rows = self.written.pop(number), self.rows.pop(number)
+        self.late.pop(number)
+        self.waits = {it: holder for it, holder in self.waits.items() if number not in (it, holder)}
+        if self.draw.randrange(4) == 0:
+            session.abort()
+            return
+        try:
+            session.commit()
+            assert not has_failed
+        except sp.RolledBack:
+            assert has_failed
+            return
+        for key in keys:
+            self.committed.pop(key, None)
+            if key in rows:
+                self.committed[key] = rows[key]
+        for late in self.late.values():
+            late |= keys
+
+    def expected(self, number: int, kind: str, key: int) -> str:
+        """How a write is to be refused, by the order of the rules; for a Busy its session stands behind."""
+        if number in self.failed:
+            return "Failed"
+        if (key in self.rows[number]) != (kind != "insert"):
+            return "AlreadyThere" if kind == "insert" else "NotThere"
+        if key in self.late[number]:
+            return "Conflict"
+        holder = next((it for it, keys in self.written.items() if it != number and key in keys), None)
+        if holder is None:
+            return ""
+        at: Optional[int] = holder
+        while at is not None and at != number:
+            at = self.waits.get(at)
+        return "Deadlock" if at == number else f"Busy {holder}"
+
+    def write(self, number: int) -> None:
+        key, kind = self.draw.randrange(6), self.draw.choice(("insert", "update", "delete"))
+        self.waits.pop(number, None)
+        expected, row = self.expected(number, kind, key), any_row(self.draw, key)
+        refused = refusal(getattr(self.sessions[number], kind), key if kind == "delete" else row)
+        told = "" if refused is None else f"Busy {refused.session}" if isinstance(refused, sp.Busy) else type(refused).__name__
+        assert told == expected, (number, kind, key, told, expected)
+        self.counts[told.split()[0] if told else "done"] += 1
+        if told in ("Conflict", "Deadlock"):
+            self.failed.add(number)
+        elif told.startswith("Busy"):
+            self.waits[number] = int(told.split()[1])
+        elif not told:
+            self.written[number].add(key)
+            self.rows[number].pop(key, None)
+            if kind != "delete":
+                self.rows[number][key] = row
+
+    def read(self, number: int) -> None:
+        key = self.draw.randrange(6)
+        self.waits.pop(number, None)
+        if number in self.failed:
+            assert type(refusal(self.sessions[number].get, key)) is sp.Failed
+        else:
+            assert self.sessions[number].get(key) == self.rows[number].get(key)
+
+    def step(self) -> None:
+        number, kind = self.draw.randrange(5), self.draw.randrange(10)
+        if number not in self.sessions:
+            self.begin(number)
+        elif kind < 6:
+            self.write(number)
+        elif kind < 8:
+            self.read(number)
+        else:
+            self.end(number)
+
+
+def run_together(draw: random.Random, table: Table, committed: Rows, steps: int) -> None:
+    together = Together(draw, table, {key: row for key, row in committed.items() if key < 6})
+    for _ in range(steps):
+        together.step()
+    for number in list(together.sessions):
+        together.end(number)
+    counts = together.counts
+    assert all(counts[it] >= steps // 2000 for it in ("done", "Busy", "Conflict", "Deadlock", "Failed", "AlreadyThere", "NotThere")), counts
+    print(f"{sum(counts.values())} writes of sessions that go on together: {dict(counts)}")
+
+
 def main(rounds: int = 2000, seed: Optional[int] = None) -> None:
     seed = random.randrange(1 << 32) if seed is None else seed
     print(f"seed {seed}")
@@ -131,6 +235,8 @@ def main(rounds: int = 2000, seed: Optional[int] = None) -> None:
                 table.prune(0)
             if draw.randrange(20) == 0:
                 table.vacuum(draw.randrange(2) == 0)
+        reader.commit()
+        run_together(draw, table, committed, 10 * rounds)
     print(f"{rounds} sessions, all as the dictionary")
 
 

@@ -3,6 +3,7 @@ import gc
 import threading
 import unittest
 import warnings
+from typing import List
 
 import sandpipercot as sp
 from sandpipercot import Row, Table
@@ -254,6 +255,195 @@ class TableTest(unittest.TestCase):
             self.assertEqual(session.number, 0)
             self.assertIsNone(session.get(50))
         self.assertEqual(self.table.state().open_sessions, ())
+
+    def test_a_savepoint_is_a_block(self) -> None:
+        with self.table.begin() as session:
+            with session.savepoint():
+                session.update(row(3, 333))
+                with self.assertRaises(KeyError), session.savepoint():
+                    session.update(row(4, 444))
+                    session.savepoint()
+                    session.delete(5)
+                    cursor = session.rows()
+                    next(cursor)
+                    raise KeyError
+                self.assertEqual(list(cursor), [])
+                self.assertEqual((session.get(4), session.get(5)), (row(4, 40, b"first"), row(5, 50, b"first")))
+                session.savepoint()
+                session.update(row(6, 666))
+            self.assertRaises(sp.NoSavepoint, session.release)
+        with self.table.begin() as session:
+            self.assertEqual([session.get(key).cols[0] for key in (3, 4, 5, 6)], [333, 40, 50, 666])
+
+    def test_a_block_that_failed_is_taken_back(self) -> None:
+        old = self.table.begin()
+        with self.table.begin() as new:
+            new.update(row(3, 333))
+        old.update(row(1, 111))
+        with self.assertRaises(sp.Conflict), old.savepoint():
+            old.update(row(2, 222))
+            old.savepoint()
+            old.update(row(3))
+        self.assertEqual((old.get(1), old.get(2)), (row(1, 111), row(2, 20, b"first")))
+        # also where the block itself says nothing
+        with self.assertRaises(sp.Failed), old.savepoint():
+            self.assertRaises(sp.Conflict, old.update, row(3))
+        self.assertRaises(sp.NoSavepoint, old.release)
+        old.commit()
+        with self.table.begin() as session:
+            self.assertEqual((session.get(1), session.get(3)), (row(1, 111), row(3, 333)))
+
+    def test_a_block_may_end_its_savepoint_itself(self) -> None:
+        with self.table.begin() as session:
+            session.savepoint()
+            with session.savepoint():
+                session.update(row(3, 333))
+                session.release()
+            session.release()
+            with self.assertRaises(KeyError), session.savepoint():
+                session.commit()
+                raise KeyError
+        with self.table.begin() as session:
+            self.assertEqual(session.get(3), row(3, 333))
+
+    def test_a_session_is_asked_like_a_dictionary(self) -> None:
+        with self.table.begin() as session:
+            self.assertTrue(3 in session and 11 not in session)
+            session.put(row(3, 333))
+            session.put(row(11, 111))
+            self.assertEqual(session.get_many([11, 3, 12, 3]), [row(11, 111), row(3, 333), None, row(3, 333)])
+            self.assertEqual((len(session), session.delete_many(iter([3, 11])), len(session)), (11, 2, 9))
+            with self.assertRaises(sp.NotThere) as refused:
+                session.delete_many([1, 3, 2])
+            self.assertEqual((refused.exception.key, len(session), 2 in session), (3, 8, True))
+            with session.rows() as rows:
+                next(rows)
+                self.assertRaises(sp.CursorOpen, len, session)
+            session.delete_many(list(session.keys()))
+            self.assertEqual((len(session), bool(session)), (0, True))
+            for call in (lambda: session["3"], lambda: iter(session), lambda: "3" in session):
+                self.assertRaises(TypeError, call)
+
+    def test_run_does_it_again(self) -> None:
+        calls: list[object] = []
+
+        def add(session: sp.Session) -> int:
+            value = session.get(3).cols[0] + 1
+            calls.append(value)
+            if len(calls) == 1:
+                with self.table.begin() as other:
+                    other.update(row(3, 70))
+            session.update(row(3, value))
+            return value
+
+        self.assertEqual(sp.run(self.table, add, sleep=calls.append), 71)
+        self.assertEqual(calls, [31, 0.001, 71])
+        # a session that holds the row lets go of it while it is waited for
+        holder, waits = self.table.begin(), []
+        holder.update(row(3, 100))
+
+        def let_go(seconds: float) -> None:
+            waits.append(seconds)
+            if len(waits) == 3:
+                holder.commit()
+
+        self.assertEqual(sp.run(self.table, add, wait=1, sleep=let_go), 101)
+        self.assertEqual((waits, self.table.state().open_sessions), ([1, 2, 4], ()))
+
+    def test_run_gives_up(self) -> None:
+        calls: list[object] = []
+
+        def fail(kind: object) -> object:
+            def function(session: sp.Session) -> None:
+                calls.append(session.is_open)
+                session.update(row(4, 444))
+                raise kind
+
+            return function
+
+        for kind in (sp.Busy(3), sp.Conflict(), sp.Deadlock(), sp.RolledBack()):
+            calls.clear()
+            self.assertRaises(type(kind), sp.run, self.table, fail(kind), tries=3, sleep=calls.append)
+            self.assertEqual(calls, [True, 0.001, True, 0.002, True])
+        for kind in (sp.NotThere(), KeyError()):
+            calls.clear()
+            self.assertRaises(type(kind), sp.run, self.table, fail(kind), tries=3, sleep=calls.append)
+            self.assertEqual(calls, [True])
+        self.assertRaises(ValueError, sp.run, self.table, fail(KeyError()), tries=0)
+        self.assertEqual(self.table.state().open_sessions, ())
+        with self.table.begin() as session:
+            self.assertEqual(session.get(4), row(4, 40, b"first"))
+        # what the function keeps to itself is told by the commit
+        def swallow(session: sp.Session) -> None:
+            session.get(4)
+            calls.append(len(calls))
+            if len(calls) == 1:
+                with self.table.begin() as other:
+                    other.update(row(4, 1))
+            try:
+                session.update(row(4, 2))
+            except sp.Conflict:
+                pass
+
+        calls.clear()
+        sp.run(self.table, swallow, sleep=lambda _: None)
+        self.assertEqual(calls, [0, 1])
+        self.assertFalse(sp.run(self.table, lambda session: session).is_open)
+
+        def read_twice(session: sp.Session) -> List[int]:
+            before = session.get(3).cols[0]
+            sp.run(self.table, lambda other: other.update(row(3, before + 1)))
+            return [before, session.get(3).cols[0]]
+
+        self.assertEqual(sp.run(self.table, read_twice), [30, 30])
+        self.assertEqual(sp.run(self.table, read_twice, read_committed=True), [31, 32])
+
+    def test_each_shows_what_it_is(self) -> None:
+        session = self.table.begin(3)
+        cursor, keys, ticket = session.rows(), self.table.begin(7).keys(), session.take_page(0)
+        self.assertEqual(repr(self.table), "<sandpipercot.Table, open, sessions: 3, 7>")
+        self.assertEqual(repr(session), "<sandpipercot.Session 3, open>")
+        self.assertEqual(repr(cursor), "<sandpipercot.Cursor of session 3, open>")
+        self.assertEqual(repr(keys), "<sandpipercot.KeyCursor of session 7, open>")
+        self.assertEqual(repr(ticket), "<sandpipercot.Ticket of page 0, open>")
+        ticket.close()
+        session.commit()
+        self.assertEqual([repr(it) for it in (session, cursor, ticket)], [
+            "<sandpipercot.Session 3, ended>", "<sandpipercot.Cursor of session 3, closed>", "<sandpipercot.Ticket of page 0, closed>",
+        ])
+        self.assertEqual(repr(self.table), "<sandpipercot.Table, open, sessions: 7>")
+        self.table.close()
+        self.assertEqual(repr(keys), "<sandpipercot.KeyCursor of session 7, closed>")
+        self.assertEqual(repr(self.table), "<sandpipercot.Table, closed>")
+        self.assertEqual(sp.__version__, "0.3")
+
+    def test_an_error_names_its_argument(self) -> None:
+        table = self.table
+        with table.begin() as session:
+            for call, name in [
+                (lambda: session.get("1"), "key"),
+                (lambda: session.get(1.5), "key"),
+                (lambda: session.delete(None), "key"),
+                (lambda: session.insert(Row("1")), "key"),
+                (lambda: session.insert(Row(11, (0, "x", 0, 0))), r"cols\[1\]"),
+                (lambda: session.insert(Row(11, body="text")), "body"),
+                (lambda: session.insert(5), "row"),
+                (lambda: session.by_key("a"), "low"),
+                (lambda: session.keys(0, "b"), "high"),
+                (lambda: session.by_column("c"), "column"),
+                (lambda: session.rows("d"), "batch"),
+                (lambda: session.take_page("e"), "page"),
+                (lambda: table.begin("f"), "number"),
+                (lambda: table.page("g"), "page"),
+                (lambda: table.create_index("h"), "column"),
+                (lambda: table.apply_plan(0, "i"), "change"),
+                (lambda: table.apply_plan(0, 0, [sp.Action("j", 0)]), "slot"),
+                (lambda: Table(dead_limit="k"), "dead_limit"),
+                (lambda: sp.check_page("l"), "page"),
+            ]:
+                self.assertRaisesRegex(TypeError, f"^{name} ", call)
+            self.assertRaisesRegex(OverflowError, r"^key is not from 0 to 18446744073709551615: -1$", session.get, -1)
+            self.assertRaisesRegex(OverflowError, r"^cols\[2\] ", session.insert, Row(11, (0, 0, 2**63, 0)))
 
     def test_places_change_no_answer(self) -> None:
         for wanted in (False, True):

@@ -73,7 +73,10 @@ static void *work(void *given) {
     for (int round = 0; round < ROUNDS;) {
         CHECK(begin(worker->session) == SANDPIPER_DONE);
         uint32_t status = add(worker->session, (uint64_t)(round % COUNTERS), row);
-        CHECK(status == SANDPIPER_DONE || status == SANDPIPER_CONFLICT || status >= SANDPIPER_BUSY);
+        /* (by statement nothing conflicts, and a Busy names another of these sessions) */
+        bool by_statement = worker->session % 2, is_busy = status >= SANDPIPER_BUSY && status < SANDPIPER_BUSY + THREADS;
+        CHECK(status == SANDPIPER_DONE || (status == SANDPIPER_CONFLICT && !by_statement) || is_busy);
+        CHECK(status != (uint32_t)SANDPIPER_BUSY + worker->session);
         bool done = status == SANDPIPER_DONE;
         CHECK(end(worker->session, done) == (done ? SANDPIPER_COMMITTED : SANDPIPER_ROLLED_BACK));
         worker->added += done, worker->refused += !done, round += done;

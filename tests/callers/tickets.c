@@ -143,7 +143,9 @@ int main(int argc, char **argv) {
     CHECK(sandpiper_close(&table) == SANDPIPER_DONE);
     check(&first, rows);
     close_all(&first);
-    printf("%d views of %u pages and more were read beside %s transactions\n", ROUNDS, (unsigned)first.pages, moves > EACH ? "many" : "few");
+    /* (each view takes the lock twice, and the writer has it between) */
+    CHECK(moves >= ROUNDS && first.pages > 1);
+    printf("%d views of %u pages and more were read beside %s transactions\n", ROUNDS, (unsigned)first.pages, moves > 1000 ? "many" : "some");
     free(row), free(rows);
     return 0;
 }
