@@ -33,16 +33,27 @@ pub(crate) fn gated_book_of<G: Gate + Sync, R: Threads + Wait + Sync>(
     run_gated(rt, alloc, SETTINGS, lists, gate)
 }
 
-/// A session inserts a key of its own, and one that all insert, waiting; it reads all rows, and is rolled back.
+/// A session inserts a key of its own, and one that all insert, waiting; it reads its row, all keys and all rows. Every second one commits:
+/// the first of these has the key then, and whoever waits for it fails.
 fn list_of(alloc: Global, s: u8) -> Result<Vec<Line>, AllocError> {
     let own = 100 + u64::from(s);
     let mut lines = Vec::new(alloc);
     lines.push(line(false, Step::Begin(s)))?;
     lines.push(line(false, Step::Insert(s, row(alloc, own, 1))))?;
     lines.push(line(true, Step::Insert(s, row(alloc, 7, i64::from(s)))))?;
+    lines.push(line(false, Step::Get(s, own)))?;
+    lines.push(line(false, Step::OpenKeys(s, 0, 200)))?;
+    lines.push(line(false, Step::Next(s, 0)))?;
+    lines.push(line(false, Step::Close(s)))?;
     lines.push(line(false, Step::OpenHeap(s)))?;
     lines.push(line(false, Step::Next(s, 0)))?;
-    lines.push(line(false, Step::Abort(s)))?;
+    lines.push(line(false, Step::Next(s, 0)))?;
+    let last = if s % 2 == 0 {
+        Step::Abort(s)
+    } else {
+        Step::Commit(s)
+    };
+    lines.push(line(false, last))?;
     Ok(lines)
 }
 
@@ -72,7 +83,7 @@ fn entries_of_eight<R: Threads + Wait + Sync>(
 #[test]
 fn eight_workers_replay(rt: HostRuntime) -> Result<(), RunFault> {
     match entries_of_eight(&rt, rt.alloc())? {
-        Some(entries) => assert_eq!(rt; entries.others, 48),
+        Some(entries) => assert_eq!(rt; entries.others, 88),
         None => assert!(rt; false),
     }
     Ok(())

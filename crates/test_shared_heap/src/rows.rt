@@ -50,14 +50,27 @@ fn are_same_rows(rows: &[Row], others: &[Row]) -> bool {
     true
 }
 
-/// Whether two replies are the same.
+/// Whether both are the same row, or none.
+fn are_same_found(found: &Option<Row>, other: &Option<Row>) -> bool {
+    match (found, other) {
+        (Some(row), Some(other)) => row == other,
+        (None, None) => true,
+        _ => false,
+    }
+}
+
+/// Whether two replies are the same: none of them is a vacuum's.
 pub(crate) fn are_same(reply: &Reply, other: &Reply) -> bool {
     match (reply, other) {
+        (Reply::Found(found), Reply::Found(other)) => are_same_found(found, other),
         (Reply::Rows(rows), Reply::Rows(others)) => {
             are_same_rows(rows.as_slice(), others.as_slice())
         }
+        (Reply::Keys(keys), Reply::Keys(others)) => keys.as_slice() == others.as_slice(),
         (Reply::Refused(refusal), Reply::Refused(other)) => *refusal == *other,
         (Reply::Done, Reply::Done) => true,
+        (Reply::End, Reply::End) => true,
+        (Reply::Committed, Reply::Committed) => true,
         (Reply::RolledBack, Reply::RolledBack) => true,
         _ => false,
     }
