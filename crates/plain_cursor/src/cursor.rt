@@ -1,8 +1,10 @@
 //! A cursor over rows in the order of an index: what it has not handed out yet.
 
-ghost use Rattle.std.specs.Prelude.{◌≡◌, [], OnOk, OnErr, IfOk, IsTrue, ◌↔◌, take, drop};
+ghost use Rattle.std.specs.Prelude.{◌≡◌, [], OnOk, OnErr, IfOk, IsTrue, ◌↔◌, take, drop, ◌==◌};
+ghost use Rattle.std.specs.List.{list_any};
+ghost use Rattle.history.specs.Moves.{past};
 ghost use Rattle.history.specs.Cursors.{keys_of, IsOver};
-ghost use Rattle.plain_cursor.specs.Order.{index_of, IsInOrder};
+ghost use Rattle.plain_cursor.specs.Order.{index_of, IsInOrder, rows_without};
 ghost use Rattle.plain_cursor.specs.Hands.{cursor_of, Hands};
 
 use crate::order::PlainOrder;
@@ -46,6 +48,28 @@ impl PlainCursor {
         ensures { result ≡ record { order = order; rest = rest.items } }
     {
         PlainCursor { order, rest }
+    }
+
+    /// In which way it goes over its rows.
+    pub fn order(&self) -> PlainOrder
+        ensures { result ≡ self.now.order }
+    {
+        self.order
+    }
+
+    /// What it hasn't handed out yet, in the order in which it will.
+    pub fn rest(&self) -> &[Row]
+        ensures rows { result.now ≡ self.now.rest }
+        ensures order { IsInOrder (index_of self.now.order) result.now }
+    {
+        &self.rest
+    }
+
+    /// Passes over the rows of these keys.
+    pub fn pass_keys(&mut self, keys: &[u64])
+        ensures { cursor_of self.new ≡ past keys.now (cursor_of self.old) }
+    {
+        leave_out(&mut self.rest, keys);
     }
 
     /// Takes the next n rows, or all that are left.
@@ -98,6 +122,32 @@ impl PlainCursor {
             }
         }
     }
+}
+
+// Whether it is one of the keys.
+fn is_among(keys: &[u64], key: u64) -> bool
+    ensures { result ≡ list_any (λ taken. taken == key) keys.now }
+{
+    for taken in keys {
+        if *taken == key {
+            return true;
+        }
+    }
+    false
+}
+
+// The rows of these keys go.
+fn leave_out(rows: &mut Vec<Row>, keys: &[u64])
+    ensures { rows.new.items ≡ rows_without keys.now rows.old.items }
+{
+    rows.retain(|row| !is_among(keys, row.key));
+}
+
+/// The keys of the rows.
+pub fn all_keys(alloc: Global, rows: &[Row]) -> Result<Vec<u64>, AllocError>
+    ensures { IfOk result (λ keys. keys.items ≡ keys_of rows.now) }
+{
+    rows.iter().map(|row| row.key).collect(alloc)
 }
 
 fn first_keys(alloc: Global, rows: &[Row], n: usize) -> Result<Vec<u64>, AllocError>

@@ -5,5 +5,5 @@
 mod cursor;
 mod order;
 
-pub use cursor::{Handed, PlainCursor};
+pub use cursor::{Handed, PlainCursor, all_keys};
 pub use order::{Bounds, PlainOrder, has_key, is_wanted, place};

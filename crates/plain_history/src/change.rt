@@ -85,10 +85,18 @@ impl PlainHistory {
         self.waits[s as usize] = None;
     }
 
-    pub(crate) fn wait_for(&mut self, s: u8, o: u8)
+    /// The session waits for o.
+    pub fn wait_for(&mut self, s: u8, o: u8)
         ensures { world_of self.new ≡ blocked_by (world_of self.old) s o }
     {
         self.waits[s as usize] = Some(o);
+    }
+
+    /// For whom the session waits, if it waits.
+    pub fn wait_of(&self, s: u8) -> Option<u8>
+        ensures { result ≡ (world_of self.now).waits_for s }
+    {
+        self.waits[s as usize]
     }
 
     /// Nobody waits for the session any more.
@@ -156,7 +164,7 @@ impl PlainHistory {
     }
 
     /// The cursor is closed.
-    pub(crate) fn shut(&mut self, s: u8)
+    pub fn shut(&mut self, s: u8)
         ensures { world_of self.new ≡ change (world_of self.old) s without_cursor }
     {
         self.waits[s as usize] = None;

@@ -2,8 +2,10 @@
 
 ghost use Rattle.std.specs.Prelude.{◌≡◌, Some, OnOk, OnErr, IfOk, IfErr};
 ghost use Rattle.std.specs.Option.{option_map};
-ghost use Rattle.history.specs.World.{OpenSession, world_sessions};
-ghost use Rattle.history.specs.Moves.{change, stepped, with_index_cursor, with_heap_cursor, with_keys_cursor, without_cursor};
+ghost use Rattle.history.specs.World.{OpenSession, IsReady, world_sessions};
+ghost use Rattle.history.specs.Moves.{change, stepped, with_index_cursor, with_heap_cursor, with_keys_cursor, without_cursor, with_taken};
+ghost use Rattle.history.specs.Cursors.{keys_of};
+ghost use Rattle.plain_cursor.specs.Hands.{cursor_of};
 ghost use Rattle.plain_history.specs.Plain.{open_of, world_of};
 ghost use Rattle.calls.specs.Bars.{BarsFree, BarsWithCursor};
 ghost use Rattle.plain_history.specs.Answers.{OrMemory, PlainBecomes, PlainStays, RefusesBounds, RefusesIndex, MayOpen, MayOpenWithin, MayOpenIndex, HasPlainCursor, HandsFrom, HandsOn, HandsBy, HasLeft, MayHandOut, with_plain_cursor};
@@ -11,8 +13,9 @@ ghost use Rattle.plain_history.specs.Answers.{OrMemory, PlainBecomes, PlainStays
 use crate::plain::{PlainHistory, PlainLevel, PlainSession};
 use crate::rows::rows_of;
 use calls::Refusal;
-use plain_cursor::{Bounds, Handed, PlainCursor, PlainOrder};
+use plain_cursor::{Bounds, Handed, PlainCursor, PlainOrder, all_keys};
 use std::alloc::{AllocError, Global};
+use tuple_header::Row;
 
 fn set_cursor(
     session: &mut Option<PlainSession>,
@@ -47,8 +50,60 @@ fn hand_out(session: &mut Option<PlainSession>, alloc: Global, n: u16) -> Result
     Ok(Handed::End)
 }
 
+fn pass_keys(session: &mut Option<PlainSession>, keys: &[u64])
+    ensures { PlainBecomes session.old session.new (with_taken keys.now) }
+{
+    if let Some(session) = session {
+        if let Some(cursor) = &mut session.cursor {
+            cursor.pass_keys(keys);
+        }
+    }
+}
+
 impl PlainHistory {
-    fn check_writer(&self, s: u8) -> Result<(), Refusal>
+    /// The session's cursor; nothing is changed. Refusals in order: NoSuchSession, NotOpen, Failed, NoCursor.
+    pub fn cursor(&self, s: u8) -> Result<&PlainCursor, Refusal>
+        ensures ok { IfOk result
+            (λ c. (m : OpenSession) × IsReady (world_of self.now) s m
+            × (m.cursor ≡ Some (cursor_of c.now))) }
+        ensures err { IfErr result
+            (λ why. BarsWithCursor (world_sessions (world_of self.now)) s why) }
+    {
+        match self.ready_session(s) {
+            Ok(session) => match &session.cursor {
+                Some(cursor) => Ok(cursor),
+                None => Err(Refusal::NoCursor),
+            },
+            Err(why) => Err(why),
+        }
+    }
+
+    /// The session's cursor passes over the rows of these keys.
+    pub fn pass_keys(&mut self, s: u8, keys: &[u64])
+        ensures { world_of self.new ≡ change (world_of self.old) s (with_taken keys.now) }
+    {
+        self.waits[s as usize] = None;
+        pass_keys(&mut self.sessions[s as usize], keys);
+    }
+
+    /// The session's cursor passes over these rows. Where memory is refused all is as it was.
+    pub fn pass_rows(&mut self, s: u8, rows: &[Row]) -> Result<(), AllocError>
+        ensures ok { OnOk result
+            (world_of self.new ≡ change (world_of self.old) s (with_taken (keys_of rows.now))) }
+        ensures err { OnErr result (world_of self.new ≡ world_of self.old) }
+    {
+        match all_keys(self.alloc, rows) {
+            Ok(keys) => {
+                self.pass_keys(s, &keys);
+                Ok(())
+            }
+            Err(fault) => Err(fault),
+        }
+    }
+
+    /// Whether the session may write, whatever the key; nothing is changed. Refusals in order: NoSuchSession, NotOpen, Failed,
+    /// CursorOpen.
+    pub fn check_writer(&self, s: u8) -> Result<(), Refusal>
         ensures ok { OnOk result (MayOpen (world_of self.now) s) }
         ensures err { IfErr result (λ why. BarsFree (world_sessions (world_of self.now)) s why) }
     {
@@ -58,7 +113,9 @@ impl PlainHistory {
         }
     }
 
-    fn check_bounds(&self, s: u8, low: i128, high: i128) -> Result<(), Refusal>
+    /// Whether the session may open a cursor over keys; nothing is changed. Refusals in order: those of
+    /// [`PlainHistory::check_writer`], BadBounds.
+    pub fn check_bounds(&self, s: u8, low: i128, high: i128) -> Result<(), Refusal>
         ensures ok { OnOk result (MayOpenWithin (world_of self.now) s low high) }
         ensures err { IfErr result (λ why. RefusesBounds (world_of self.now) s low high why) }
     {
@@ -74,7 +131,9 @@ impl PlainHistory {
         }
     }
 
-    fn check_index(&self, s: u8, index: u8, low: i128, high: i128) -> Result<(), Refusal>
+    /// Whether the session may open a cursor over the index; nothing is changed. Refusals in order: those of
+    /// [`PlainHistory::check_writer`], NoSuchIndex, IndexTooNew, BadBounds.
+    pub fn check_index(&self, s: u8, index: u8, low: i128, high: i128) -> Result<(), Refusal>
         ensures ok { OnOk result (MayOpenIndex (world_of self.now) s index low high) }
         ensures err { IfErr result (λ why. RefusesIndex (world_of self.now) s index low high why) }
     {
@@ -94,7 +153,9 @@ impl PlainHistory {
         }
     }
 
-    fn check_cursor(&self, s: u8) -> Result<(), Refusal>
+    /// Whether the session has a cursor that it may use; nothing is changed. Refusals in order: NoSuchSession, NotOpen, Failed,
+    /// NoCursor.
+    pub fn check_cursor(&self, s: u8) -> Result<(), Refusal>
         ensures ok { OnOk result (HasPlainCursor (world_of self.now) s) }
         ensures err { IfErr result
             (λ why. BarsWithCursor (world_sessions (world_of self.now)) s why) }

@@ -1,9 +1,9 @@
 //! The steps of a session. Each makes its tests in order, and then its transition; a refused one leaves what its refusal
 //! says.
 
-ghost use Rattle.std.specs.Prelude.{◌≡◌, OnOk, IfErr, IfOk, IsSome, Some};
+ghost use Rattle.std.specs.Prelude.{◌≡◌, OnOk, OnErr, IfErr, IfOk, IsSome, Some};
 ghost use Rattle.history.specs.World.{world_sessions};
-ghost use Rattle.history.specs.Moves.{put, free_to_scan, new_session, begun, begun_by_statement, change, with_row, without_row, with_savepoint, rolled_back_to, without_savepoint, aborted, stepped};
+ghost use Rattle.history.specs.Moves.{put, free_to_scan, new_session, begun, begun_by_statement, change, with_row, without_row, with_savepoint, rolled_back_to, without_savepoint, aborted, committed_by, stepped};
 ghost use Rattle.plain_history.specs.Plain.{isolation_of, world_of};
 ghost use Rattle.calls.specs.Bars.{BarsOpen, BarsReady};
 ghost use Rattle.plain_history.specs.Answers.{after_refusal, OrMemory, OrWriteMemory, MayBegin, RefusesBegin, RefusesInsert, RefusesReplace, RefusesSave, RefusesRollBack, RefusesRelease, MayInsert, MayReplace, PlainReads, MaySave, MayRollBack, MayRelease, MayCommit, WouldCommit, EndsTransaction};
@@ -11,11 +11,12 @@ ghost use Rattle.plain_history.specs.Answers.{after_refusal, OrMemory, OrWriteMe
 use crate::plain::{PlainHistory, PlainIsolation, PlainLevel, PlainSession};
 use crate::refusal::{Outcome, Refused};
 use calls::Refusal;
+use std::alloc::AllocError;
 use tuple_header::Row;
 
 impl PlainHistory {
     /// What a refused step leaves.
-    pub(crate) fn refuse(&mut self, s: u8, why: Refused)
+    pub fn refuse(&mut self, s: u8, why: Refused)
         ensures { world_of self.new ≡ after_refusal (world_of self.old) s why }
     {
         match why {
@@ -26,7 +27,8 @@ impl PlainHistory {
         }
     }
 
-    fn check_begin(&self, s: u8) -> Result<(), Refusal>
+    /// Whether the session may begin; nothing is changed. Refusals: NoSuchSession, AlreadyOpen.
+    pub fn check_begin(&self, s: u8) -> Result<(), Refusal>
         ensures ok { OnOk result (MayBegin (world_of self.now) s) }
         ensures err { IfErr result (λ why. RefusesBegin (world_of self.now) s why) }
     {
@@ -46,8 +48,16 @@ impl PlainHistory {
             (λ why. RefusesBegin (world_of self.old) s why
             × (world_of self.new ≡ stepped (world_of self.old) s)) }
     {
-        let start = self.history.len();
-        self.begin_by(s, PlainIsolation::BySnapshot(start))
+        match self.check_begin(s) {
+            Ok(()) => {
+                self.start(s);
+                Ok(())
+            }
+            Err(why) => {
+                self.end_wait(s);
+                Err(why)
+            }
+        }
     }
 
     /// Opens an idle session, each of whose statements reads what has committed until then. Refusals: NoSuchSession, AlreadyOpen.
@@ -59,30 +69,9 @@ impl PlainHistory {
             (λ why. RefusesBegin (world_of self.old) s why
             × (world_of self.new ≡ stepped (world_of self.old) s)) }
     {
-        self.begin_by(s, PlainIsolation::ByStatement)
-    }
-
-    fn begin_by(&mut self, s: u8, isolation: PlainIsolation) -> Result<(), Refusal>
-        ensures done { OnOk result
-            (MayBegin (world_of self.old) s
-            × (world_of self.new
-            ≡ free_to_scan
-            (put (world_of self.old) s (Some (new_session (isolation_of isolation)))) s)) }
-        ensures refused { IfErr result
-            (λ why. RefusesBegin (world_of self.old) s why
-            × (world_of self.new ≡ stepped (world_of self.old) s)) }
-    {
         match self.check_begin(s) {
             Ok(()) => {
-                let session = PlainSession {
-                    isolation,
-                    newest: PlainLevel::new(self.alloc),
-                    older: Vec::new(self.alloc),
-                    failed: false,
-                    cursor: None,
-                };
-                self.put(s, Some(session));
-                self.may_scan_all(s);
+                self.start_by_statement(s);
                 Ok(())
             }
             Err(why) => {
@@ -90,6 +79,37 @@ impl PlainHistory {
                 Err(why)
             }
         }
+    }
+
+    /// The session is open, and reads what has committed until now.
+    pub fn start(&mut self, s: u8)
+        ensures { world_of self.new ≡ begun (world_of self.old) s }
+    {
+        let start = self.history.len();
+        self.start_by(s, PlainIsolation::BySnapshot(start));
+    }
+
+    /// The session is open, and each of its statements reads what has committed until then.
+    pub fn start_by_statement(&mut self, s: u8)
+        ensures { world_of self.new ≡ begun_by_statement (world_of self.old) s }
+    {
+        self.start_by(s, PlainIsolation::ByStatement);
+    }
+
+    fn start_by(&mut self, s: u8, isolation: PlainIsolation)
+        ensures { world_of self.new
+            ≡ free_to_scan
+            (put (world_of self.old) s (Some (new_session (isolation_of isolation)))) s }
+    {
+        let session = PlainSession {
+            isolation,
+            newest: PlainLevel::new(self.alloc),
+            older: Vec::new(self.alloc),
+            failed: false,
+            cursor: None,
+        };
+        self.put(s, Some(session));
+        self.may_scan_all(s);
     }
 
     /// The row that the session reads. It is no step, and ends no wait. Refusals in order: NoSuchSession, NotOpen, Failed.
@@ -160,11 +180,29 @@ impl PlainHistory {
             (λ why. (why ≡ Refused.By Refusal.NoMemory)
             × (world_of self.new ≡ stepped (world_of self.old) s)) }
     {
-        let key = row.key;
-        match self.write(s, key, Some(row)) {
+        match self.put_row(s, row) {
             Ok(()) => Ok(()),
             Err(_) => Err(Refused::By(Refusal::NoMemory)),
         }
+    }
+
+    /// The session writes the row. Where memory is refused only its own wait ends.
+    pub fn put_row(&mut self, s: u8, row: Row) -> Result<(), AllocError>
+        ensures ok { OnOk result
+            (world_of self.new ≡ change (world_of self.old) s (with_row self.old.history row)) }
+        ensures err { OnErr result (world_of self.new ≡ stepped (world_of self.old) s) }
+    {
+        let key = row.key;
+        self.write(s, key, Some(row))
+    }
+
+    /// The session writes that the key has no row. Where memory is refused only its own wait ends.
+    pub fn take_row(&mut self, s: u8, key: u64) -> Result<(), AllocError>
+        ensures ok { OnOk result
+            (world_of self.new ≡ change (world_of self.old) s (without_row self.old.history key)) }
+        ensures err { OnErr result (world_of self.new ≡ stepped (world_of self.old) s) }
+    {
+        self.write(s, key, None)
     }
 
     /// Deletes the session's row of the key. Refusals in order: those of [`PlainHistory::check_replace`], NoMemory.
@@ -179,7 +217,7 @@ impl PlainHistory {
             × (world_of self.new ≡ after_refusal (world_of self.old) s why)) }
     {
         match self.check_replace(s, key) {
-            Ok(()) => match self.write(s, key, None) {
+            Ok(()) => match self.take_row(s, key) {
                 Ok(()) => Ok(()),
                 Err(_) => Err(Refused::By(Refusal::NoMemory)),
             },
@@ -190,7 +228,9 @@ impl PlainHistory {
         }
     }
 
-    fn check_save(&self, s: u8) -> Result<(), Refusal>
+    /// Whether the session may make a savepoint; nothing is changed. Refusals in order: NoSuchSession, NotOpen, Failed, CursorOpen,
+    /// TooDeep.
+    pub fn check_save(&self, s: u8) -> Result<(), Refusal>
         ensures ok { OnOk result (MaySave (world_of self.now) s) }
         ensures err { IfErr result (λ why. RefusesSave (world_of self.now) s why) }
     {
@@ -229,7 +269,9 @@ impl PlainHistory {
         }
     }
 
-    fn check_roll_back(&self, s: u8) -> Result<(), Refusal>
+    /// Whether the session may go back to a savepoint; nothing is changed. Refusals in order: NoSuchSession, NotOpen, CursorOpen,
+    /// NoSavepoint.
+    pub fn check_roll_back(&self, s: u8) -> Result<(), Refusal>
         ensures ok { OnOk result (MayRollBack (world_of self.now) s) }
         ensures err { IfErr result (λ why. RefusesRollBack (world_of self.now) s why) }
     {
@@ -247,6 +289,14 @@ impl PlainHistory {
         }
     }
 
+    /// What was written since the newest savepoint is gone, and a failed session is usable again.
+    pub fn go_back(&mut self, s: u8)
+        ensures { world_of self.new ≡ rolled_back_to (world_of self.old) s }
+    {
+        self.roll_back(s);
+        self.wake(s);
+    }
+
     /// Takes back what was written since the newest savepoint, which stays. A failed session is usable again. Refusals in order:
     /// NoSuchSession, NotOpen, CursorOpen, NoSavepoint.
     pub fn roll_back_to(&mut self, s: u8) -> Result<(), Refusal>
@@ -259,8 +309,7 @@ impl PlainHistory {
     {
         match self.check_roll_back(s) {
             Ok(()) => {
-                self.roll_back(s);
-                self.wake(s);
+                self.go_back(s);
                 Ok(())
             }
             Err(why) => {
@@ -270,7 +319,9 @@ impl PlainHistory {
         }
     }
 
-    fn check_release(&self, s: u8) -> Result<(), Refusal>
+    /// Whether the session may forget a savepoint; nothing is changed. Refusals in order: NoSuchSession, NotOpen, Failed,
+    /// CursorOpen, NoSavepoint.
+    pub fn check_release(&self, s: u8) -> Result<(), Refusal>
         ensures ok { OnOk result (MayRelease (world_of self.now) s) }
         ensures err { IfErr result (λ why. RefusesRelease (world_of self.now) s why) }
     {
@@ -362,7 +413,8 @@ impl PlainHistory {
         }
     }
 
-    fn check_open(&self, s: u8) -> Result<(), Refusal>
+    /// Whether the session is open; nothing is changed. Refusals in order: NoSuchSession, NotOpen.
+    pub fn check_open(&self, s: u8) -> Result<(), Refusal>
         ensures ok { OnOk result (IsSome ((world_of self.now).session s)) }
         ensures err { IfErr result (λ why. BarsOpen (world_sessions (world_of self.now)) s why) }
     {
@@ -372,11 +424,30 @@ impl PlainHistory {
         }
     }
 
-    fn end(&mut self, s: u8)
+    /// The session is idle, and what it wrote is gone.
+    pub fn end(&mut self, s: u8)
         ensures { world_of self.new ≡ aborted (world_of self.old) s }
     {
         self.put(s, None);
         self.wake(s);
+    }
+
+    /// What the session wrote joins the history, and the session is idle. Where memory is refused all is as it was.
+    pub fn take_in(&mut self, s: u8) -> Result<(), Refusal>
+        requires { MayCommit (world_of self.old) s }
+        ensures ok { OnOk result (world_of self.new ≡ committed_by (world_of self.old) s) }
+        ensures err { OnErr result (world_of self.new ≡ world_of self.old) }
+    {
+        match self.transaction(s) {
+            Ok(transaction) => match self.append(transaction) {
+                Ok(()) => {
+                    self.end(s);
+                    Ok(())
+                }
+                Err(_) => Err(Refusal::NoMemory),
+            },
+            Err(why) => Err(why),
+        }
     }
 
     /// The transaction that the session would commit.
