@@ -1,0 +1,4 @@
+pub mod Verdicts
+pub mod Following
+pub mod Handing
+pub mod Runs
