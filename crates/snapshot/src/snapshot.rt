@@ -71,7 +71,7 @@ impl Snapshot {
     }
 
     /// The numbers of the ids that are listed, in order of listing: they were in progress when it was taken.
-    pub fn listed(&self) -> &[u32]
+    pub fn listed_ids(&self) -> &[u32]
         ensures { result.now ≡ self.now.listed }
     {
         self.listed.as_slice()
@@ -88,7 +88,7 @@ impl Snapshot {
     pub fn is_listed(&self, x: Xid) -> bool
         ensures { IsTrue result ↔ Contains self.now.listed x.0 }
     {
-        self.listed.as_slice().contains(&x.0)
+        self.listed_ids().contains(&x.0)
     }
 
     fn has_finished(&self, x: Xid) -> bool
