@@ -11,8 +11,8 @@ use Rattle.calls.specs.declared.reply.Reply.TheVariants as reply
 use Rattle.refinement.specs.Allowed.{AllowsReply, after_reply}
 use Rattle.one_answer.specs.OneAnswer.{TellTheSame, IsDue, IsLeftOpen, MakesNone}
 use Rattle.one_answer.proofs.Ones.{reached_has_one}
-use Rattle.one_answer.proofs.Opens.{open_indeed}
-use Rattle.judge.specs.Verdicts.{IsFreelyRefused, IsReached, IsFree}
+use Rattle.one_answer.proofs.Opens.{where_done}
+use Rattle.judge.specs.Rulings.{IsFreelyRefused, IsReached, IsFree}
 
 same_as_due : (w : World) (step : Step) (a b : Reply) → IsDue a → TellTheSame a b → AllowsReply w step a → AllowsReply w step b
 same_as_due w step (reply.Rows r) b due same is = absurd due
@@ -59,7 +59,7 @@ makes_none _ judged = tt
 
 free_allowed : (w : World) (step : Step) (a : Reply) → IsFreelyRefused step → AllowsReply w step reply.Done → IsFree w step a → AllowsReply w step a
 free_allowed w step reply.Done judged done free = done
-free_allowed w step (reply.Refused r) judged done free = (open_indeed w).done step r (makes_none step judged) done free
+free_allowed w step (reply.Refused r) judged done free = where_done w step r (makes_none step judged) done free
 free_allowed w step _ judged done free = absurd free
 
 pub by_free : (w : World) (step : Step) (a : Reply) (b : Bool) → IsReached w → IsFreelyRefused step → AllowsReply w step reply.Done → (IsTrue b ↔ IsFree w step a) → (IsTrue b ↔ AllowsReply w step a)

@@ -22,7 +22,7 @@ use Rattle.plain_history.specs.declared.refusal.Refused.TheVariants as refused
 use Rattle.plain_history.specs.Answers.{RefusesBegin, RefusesInsert, RefusesReplace, MayInsert, MayReplace, MayOpen, MaySave, RefusesSave, MayRollBack, RefusesRollBack, MayRelease, RefusesRelease, RefusesIndex, RefusesBounds, RefusesMaking}
 use Rattle.snapshot.specs.declared.own.TheConstants.{MOST_SAVEPOINTS}
 use Rattle.one_answer.proofs.Few.{HasFewLevels, levels-run}
-use Rattle.judge.specs.Verdicts.{IsReached, refusal_of}
+use Rattle.judge.specs.Rulings.{IsReached, refusal_of}
 
 -- the refusal is the one answer
 abbrev pub IsDueAt : World → Step → Refusal → Type 0

@@ -21,7 +21,7 @@ use Rattle.plain_cursor.specs.Hands.{plain_order_of, cursor_of}
 use Rattle.plain_cursor.proofs.Ordered.{next_rows, row_in-head}
 use Rattle.one_answer.proofs.Few.{HasFew, few-run}
 use Rattle.one_answer.proofs.Fronts.{one_next}
-use Rattle.judge.specs.Verdicts.{IsReached}
+use Rattle.judge.specs.Rulings.{IsReached}
 use Rattle.judge.specs.Handing.{MayHand, MayShow, HaveTheirOwnKeys, StandsBefore}
 use Rattle.judge.proofs.Due.{IsDueAt}
 

@@ -1,4 +1,4 @@
-pub mod Verdicts
+pub mod Rulings
 pub mod Following
 pub mod Handing
 pub mod Runs

@@ -5,7 +5,7 @@ ghost use Rattle.refinement.specs.Allowed.{IsRun};
 ghost use Rattle.plain_history.specs.Plain.{world_of};
 ghost use Rattle.judge.specs.Runs.{HasJudged};
 
-use crate::judge::{Judge, NoMemory, Verdict};
+use crate::judge::{Judge, NoMemory, Ruling};
 use calls::{Reply, Step};
 
 /// Judges the answers to the steps, one after another, up to the first that is not allowed. How many were.
@@ -19,8 +19,8 @@ pub fn judge_all(judge: &mut Judge, steps: &[Step], replies: &[Reply]) -> Result
 {
     for i in 0..steps.len() {
         match judge.judge(&steps[i], &replies[i]) {
-            Ok(Verdict::Allowed) => {}
-            Ok(Verdict::Broken) => return Ok(i),
+            Ok(Ruling::Allowed) => {}
+            Ok(Ruling::Broken) => return Ok(i),
             Err(NoMemory) => return Err(NoMemory),
         }
     }

@@ -5,7 +5,7 @@ ghost use Rattle.refinement.specs.Allowed.{AllowsReply};
 ghost use Rattle.one_answer.specs.OneAnswer.{IsDue, IsLeftOpen};
 ghost use Rattle.plain_history.specs.Plain.{world_of};
 ghost use Rattle.history.specs.World.{World, MayIndex, LacksIndex};
-ghost use Rattle.judge.specs.Verdicts.{IsFreelyRefused, IsReached, Expects, refusal_of};
+ghost use Rattle.judge.specs.Rulings.{IsFreelyRefused, IsReached, Expects, refusal_of};
 ghost use Rattle.tuple_header.specs.declared.version.TheConstants.{MOST_BODY};
 
 use calls::{Refusal, Reply, RowIn, Step};

@@ -5,7 +5,7 @@ ghost use Rattle.refinement.specs.Allowed.{AllowsReply, after_reply};
 ghost use Rattle.plain_history.specs.Plain.{world_of};
 ghost use Rattle.history.specs.Moves.{change, with_row, without_row, with_savepoint, without_savepoint, with_index_cursor, with_heap_cursor, with_keys_cursor};
 ghost use Rattle.calls.specs.Words.{FitsRow, row_of};
-ghost use Rattle.judge.specs.Verdicts.{TakesNoMemory};
+ghost use Rattle.judge.specs.Rulings.{TakesNoMemory};
 ghost use Rattle.judge.specs.Following.{after_refused, with_wait};
 
 use crate::judge::NoMemory;

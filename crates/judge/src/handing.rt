@@ -8,7 +8,7 @@ ghost use Rattle.plain_cursor.specs.Order.{row_of_key, IsInOrder};
 ghost use Rattle.plain_cursor.specs.Hands.{cursor_of};
 ghost use Rattle.plain_history.specs.Plain.{world_of};
 ghost use Rattle.plain_history.specs.Answers.{MayCommit};
-ghost use Rattle.judge.specs.Verdicts.{IsReached};
+ghost use Rattle.judge.specs.Rulings.{IsReached};
 ghost use Rattle.judge.specs.Handing.{MayHand, MayShow, AreTheirs, HaveTheirOwnKeys, StandsBefore};
 
 use crate::compare::{same_reply, same_row, same_rows};

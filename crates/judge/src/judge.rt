@@ -4,7 +4,7 @@ ghost use Rattle.std.specs.Prelude.{◌≡◌, ◌↔◌, IsTrue, IfOk, OnErr};
 ghost use Rattle.history.specs.World.{World, beginning};
 ghost use Rattle.refinement.specs.Allowed.{AllowsReply};
 ghost use Rattle.plain_history.specs.Plain.{world_of};
-ghost use Rattle.judge.specs.Verdicts.{IsReached, Judges, IsFree, IsFreelyRefused, TakesNoMemory};
+ghost use Rattle.judge.specs.Rulings.{IsReached, Judges, IsFree, IsFreelyRefused, TakesNoMemory};
 
 use crate::compare::same_reply;
 use crate::expect::{
@@ -23,7 +23,7 @@ pub struct NoMemory;
 
 /// What is said of an answer.
 #[derive(Clone, Copy, Debug, PartialEq, Eq)]
-pub enum Verdict {
+pub enum Ruling {
     /// The history allows it.
     Allowed,
     /// It does not.
@@ -38,7 +38,7 @@ pub struct Judge {
 
 impl Model for Judge {
     ghost use Rattle.plain_history.specs.Plain.{Plain, world_of};
-    ghost use Rattle.judge.specs.Verdicts.{IsReached};
+    ghost use Rattle.judge.specs.Rulings.{IsReached};
 
     ghost Value = { Plain };
 
@@ -96,20 +96,34 @@ impl Judge {
         }
     }
 
+    /// The history so far.
+    pub fn history(&self) -> &PlainHistory
+        ensures { result.now ≡ self.now }
+    {
+        &self.plain
+    }
+
+    /// Whether the answer to the step is allowed; nothing is changed.
+    pub fn allows(&self, step: &Step, reply: &Reply) -> bool
+        ensures { IsTrue result ↔ AllowsReply (world_of self.now) step.now reply.now }
+    {
+        is_allowed(&self.plain, step, reply)
+    }
+
     /// Whether the answer to the step is allowed. Then the history goes on by it; else it is as it was.
-    pub fn judge(&mut self, step: &Step, reply: &Reply) -> Result<Verdict, NoMemory>
+    pub fn judge(&mut self, step: &Step, reply: &Reply) -> Result<Ruling, NoMemory>
         ensures told { IfOk result
-            (λ verdict. Judges (world_of self.old) step.now reply.now verdict (world_of self.new)) }
+            (λ ruling. Judges (world_of self.old) step.now reply.now ruling (world_of self.new)) }
         ensures stays { OnErr result (world_of self.new ≡ world_of self.old) }
         ensures lacks { OnErr result (¬ TakesNoMemory step.now) }
     {
         if is_allowed(&self.plain, step, reply) {
             match follow(&mut self.plain, step, reply) {
-                Ok(()) => Ok(Verdict::Allowed),
+                Ok(()) => Ok(Ruling::Allowed),
                 Err(_) => Err(NoMemory),
             }
         } else {
-            Ok(Verdict::Broken)
+            Ok(Ruling::Broken)
         }
     }
 }

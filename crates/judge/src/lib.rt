@@ -9,4 +9,4 @@ mod handing;
 mod judge;
 
 pub use all::judge_all;
-pub use judge::{Judge, NoMemory, Verdict};
+pub use judge::{Judge, NoMemory, Ruling};

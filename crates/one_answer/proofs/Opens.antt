@@ -7,9 +7,9 @@ use Rattle.calls.specs.declared.reply.Reply.TheVariants as reply
 use Rattle.calls.specs.declared.reply.Refusal.{Refusal}
 use Rattle.calls.specs.declared.reply.Refusal.TheVariants as refusal
 use Rattle.refinement.specs.Allowed.{AllowsReply}
-use Rattle.one_answer.specs.OneAnswer.{IsLeftOpen, MakesNone, IsOpenIndeed}
+use Rattle.one_answer.specs.OneAnswer.{IsLeftOpen, MakesNone}
 
-where_done : (w : World) (step : Step) (r : Refusal) → MakesNone step → AllowsReply w step reply.Done → IsLeftOpen w step (reply.Refused r) → AllowsReply w step (reply.Refused r)
+pub where_done : (w : World) (step : Step) (r : Refusal) → MakesNone step → AllowsReply w step reply.Done → IsLeftOpen w step (reply.Refused r) → AllowsReply w step (reply.Refused r)
 where_done w (step.Begin s) refusal.NoMemory none is open_ = is
 where_done w (step.Insert s row) refusal.NeedsFreeze none is open_ = is
 where_done w (step.Insert s row) refusal.NoRoom none is open_ = (is.0, is.1, is.2, tt)
@@ -40,11 +40,8 @@ where_done w (step.CreateIndex c) refusal.IndexBusy none is open_ = absurd none
 where_done w (step.CreateIndex c) refusal.NoMemory none is open_ = absurd none
 where_done w _ _ none is open_ = absurd open_
 
-where_lacking : (w : World) (c : ℕ) (r : Refusal) → LacksIndex w c → IsLeftOpen w (step.CreateIndex c) (reply.Refused r) → AllowsReply w (step.CreateIndex c) (reply.Refused r)
+pub where_lacking : (w : World) (c : ℕ) (r : Refusal) → LacksIndex w c → IsLeftOpen w (step.CreateIndex c) (reply.Refused r) → AllowsReply w (step.CreateIndex c) (reply.Refused r)
 where_lacking w c refusal.VacuumRunning lacks open_ = lacks
 where_lacking w c refusal.IndexBusy lacks open_ = lacks
 where_lacking w c refusal.NoMemory lacks open_ = lacks
 where_lacking w c _ lacks open_ = absurd open_
-
-pub open_indeed : (w : World) → IsOpenIndeed w
-open_indeed w = record { done = where_done w; lacking = where_lacking w }

@@ -13,8 +13,8 @@ use Rattle.calls.specs.declared.reply.Refusal.TheVariants as refusal
 use Rattle.plain_history.specs.declared.refusal.Refused.{Refused}
 use Rattle.plain_history.specs.declared.refusal.Refused.TheVariants.{By}
 use Rattle.plain_history.specs.declared.refusal.Refused.TheVariants as refused
-use Rattle.judge.specs.declared.judge.Verdict.{Verdict}
-use Rattle.judge.specs.declared.judge.Verdict.TheVariants.{Allowed, Broken}
+use Rattle.judge.specs.declared.judge.Ruling.{Ruling}
+use Rattle.judge.specs.declared.judge.Ruling.TheVariants.{Allowed, Broken}
 use Rattle.judge.specs.declared.expect.Expected.{Expected}
 use Rattle.judge.specs.declared.expect.Expected.TheVariants.{Due, Free}
 
@@ -45,7 +45,7 @@ abbrev pub IsReached : World → Type 0
 IsReached w = (columns : List Bool) × StepsReach (beginning columns) w
 
 -- an answer that is allowed leads on, and one that is not changes nothing
-abbrev pub Judges : World → Step → Reply → Verdict → World → Type 0
+abbrev pub Judges : World → Step → Reply → Ruling → World → Type 0
 Judges w step reply Allowed after = AllowsReply w step reply × (after ≡ after_reply w step reply)
 Judges w step reply Broken after = (¬ AllowsReply w step reply) × (after ≡ w)
 
