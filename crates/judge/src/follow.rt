@@ -3,7 +3,8 @@
 ghost use Rattle.std.specs.Prelude.{◌≡◌, OnOk, OnErr};
 ghost use Rattle.refinement.specs.Allowed.{AllowsReply, after_reply};
 ghost use Rattle.plain_history.specs.Plain.{world_of};
-ghost use Rattle.history.specs.Moves.{change, with_row, without_row, with_savepoint, without_savepoint, with_index_cursor, with_heap_cursor, with_keys_cursor};
+ghost use Rattle.history.specs.Moves.{change, with_row, without_row, with_savepoint, without_savepoint};
+ghost use Rattle.plain_history.specs.Answers.{with_plain_cursor};
 ghost use Rattle.calls.specs.Words.{FitsRow, row_of};
 ghost use Rattle.judge.specs.Rulings.{TakesNoMemory};
 ghost use Rattle.judge.specs.Following.{after_refused, with_wait};
@@ -11,6 +12,7 @@ ghost use Rattle.judge.specs.Following.{after_refused, with_wait};
 use crate::judge::NoMemory;
 use arrayvec::ArrayVec;
 use calls::{Refusal, Reply, RowIn, Step, fill_row};
+use plain_cursor::{Bounds, PlainOrder};
 use plain_history::{PlainHistory, Refused};
 use tuple_header::Row;
 
@@ -112,7 +114,7 @@ fn save(plain: &mut PlainHistory, s: u8) -> Result<(), NoMemory>
     ensures err { OnErr result (world_of plain.new ≡ world_of plain.old) }
 {
     let wait = plain.wait_of(s);
-    match plain.savepoint(s) {
+    match plain.save(s) {
         Ok(()) => Ok(()),
         Err(_) => {
             restore(plain, s, wait);
@@ -127,7 +129,7 @@ fn join(plain: &mut PlainHistory, s: u8) -> Result<(), NoMemory>
     ensures err { OnErr result (world_of plain.new ≡ world_of plain.old) }
 {
     let wait = plain.wait_of(s);
-    match plain.release(s) {
+    match plain.join(s) {
         Ok(()) => Ok(()),
         Err(_) => {
             restore(plain, s, wait);
@@ -136,52 +138,14 @@ fn join(plain: &mut PlainHistory, s: u8) -> Result<(), NoMemory>
     }
 }
 
-fn open_index(
-    plain: &mut PlainHistory,
-    s: u8,
-    index: u8,
-    low: i128,
-    high: i128,
-) -> Result<(), NoMemory>
+fn open(plain: &mut PlainHistory, s: u8, order: PlainOrder, bounds: Bounds) -> Result<(), NoMemory>
     ensures ok { OnOk result
         (world_of plain.new
-        ≡ change (world_of plain.old) s (with_index_cursor plain.old.history index low high)) }
+        ≡ change (world_of plain.old) s (with_plain_cursor plain.old.history order bounds)) }
     ensures err { OnErr result (world_of plain.new ≡ world_of plain.old) }
 {
     let wait = plain.wait_of(s);
-    match plain.open_index(s, index, low, high) {
-        Ok(()) => Ok(()),
-        Err(_) => {
-            restore(plain, s, wait);
-            Err(NoMemory)
-        }
-    }
-}
-
-fn open_heap(plain: &mut PlainHistory, s: u8) -> Result<(), NoMemory>
-    ensures ok { OnOk result
-        (world_of plain.new
-        ≡ change (world_of plain.old) s (with_heap_cursor plain.old.history)) }
-    ensures err { OnErr result (world_of plain.new ≡ world_of plain.old) }
-{
-    let wait = plain.wait_of(s);
-    match plain.open_heap(s) {
-        Ok(()) => Ok(()),
-        Err(_) => {
-            restore(plain, s, wait);
-            Err(NoMemory)
-        }
-    }
-}
-
-fn open_keys(plain: &mut PlainHistory, s: u8, low: i128, high: i128) -> Result<(), NoMemory>
-    ensures ok { OnOk result
-        (world_of plain.new
-        ≡ change (world_of plain.old) s (with_keys_cursor plain.old.history low high)) }
-    ensures err { OnErr result (world_of plain.new ≡ world_of plain.old) }
-{
-    let wait = plain.wait_of(s);
-    match plain.open_keys(s, low, high) {
+    match plain.open(s, order, bounds) {
         Ok(()) => Ok(()),
         Err(_) => {
             restore(plain, s, wait);
@@ -325,7 +289,12 @@ fn on_open_index(
     ensures stays { OnErr result (world_of plain.new ≡ world_of plain.old) }
 {
     match reply {
-        Reply::Done => open_index(plain, s, index, low, high),
+        Reply::Done => open(
+            plain,
+            s,
+            PlainOrder::Index(index),
+            Bounds::Within(low, high),
+        ),
         _ => {
             plain.end_wait(s);
             Ok(())
@@ -340,7 +309,7 @@ fn on_open_heap(plain: &mut PlainHistory, s: u8, reply: &Reply) -> Result<(), No
     ensures stays { OnErr result (world_of plain.new ≡ world_of plain.old) }
 {
     match reply {
-        Reply::Done => open_heap(plain, s),
+        Reply::Done => open(plain, s, PlainOrder::Heap, Bounds::All),
         _ => {
             plain.end_wait(s);
             Ok(())
@@ -362,7 +331,7 @@ fn on_open_keys(
     ensures stays { OnErr result (world_of plain.new ≡ world_of plain.old) }
 {
     match reply {
-        Reply::Done => open_keys(plain, s, low, high),
+        Reply::Done => open(plain, s, PlainOrder::Keys, Bounds::Within(low, high)),
         _ => {
             plain.end_wait(s);
             Ok(())

@@ -138,7 +138,8 @@ impl PlainHistory {
         write(&mut self.sessions[s as usize], &self.history, key, row)
     }
 
-    pub(crate) fn save(&mut self, s: u8) -> Result<(), AllocError>
+    /// The session begins a level. Where memory is refused only its own wait ends.
+    pub fn save(&mut self, s: u8) -> Result<(), AllocError>
         ensures ok { OnOk result (world_of self.new ≡ change (world_of self.old) s with_savepoint) }
         ensures err { OnErr result (world_of self.new ≡ stepped (world_of self.old) s) }
     {
@@ -154,7 +155,8 @@ impl PlainHistory {
         roll_back(&mut self.sessions[s as usize]);
     }
 
-    pub(crate) fn join(&mut self, s: u8) -> Result<(), AllocError>
+    /// The newest level joins the one below, if there is one. Where memory is refused only the session's own wait ends.
+    pub fn join(&mut self, s: u8) -> Result<(), AllocError>
         ensures ok { OnOk result
             (world_of self.new ≡ change (world_of self.old) s without_savepoint) }
         ensures err { OnErr result (world_of self.new ≡ stepped (world_of self.old) s) }

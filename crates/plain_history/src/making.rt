@@ -117,23 +117,4 @@ impl PlainHistory {
             Ok(())
         }
     }
-
-    /// Makes the index of a column, from 0 to 3, unless it is there. It is no session's call. Refusals in order: NoSuchIndex, and
-    /// IndexBusy where the index is not there and an open session holds a key.
-    pub fn make_index(&mut self, column: u8) -> Result<(), Refusal>
-        ensures done { OnOk result
-            (MayIndex (world_of self.old) column
-            × (world_of self.new ≡ with_index_on (world_of self.old) column)) }
-        ensures refused { IfErr result
-            (λ why. RefusesMaking (world_of self.old) column why
-            × (world_of self.new ≡ world_of self.old)) }
-    {
-        match self.check_make(column) {
-            Ok(()) => {
-                self.make_if_lacking(column);
-                Ok(())
-            }
-            Err(why) => Err(why),
-        }
-    }
 }
