@@ -1,2 +1,2 @@
 pub mod Ordered
-pub mod Handing
+pub mod Passing

@@ -54,13 +54,13 @@ before-other index a b ne e =
 pub row_in-head : (row : Row) (rows : List Row) (key : ℕ) → row.key ≡ key → row_of_key (row ∷ rows) key ≡ Some row
 row_in-head row rows key same = cond-true (nat_eq row.key key) (Some row) (row_of_key rows key) (eq-eqb row.key key same)
 
-row_in-tail : (row : Row) (rows : List Row) (key : ℕ) → row.key ≢ key → row_of_key (row ∷ rows) key ≡ row_of_key rows key
+pub row_in-tail : (row : Row) (rows : List Row) (key : ℕ) → row.key ≢ key → row_of_key (row ∷ rows) key ≡ row_of_key rows key
 row_in-tail row rows key ne = cond-false (nat_eq row.key key) (Some row) (row_of_key rows key) (ne_eqb row.key key ne)
 
-other_key : (row : Row) (rows : List Row) (key : ℕ) → row_of_key (row ∷ rows) key ≡ None → row.key ≢ key
+pub other_key : (row : Row) (rows : List Row) (key : ℕ) → row_of_key (row ∷ rows) key ≡ None → row.key ≢ key
 other_key row rows key none same = none-some row (sym none ∙ row_in-head row rows key same)
 
-rest_key : (row : Row) (rows : List Row) (key : ℕ) → row_of_key (row ∷ rows) key ≡ None → row_of_key rows key ≡ None
+pub rest_key : (row : Row) (rows : List Row) (key : ℕ) → row_of_key (row ∷ rows) key ≡ None → row_of_key rows key ≡ None
 rest_key row rows key none = sym (row_in-tail row rows key (other_key row rows key none)) ∙ none
 
 placed-first : (index : ℕ) (row other : Row) (rows : List Row) → comes_before index row other ≡ true → placed index row (other ∷ rows) ≡ row ∷ other ∷ rows

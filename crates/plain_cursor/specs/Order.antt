@@ -1,5 +1,6 @@
 -- Rows as lists in the order of an index.
-use Rattle.std.specs.Prelude.{◌≡◌, ℕ, ◌==◌, ◌&&◌, ◌||◌, nat_lt, int_lt, int_le, if◌then◌else◌, Bool, true, List, [], ◌∷◌, Option, None, find}
+use Rattle.std.specs.Prelude.{◌≡◌, ℕ, ◌==◌, ◌&&◌, ◌||◌, nat_lt, int_lt, int_le, if◌then◌else◌, Bool, true, List, [], ◌∷◌, Option, None, find, not}
+use Rattle.std.specs.List.{list_any, filter}
 use Rattle.std.specs.Ordering.{int_eq}
 use Rattle.xid_circle.specs.Numbers.{IndexNo, Key}
 use Rattle.tuple_header.specs.declared.version.Row.{Row}
@@ -53,3 +54,7 @@ is_wanted (Within low high) index row = int_le low (value_in index row) && int_l
 -- of each key the row that passes
 abbrev pub wanted : Bounds → IndexNo → (Key → Option Row) → Key → Option Row
 wanted bounds index rows key = kept_where (is_wanted bounds index) (rows key)
+
+-- the rows whose key is none of these
+abbrev pub rows_without : List ℕ → List Row → List Row
+rows_without keys rows = filter (λ row. not (list_any (λ taken. taken == row.key) keys)) rows

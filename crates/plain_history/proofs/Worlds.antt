@@ -1,22 +1,15 @@
 -- What a change of the lists makes of the world.
 use Rattle.std.proofs.Common.{◌≡◌, ℕ, ◌<◌, List, [], length, set, Option, Some, None, Bool, false, cond, nat_eq, refl, sym, ap, ◌∙◌, subst, inl, inr, get_or, replicate}
-use Rattle.std.specs.Prelude.{zero, suc, Result, Ok, Err, OnErr, IfOk}
+use Rattle.std.specs.Prelude.{zero, suc}
 use mathlib.Core.Path.{fun_ext}
 use Rattle.std.specs.Option.{option_map, option_flatten}
 use Rattle.std.proofs.lemmas.Bool.{cases_eq}
-use Rattle.std.proofs.lemmas.Option.{same_Some}
 use Rattle.std.proofs.lemmas.List.{get_or-set_same, get_or-set_other}
-use Rattle.std.proofs.lemmas.Result.{on_err_weaker}
 use Rattle.plain_history.specs.declared.plain.PlainSession.{PlainSession}
 use Rattle.history.specs.History.{Transaction}
-use Rattle.history.specs.World.{OpenSession, World, is_indexed, Cursor}
-use Rattle.history.specs.Moves.{stepped, put, change, free_to_scan, blocked_by, aborted, transaction_of, appended, committed_by, past, with_taken}
-use Rattle.plain_cursor.specs.declared.cursor.Handed.{Handed}
-use Rattle.plain_cursor.specs.declared.cursor.Handed.TheVariants.{Rows, Keys as HandedKeys, End}
-use Rattle.history.specs.Cursors.{keys_of, HandsOutPart, HandsOutKeys, IsOver}
-use Rattle.plain_cursor.specs.Order.{KeptCursor}
-use Rattle.plain_cursor.specs.Hands.{cursor_of, Hands}
-use Rattle.plain_history.specs.Answers.{with_transaction, HandsFrom, HandsOn, HasLeft}
+use Rattle.history.specs.World.{OpenSession, World, is_indexed}
+use Rattle.history.specs.Moves.{stepped, put, change, free_to_scan, blocked_by, aborted, transaction_of, appended, committed_by}
+use Rattle.plain_history.specs.Answers.{with_transaction}
 use Rattle.plain_history.specs.Plain.{Plain, open_of, session_in, too_new_in, world_of}
 use Rattle.waits.specs.View.{wait_in}
 use Rattle.waits.proofs.WaitLemmas.{wait_in-set}
@@ -113,58 +106,3 @@ commits_so w mid after s t m at is appends ends =
     ends ∙ (ap (λ v. aborted v s) (appends ∙ ap (with_transaction w) is) ∙ ap (λ n. record (aborted w s) { history = appended w.history n }) (sym at))
 
 -- What a cursor hands out.
-
--- and what the world is then
-pub hands_on : (p q : Plain) (s : ℕ) (x y : Option PlainSession) (n : ℕ) (handed : Handed) → p ≡ q → s < length p.sessions → s < length p.waits → x ≡ get_or p.sessions s x
-    → HandsFrom n handed (option_map open_of x) (option_map open_of y) → (m : OpenSession) → (world_of q).session s ≡ Some m
-    → HandsOn (world_of q) s n m handed (world_of (record p { sessions = set p.sessions s y; waits = set p.waits s None }))
-hands_on p q s x y n (Rows rows) seen within within' is hands m at = (
-  λ c there. hands.0 m c (sym (session_in-read p.sessions s x within is) ∙ (ap (λ (r : Plain). session_in r.sessions s) seen ∙ at)) there,
-  changes p q s x y (with_taken (keys_of rows.items)) seen within within' is hands.1,
-)
-hands_on p q s x y n (HandedKeys keys) seen within within' is hands m at = (
-  λ c there. hands.0 m c (sym (session_in-read p.sessions s x within is) ∙ (ap (λ (r : Plain). session_in r.sessions s) seen ∙ at)) there,
-  changes p q s x y (with_taken keys.items) seen within within' is hands.1,
-)
-hands_on p q s x y n End seen within within' is hands m at = (
-  λ c there. hands.0 m c (sym (session_in-read p.sessions s x within is) ∙ (ap (λ (r : Plain). session_in r.sessions s) seen ∙ at)) there,
-  stays_so p q s x y seen within within' is hands.1,
-)
-
--- What the session's cursor hands out is what the session does.
-
-pub hands_from : {E : Type 0} (before : Option PlainSession) (m : PlainSession) (old new : KeptCursor) (n : ℕ) (r : Result Handed E) → before ≡ Some m → m.cursor ≡ Some old
-    → IfOk r (λ handed. Hands (cursor_of old) n handed (cursor_of new)) → IfOk r (λ handed. HandsFrom n handed (option_map open_of before) (option_map open_of (Some (record m { cursor = Some new }))))
-hands_from before m old new n (Err e) is has hands = hands
-hands_from before m old new n (Ok handed) is has hands =
-    subst (λ x. HandsFrom n handed x (Some (record (open_of m) { cursor = Some (cursor_of new) }))) (sym (ap (option_map open_of) is)) (by handed hands)
-  where
-    there : (open_of m).cursor ≡ Some (cursor_of old)
-    there = ap (option_map cursor_of) has
-
-    same : (u : OpenSession) (c : Cursor) → Some (open_of m) ≡ Some u → u.cursor ≡ Some c → cursor_of old ≡ c
-    same u c at cursor = same_Some (cursor_of old) c (sym there ∙ (ap (λ (o : OpenSession). o.cursor) (same_Some (open_of m) u at) ∙ cursor))
-
-    by : (handed : Handed) → Hands (cursor_of old) n handed (cursor_of new) → HandsFrom n handed (Some (open_of m)) (Some (record (open_of m) { cursor = Some (cursor_of new) }))
-    by (Rows rows) h = (
-      λ u c at cursor. subst (λ (d : Cursor). HandsOutPart d.order n d.rest rows.items) (same u c at cursor) h.0,
-      ap (λ d. Some (record (open_of m) { cursor = d })) (ap Some h.1 ∙ ap (option_map (past (keys_of rows.items))) (sym there)),
-    )
-    by (HandedKeys keys) h = (
-      λ u c at cursor. subst (λ (d : Cursor). HandsOutKeys d.order n d.rest keys.items) (same u c at cursor) h.0,
-      ap (λ d. Some (record (open_of m) { cursor = d })) (ap Some h.1 ∙ ap (option_map (past keys.items)) (sym there)),
-    )
-    by End h = (
-      λ u c at cursor. subst (λ (d : Cursor). IsOver d.rest) (same u c at cursor) h.0,
-      ap (λ d. Some (record (open_of m) { cursor = d })) (ap Some h.1 ∙ sym there),
-    )
-
-pub left_from : {A E : Type 0} (before : Option PlainSession) (m : PlainSession) (old : KeptCursor) (r : Result A E) → before ≡ Some m → m.cursor ≡ Some old
-    → OnErr r (¬ IsOver (cursor_of old).rest) → OnErr r (HasLeft (option_map open_of before))
-left_from before m old r is has left =
-    on_err_weaker r (λ some. (open_of m, cursor_of old, ap (option_map open_of) is, ap (option_map cursor_of) has, some)) left
-
--- and for a session's
-pub left_in : (p q : Plain) (s : ℕ) (x : Option PlainSession) → p ≡ q → s < length p.sessions → x ≡ get_or p.sessions s x → HasLeft (option_map open_of x)
-    → HasLeft ((world_of q).session s)
-left_in p q s x seen within is left = subst HasLeft (sym (session_in-read p.sessions s x within is) ∙ ap (λ (r : Plain). session_in r.sessions s) seen) left

@@ -9,16 +9,11 @@ use Rattle.calls.specs.declared.reply.Refusal.{Refusal}
 use Rattle.calls.specs.declared.reply.Refusal.TheVariants as refusal
 use Rattle.calls.specs.Bars.{BarsOpen, BarsFree}
 use Rattle.calls.specs.declared.step.TheConstants.{MOST_SESSIONS}
-use Rattle.plain_history.specs.declared.refusal.Outcome.{Outcome}
-use Rattle.plain_history.specs.declared.refusal.Outcome.TheVariants.{Committed, RolledBack}
 use Rattle.history.specs.History.{Transaction, IsLate}
-use Rattle.history.specs.World.{World, world_sessions, OpenSession, Cursor, start_now, view, Holds, LacksIndex, ClosesRing, MayScan, IsReady, IsWriter, MayWrite, IsBlocked}
-use Rattle.history.specs.Moves.{stepped, change, as_failed, blocked_by, opened, with_taken, transaction_of, aborted, committed_by}
+use Rattle.history.specs.World.{World, world_sessions, OpenSession, start_now, view, Holds, LacksIndex, ClosesRing, MayScan, IsReady, IsWriter, MayWrite, IsBlocked}
+use Rattle.history.specs.Moves.{stepped, change, as_failed, blocked_by, opened, transaction_of}
 use Rattle.plain_cursor.specs.declared.order.PlainOrder.{PlainOrder}
 use Rattle.plain_cursor.specs.declared.order.Bounds.{Bounds}
-use Rattle.plain_cursor.specs.declared.cursor.Handed.{Handed}
-use Rattle.plain_cursor.specs.declared.cursor.Handed.TheVariants.{Rows, Keys, End}
-use Rattle.history.specs.Cursors.{HandsOutPart, HandsOutKeys, IsOver, keys_of}
 use Rattle.plain_cursor.specs.Order.{index_of, wanted}
 use Rattle.plain_cursor.specs.Hands.{plain_order_of}
 use Rattle.plain_history.specs.Plain.{open_of}
@@ -127,20 +122,10 @@ MayCommit w s = (m : OpenSession) × IsReady w s m
 abbrev pub WouldCommit : World → ℕ → Transaction → Type 0
 WouldCommit w s t = (m : OpenSession) × IsReady w s m × (t ≡ transaction_of m)
 
--- how a transaction ends
-abbrev pub EndsTransaction : World → ℕ → Outcome → World → Type 0
-EndsTransaction w s Committed after = (m : OpenSession) × IsReady w s m × (after ≡ committed_by w s)
-EndsTransaction w s RolledBack after = (m : OpenSession) × (w.session s ≡ Some m) × (m.failed ≡ true) × (after ≡ aborted w s)
-
 -- a step that all tests let pass may end for want of memory, which leaves all but the session's wait as it is
 abbrev pub OrMemory : Refusal → Type 0 → Type 0 → Type 0
 OrMemory refusal.NoMemory taken reason = taken
 OrMemory why taken reason = reason
-
--- and so may a write
-abbrev pub OrWriteMemory : Refused → Type 0 → Type 0 → Type 0
-OrWriteMemory (By why) taken reason = OrMemory why taken reason
-OrWriteMemory Deadlock taken reason = reason
 
 -- Cursors.
 
@@ -158,29 +143,3 @@ HasPlainCursor w s = (m : OpenSession) × IsReady w s m × IsSome m.cursor
 
 abbrev pub with_plain_cursor : List Transaction → PlainOrder → Bounds → OpenSession → OpenSession
 with_plain_cursor history order bounds m = opened (plain_order_of order) (wanted bounds (index_of order) (view history m)) m
-
--- what the session's cursor hands out, and the session then
-abbrev pub HandsFrom : ℕ → Handed → Option OpenSession → Option OpenSession → Type 0
-HandsFrom n (Rows rows) before after =
-    ((m : OpenSession) (c : Cursor) → before ≡ Some m → m.cursor ≡ Some c → HandsOutPart c.order n c.rest rows.items) × (after ≡ option_map (with_taken (keys_of rows.items)) before)
-HandsFrom n (Keys keys) before after =
-    ((m : OpenSession) (c : Cursor) → before ≡ Some m → m.cursor ≡ Some c → HandsOutKeys c.order n c.rest keys.items) × (after ≡ option_map (with_taken keys.items) before)
-HandsFrom n End before after = ((m : OpenSession) (c : Cursor) → before ≡ Some m → m.cursor ≡ Some c → IsOver c.rest) × (after ≡ before)
-
--- what the open session m is handed, and the world then
-abbrev pub HandsOn : World → ℕ → ℕ → OpenSession → Handed → World → Type 0
-HandsOn w s n m (Rows rows) after = ((c : Cursor) → m.cursor ≡ Some c → HandsOutPart c.order n c.rest rows.items) × (after ≡ change w s (with_taken (keys_of rows.items)))
-HandsOn w s n m (Keys keys) after = ((c : Cursor) → m.cursor ≡ Some c → HandsOutKeys c.order n c.rest keys.items) × (after ≡ change w s (with_taken keys.items))
-HandsOn w s n m End after = ((c : Cursor) → m.cursor ≡ Some c → IsOver c.rest) × (after ≡ stepped w s)
-
--- something is left for the cursor to hand out
-abbrev pub HasLeft : Option OpenSession → Type 0
-HasLeft session = (m : OpenSession) × (c : Cursor) × (session ≡ Some m) × (m.cursor ≡ Some c) × (¬ IsOver c.rest)
-
--- a session whose cursor has something left may be handed it
-abbrev pub MayHandOut : World → ℕ → Type 0
-MayHandOut w s = (m : OpenSession) × (c : Cursor) × IsReady w s m × (m.cursor ≡ Some c) × (¬ IsOver c.rest)
-
--- what a session that has a cursor is handed
-abbrev pub HandsBy : World → ℕ → ℕ → Handed → World → Type 0
-HandsBy w s n handed after = (m : OpenSession) × IsReady w s m × IsSome m.cursor × HandsOn w s n m handed after

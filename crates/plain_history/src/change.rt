@@ -85,10 +85,18 @@ impl PlainHistory {
         self.waits[s as usize] = None;
     }
 
-    pub(crate) fn wait_for(&mut self, s: u8, o: u8)
+    /// The session waits for o.
+    pub fn wait_for(&mut self, s: u8, o: u8)
         ensures { world_of self.new ≡ blocked_by (world_of self.old) s o }
     {
         self.waits[s as usize] = Some(o);
+    }
+
+    /// For whom the session waits, if it waits.
+    pub fn wait_of(&self, s: u8) -> Option<u8>
+        ensures { result ≡ (world_of self.now).waits_for s }
+    {
+        self.waits[s as usize]
     }
 
     /// Nobody waits for the session any more.
@@ -130,7 +138,8 @@ impl PlainHistory {
         write(&mut self.sessions[s as usize], &self.history, key, row)
     }
 
-    pub(crate) fn save(&mut self, s: u8) -> Result<(), AllocError>
+    /// The session begins a level. Where memory is refused only its own wait ends.
+    pub fn save(&mut self, s: u8) -> Result<(), AllocError>
         ensures ok { OnOk result (world_of self.new ≡ change (world_of self.old) s with_savepoint) }
         ensures err { OnErr result (world_of self.new ≡ stepped (world_of self.old) s) }
     {
@@ -146,7 +155,8 @@ impl PlainHistory {
         roll_back(&mut self.sessions[s as usize]);
     }
 
-    pub(crate) fn join(&mut self, s: u8) -> Result<(), AllocError>
+    /// The newest level joins the one below, if there is one. Where memory is refused only the session's own wait ends.
+    pub fn join(&mut self, s: u8) -> Result<(), AllocError>
         ensures ok { OnOk result
             (world_of self.new ≡ change (world_of self.old) s without_savepoint) }
         ensures err { OnErr result (world_of self.new ≡ stepped (world_of self.old) s) }
@@ -156,7 +166,7 @@ impl PlainHistory {
     }
 
     /// The cursor is closed.
-    pub(crate) fn shut(&mut self, s: u8)
+    pub fn shut(&mut self, s: u8)
         ensures { world_of self.new ≡ change (world_of self.old) s without_cursor }
     {
         self.waits[s as usize] = None;

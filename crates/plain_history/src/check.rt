@@ -5,7 +5,7 @@ ghost use Rattle.history.specs.World.{IsReady, IsWriter, MayWrite, world_session
 ghost use Rattle.plain_history.specs.Plain.{open_of, world_of};
 ghost use Rattle.calls.specs.Bars.{BarsOpen, BarsReady, BarsFree};
 ghost use Rattle.calls.specs.declared.step.TheConstants.{MOST_SESSIONS};
-ghost use Rattle.plain_history.specs.Answers.{RefusesInsert, RefusesReplace, MeetsWrite, MayInsert, MayReplace};
+ghost use Rattle.plain_history.specs.Answers.{RefusesInsert, RefusesReplace, MeetsWrite, MayInsert, MayReplace, MayCommit};
 
 use crate::lookup::{holder, is_late};
 use crate::plain::{PlainHistory, PlainSession};
@@ -42,6 +42,17 @@ impl PlainHistory {
                     Ok(session)
                 }
             }
+            Err(why) => Err(why),
+        }
+    }
+
+    /// Whether the session is open and has not failed; nothing is changed. Refusals in order: NoSuchSession, NotOpen, Failed.
+    pub fn check_ready(&self, s: u8) -> Result<(), Refusal>
+        ensures ok { OnOk result (MayCommit (world_of self.now) s) }
+        ensures err { IfErr result (λ why. BarsReady (world_sessions (world_of self.now)) s why) }
+    {
+        match self.ready_session(s) {
+            Ok(_) => Ok(()),
             Err(why) => Err(why),
         }
     }

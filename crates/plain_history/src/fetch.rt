@@ -1,18 +1,20 @@
-//! The steps of a cursor.
+//! The tests of a cursor's steps, and their transitions.
 
 ghost use Rattle.std.specs.Prelude.{◌≡◌, Some, OnOk, OnErr, IfOk, IfErr};
-ghost use Rattle.std.specs.Option.{option_map};
-ghost use Rattle.history.specs.World.{OpenSession, world_sessions};
-ghost use Rattle.history.specs.Moves.{change, stepped, with_index_cursor, with_heap_cursor, with_keys_cursor, without_cursor};
-ghost use Rattle.plain_history.specs.Plain.{open_of, world_of};
+ghost use Rattle.history.specs.World.{OpenSession, IsReady, world_sessions};
+ghost use Rattle.history.specs.Moves.{change, stepped, with_taken};
+ghost use Rattle.history.specs.Cursors.{keys_of};
+ghost use Rattle.plain_cursor.specs.Hands.{cursor_of};
+ghost use Rattle.plain_history.specs.Plain.{world_of};
 ghost use Rattle.calls.specs.Bars.{BarsFree, BarsWithCursor};
-ghost use Rattle.plain_history.specs.Answers.{OrMemory, PlainBecomes, PlainStays, RefusesBounds, RefusesIndex, MayOpen, MayOpenWithin, MayOpenIndex, HasPlainCursor, HandsFrom, HandsOn, HandsBy, HasLeft, MayHandOut, with_plain_cursor};
+ghost use Rattle.plain_history.specs.Answers.{PlainBecomes, PlainStays, RefusesBounds, RefusesIndex, MayOpen, MayOpenWithin, MayOpenIndex, HasPlainCursor, with_plain_cursor};
 
 use crate::plain::{PlainHistory, PlainLevel, PlainSession};
 use crate::rows::rows_of;
 use calls::Refusal;
-use plain_cursor::{Bounds, Handed, PlainCursor, PlainOrder};
+use plain_cursor::{Bounds, PlainCursor, PlainOrder, all_keys};
 use std::alloc::{AllocError, Global};
+use tuple_header::Row;
 
 fn set_cursor(
     session: &mut Option<PlainSession>,
@@ -32,23 +34,60 @@ fn set_cursor(
     Ok(())
 }
 
-fn hand_out(session: &mut Option<PlainSession>, alloc: Global, n: u16) -> Result<Handed, AllocError>
-    ensures ok { IfOk result
-        (λ handed. HandsFrom n handed (option_map open_of session.old)
-        (option_map open_of session.new)) }
-    ensures err { OnErr result (PlainStays session.old session.new) }
-    ensures left { OnErr result (HasLeft (option_map open_of session.old)) }
+fn pass_keys(session: &mut Option<PlainSession>, keys: &[u64])
+    ensures { PlainBecomes session.old session.new (with_taken keys.now) }
 {
     if let Some(session) = session {
         if let Some(cursor) = &mut session.cursor {
-            return cursor.hand_out(alloc, n);
+            cursor.pass_keys(keys);
         }
     }
-    Ok(Handed::End)
 }
 
 impl PlainHistory {
-    fn check_writer(&self, s: u8) -> Result<(), Refusal>
+    /// The session's cursor; nothing is changed. Refusals in order: NoSuchSession, NotOpen, Failed, NoCursor.
+    pub fn cursor(&self, s: u8) -> Result<&PlainCursor, Refusal>
+        ensures ok { IfOk result
+            (λ c. (m : OpenSession) × IsReady (world_of self.now) s m
+            × (m.cursor ≡ Some (cursor_of c.now))) }
+        ensures err { IfErr result
+            (λ why. BarsWithCursor (world_sessions (world_of self.now)) s why) }
+    {
+        match self.ready_session(s) {
+            Ok(session) => match &session.cursor {
+                Some(cursor) => Ok(cursor),
+                None => Err(Refusal::NoCursor),
+            },
+            Err(why) => Err(why),
+        }
+    }
+
+    /// The session's cursor passes over the rows of these keys.
+    pub fn pass_keys(&mut self, s: u8, keys: &[u64])
+        ensures { world_of self.new ≡ change (world_of self.old) s (with_taken keys.now) }
+    {
+        self.waits[s as usize] = None;
+        pass_keys(&mut self.sessions[s as usize], keys);
+    }
+
+    /// The session's cursor passes over these rows. Where memory is refused all is as it was.
+    pub fn pass_rows(&mut self, s: u8, rows: &[Row]) -> Result<(), AllocError>
+        ensures ok { OnOk result
+            (world_of self.new ≡ change (world_of self.old) s (with_taken (keys_of rows.now))) }
+        ensures err { OnErr result (world_of self.new ≡ world_of self.old) }
+    {
+        match all_keys(self.alloc, rows) {
+            Ok(keys) => {
+                self.pass_keys(s, &keys);
+                Ok(())
+            }
+            Err(fault) => Err(fault),
+        }
+    }
+
+    /// Whether the session may write, whatever the key; nothing is changed. Refusals in order: NoSuchSession, NotOpen, Failed,
+    /// CursorOpen.
+    pub fn check_writer(&self, s: u8) -> Result<(), Refusal>
         ensures ok { OnOk result (MayOpen (world_of self.now) s) }
         ensures err { IfErr result (λ why. BarsFree (world_sessions (world_of self.now)) s why) }
     {
@@ -58,7 +97,9 @@ impl PlainHistory {
         }
     }
 
-    fn check_bounds(&self, s: u8, low: i128, high: i128) -> Result<(), Refusal>
+    /// Whether the session may open a cursor over keys; nothing is changed. Refusals in order: those of
+    /// [`PlainHistory::check_writer`], BadBounds.
+    pub fn check_bounds(&self, s: u8, low: i128, high: i128) -> Result<(), Refusal>
         ensures ok { OnOk result (MayOpenWithin (world_of self.now) s low high) }
         ensures err { IfErr result (λ why. RefusesBounds (world_of self.now) s low high why) }
     {
@@ -74,7 +115,9 @@ impl PlainHistory {
         }
     }
 
-    fn check_index(&self, s: u8, index: u8, low: i128, high: i128) -> Result<(), Refusal>
+    /// Whether the session may open a cursor over the index; nothing is changed. Refusals in order: those of
+    /// [`PlainHistory::check_writer`], NoSuchIndex, IndexTooNew, BadBounds.
+    pub fn check_index(&self, s: u8, index: u8, low: i128, high: i128) -> Result<(), Refusal>
         ensures ok { OnOk result (MayOpenIndex (world_of self.now) s index low high) }
         ensures err { IfErr result (λ why. RefusesIndex (world_of self.now) s index low high why) }
     {
@@ -94,7 +137,9 @@ impl PlainHistory {
         }
     }
 
-    fn check_cursor(&self, s: u8) -> Result<(), Refusal>
+    /// Whether the session has a cursor that it may use; nothing is changed. Refusals in order: NoSuchSession, NotOpen, Failed,
+    /// NoCursor.
+    pub fn check_cursor(&self, s: u8) -> Result<(), Refusal>
         ensures ok { OnOk result (HasPlainCursor (world_of self.now) s) }
         ensures err { IfErr result
             (λ why. BarsWithCursor (world_sessions (world_of self.now)) s why) }
@@ -108,7 +153,9 @@ impl PlainHistory {
         }
     }
 
-    fn open(&mut self, s: u8, order: PlainOrder, bounds: Bounds) -> Result<(), AllocError>
+    /// Opens a cursor over the rows that the session reads and the bounds let pass. Where memory is refused only the session's own
+    /// wait ends.
+    pub fn open(&mut self, s: u8, order: PlainOrder, bounds: Bounds) -> Result<(), AllocError>
         ensures ok { OnOk result
             (world_of self.new
             ≡ change (world_of self.old) s (with_plain_cursor self.old.history order bounds)) }
@@ -122,132 +169,5 @@ impl PlainHistory {
             order,
             bounds,
         )
-    }
-
-    /// Opens a cursor over the rows whose value in the index lies from low to high, in order of value and key. Index 0
-    /// orders by the key, index c + 1 by column c. Refusals in order: NoSuchSession, NotOpen, Failed, CursorOpen, NoSuchIndex,
-    /// IndexTooNew, BadBounds, NoMemory.
-    pub fn open_index(&mut self, s: u8, index: u8, low: i128, high: i128) -> Result<(), Refusal>
-        ensures done { OnOk result
-            (MayOpenIndex (world_of self.old) s index low high
-            × (world_of self.new
-            ≡ change (world_of self.old) s (with_index_cursor self.old.history index low high))) }
-        ensures refused { IfErr result
-            (λ why. OrMemory why (MayOpenIndex (world_of self.old) s index low high)
-            (RefusesIndex (world_of self.old) s index low high why)
-            × (world_of self.new ≡ stepped (world_of self.old) s)) }
-    {
-        match self.check_index(s, index, low, high) {
-            Ok(()) => match self.open(s, PlainOrder::Index(index), Bounds::Within(low, high)) {
-                Ok(()) => Ok(()),
-                Err(_) => Err(Refusal::NoMemory),
-            },
-            Err(why) => {
-                self.end_wait(s);
-                Err(why)
-            }
-        }
-    }
-
-    /// Opens a cursor over all rows that the session reads. Refusals in order: NoSuchSession, NotOpen, Failed, CursorOpen,
-    /// NoMemory.
-    pub fn open_heap(&mut self, s: u8) -> Result<(), Refusal>
-        ensures done { OnOk result
-            (MayOpen (world_of self.old) s
-            × (world_of self.new
-            ≡ change (world_of self.old) s (with_heap_cursor self.old.history))) }
-        ensures refused { IfErr result
-            (λ why. OrMemory why (MayOpen (world_of self.old) s)
-            (BarsFree (world_sessions (world_of self.old)) s why)
-            × (world_of self.new ≡ stepped (world_of self.old) s)) }
-    {
-        match self.check_writer(s) {
-            Ok(()) => match self.open(s, PlainOrder::Heap, Bounds::All) {
-                Ok(()) => Ok(()),
-                Err(_) => Err(Refusal::NoMemory),
-            },
-            Err(why) => {
-                self.end_wait(s);
-                Err(why)
-            }
-        }
-    }
-
-    /// Opens a cursor over the keys from low to high. Refusals in order: NoSuchSession, NotOpen, Failed, CursorOpen, BadBounds,
-    /// NoMemory.
-    pub fn open_keys(&mut self, s: u8, low: i128, high: i128) -> Result<(), Refusal>
-        ensures done { OnOk result
-            (MayOpenWithin (world_of self.old) s low high
-            × (world_of self.new
-            ≡ change (world_of self.old) s (with_keys_cursor self.old.history low high))) }
-        ensures refused { IfErr result
-            (λ why. OrMemory why (MayOpenWithin (world_of self.old) s low high)
-            (RefusesBounds (world_of self.old) s low high why)
-            × (world_of self.new ≡ stepped (world_of self.old) s)) }
-    {
-        match self.check_bounds(s, low, high) {
-            Ok(()) => match self.open(s, PlainOrder::Keys, Bounds::Within(low, high)) {
-                Ok(()) => Ok(()),
-                Err(_) => Err(Refusal::NoMemory),
-            },
-            Err(why) => {
-                self.end_wait(s);
-                Err(why)
-            }
-        }
-    }
-
-    fn fetch(&mut self, s: u8, n: u16) -> Result<Handed, AllocError>
-        ensures ok { IfOk result
-            (λ handed. (m : OpenSession) → (world_of self.old).session s ≡ Some m
-            → HandsOn (world_of self.old) s n m handed (world_of self.new)) }
-        ensures err { OnErr result (world_of self.new ≡ stepped (world_of self.old) s) }
-        ensures left { OnErr result (HasLeft ((world_of self.old).session s)) }
-    {
-        self.waits[s as usize] = None;
-        hand_out(&mut self.sessions[s as usize], self.alloc, n)
-    }
-
-    /// The next n rows of the cursor, or all that are left; 0 counts as 1. A heap cursor hands out as many. Refusals in order:
-    /// NoSuchSession, NotOpen, Failed, NoCursor, NoMemory, which comes only where a row or a key is left.
-    pub fn next(&mut self, s: u8, n: u16) -> Result<Handed, Refusal>
-        ensures handed { IfOk result
-            (λ handed. HandsBy (world_of self.old) s n handed (world_of self.new)) }
-        ensures refused { IfErr result
-            (λ why. OrMemory why (MayHandOut (world_of self.old) s)
-            (BarsWithCursor (world_sessions (world_of self.old)) s why)
-            × (world_of self.new ≡ stepped (world_of self.old) s)) }
-    {
-        match self.check_cursor(s) {
-            Ok(()) => match self.fetch(s, n) {
-                Ok(handed) => Ok(handed),
-                Err(_) => Err(Refusal::NoMemory),
-            },
-            Err(why) => {
-                self.end_wait(s);
-                Err(why)
-            }
-        }
-    }
-
-    /// Closes the cursor. Refusals in order: NoSuchSession, NotOpen, Failed, NoCursor.
-    pub fn close(&mut self, s: u8) -> Result<(), Refusal>
-        ensures done { OnOk result
-            (HasPlainCursor (world_of self.old) s
-            × (world_of self.new ≡ change (world_of self.old) s without_cursor)) }
-        ensures refused { IfErr result
-            (λ why. BarsWithCursor (world_sessions (world_of self.old)) s why
-            × (world_of self.new ≡ stepped (world_of self.old) s)) }
-    {
-        match self.check_cursor(s) {
-            Ok(()) => {
-                self.shut(s);
-                Ok(())
-            }
-            Err(why) => {
-                self.end_wait(s);
-                Err(why)
-            }
-        }
     }
 }

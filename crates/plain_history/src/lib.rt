@@ -1,5 +1,6 @@
 //! A plain slow program that computes the history that is never cleaned: it keeps the committed transactions and the open
-//! sessions as lists, and looks through them for each answer. Its contracts are the definitions of the crate `history`.
+//! sessions as lists, and looks through them for each test. It has the tests of the steps and their transitions, each by itself;
+//! `judge` puts them together. Its contracts are the definitions of the crate `history`.
 #![tactic(auto)]
 
 mod change;
@@ -13,4 +14,4 @@ mod rows;
 mod steps;
 
 pub use plain::{PlainHistory, PlainIsolation, PlainLevel, PlainSession, PlainWrite};
-pub use refusal::{Outcome, Refused};
+pub use refusal::Refused;

@@ -94,7 +94,18 @@ impl PlainHistory {
         mark_all(&mut self.too_new, &self.sessions, column + 1);
     }
 
-    fn check_make(&self, column: u8) -> Result<(), Refusal>
+    /// The index of the column is there. It is too new for each session that is open by snapshot, unless it was there.
+    pub fn make_if_lacking(&mut self, column: u8)
+        requires { column < 4 }
+        ensures { world_of self.new ≡ with_index_on (world_of self.old) column }
+    {
+        if !self.has_index(column + 1) {
+            self.make(column);
+        }
+    }
+
+    /// Whether the index of the column may be made, or is there; nothing is changed. Refusals in order: NoSuchIndex, IndexBusy.
+    pub fn check_make(&self, column: u8) -> Result<(), Refusal>
         ensures ok { OnOk result (MayIndex (world_of self.now) column) }
         ensures err { IfErr result (λ why. RefusesMaking (world_of self.now) column why) }
     {
@@ -104,27 +115,6 @@ impl PlainHistory {
             Err(Refusal::IndexBusy)
         } else {
             Ok(())
-        }
-    }
-
-    /// Makes the index of a column, from 0 to 3, unless it is there. It is no session's call. Refusals in order: NoSuchIndex, and
-    /// IndexBusy where the index is not there and an open session holds a key.
-    pub fn make_index(&mut self, column: u8) -> Result<(), Refusal>
-        ensures done { OnOk result
-            (MayIndex (world_of self.old) column
-            × (world_of self.new ≡ with_index_on (world_of self.old) column)) }
-        ensures refused { IfErr result
-            (λ why. RefusesMaking (world_of self.old) column why
-            × (world_of self.new ≡ world_of self.old)) }
-    {
-        match self.check_make(column) {
-            Ok(()) => {
-                if !self.has_index(column + 1) {
-                    self.make(column);
-                }
-                Ok(())
-            }
-            Err(why) => Err(why),
         }
     }
 }

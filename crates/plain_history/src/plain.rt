@@ -171,7 +171,7 @@ impl PlainHistory {
     }
 
     /// Whether there is the index of this number: index 0, by the key, always, and index c + 1 where column c is indexed.
-    pub(crate) fn has_index(&self, index: u8) -> bool
+    pub fn has_index(&self, index: u8) -> bool
         ensures { result ≡ (world_of self.now).has_index index }
     {
         if index == 0 {

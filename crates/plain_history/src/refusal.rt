@@ -1,4 +1,4 @@
-//! What a step of a session is answered, where it isn't a row.
+//! Why a write is refused.
 
 use calls::Refusal;
 
@@ -9,13 +9,4 @@ pub enum Refused {
     By(Refusal),
     /// An open session holds the key, and a wait for it would close a ring.
     Deadlock,
-}
-
-/// How a transaction ended.
-#[derive(Clone, Copy, Debug, PartialEq, Eq)]
-pub enum Outcome {
-    /// What it wrote is part of the history.
-    Committed,
-    /// It had failed, and what it wrote is dropped.
-    RolledBack,
 }

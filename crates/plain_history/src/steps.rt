@@ -1,21 +1,21 @@
-//! The steps of a session. Each makes its tests in order, and then its transition; a refused one leaves what its refusal
-//! says.
+//! The tests of a session's steps, and their transitions.
 
-ghost use Rattle.std.specs.Prelude.{◌≡◌, OnOk, IfErr, IfOk, IsSome, Some};
+ghost use Rattle.std.specs.Prelude.{◌≡◌, OnOk, OnErr, IfErr, IfOk, IsSome, Some};
 ghost use Rattle.history.specs.World.{world_sessions};
-ghost use Rattle.history.specs.Moves.{put, free_to_scan, new_session, begun, begun_by_statement, change, with_row, without_row, with_savepoint, rolled_back_to, without_savepoint, aborted, stepped};
+ghost use Rattle.history.specs.Moves.{put, free_to_scan, new_session, begun, begun_by_statement, change, with_row, without_row, rolled_back_to, aborted, committed_by, stepped};
 ghost use Rattle.plain_history.specs.Plain.{isolation_of, world_of};
 ghost use Rattle.calls.specs.Bars.{BarsOpen, BarsReady};
-ghost use Rattle.plain_history.specs.Answers.{after_refusal, OrMemory, OrWriteMemory, MayBegin, RefusesBegin, RefusesInsert, RefusesReplace, RefusesSave, RefusesRollBack, RefusesRelease, MayInsert, MayReplace, PlainReads, MaySave, MayRollBack, MayRelease, MayCommit, WouldCommit, EndsTransaction};
+ghost use Rattle.plain_history.specs.Answers.{after_refusal, OrMemory, MayBegin, RefusesBegin, RefusesSave, RefusesRollBack, RefusesRelease, PlainReads, MaySave, MayRollBack, MayRelease, MayCommit, WouldCommit};
 
 use crate::plain::{PlainHistory, PlainIsolation, PlainLevel, PlainSession};
-use crate::refusal::{Outcome, Refused};
+use crate::refusal::Refused;
 use calls::Refusal;
+use std::alloc::AllocError;
 use tuple_header::Row;
 
 impl PlainHistory {
     /// What a refused step leaves.
-    pub(crate) fn refuse(&mut self, s: u8, why: Refused)
+    pub fn refuse(&mut self, s: u8, why: Refused)
         ensures { world_of self.new ≡ after_refusal (world_of self.old) s why }
     {
         match why {
@@ -26,7 +26,8 @@ impl PlainHistory {
         }
     }
 
-    fn check_begin(&self, s: u8) -> Result<(), Refusal>
+    /// Whether the session may begin; nothing is changed. Refusals: NoSuchSession, AlreadyOpen.
+    pub fn check_begin(&self, s: u8) -> Result<(), Refusal>
         ensures ok { OnOk result (MayBegin (world_of self.now) s) }
         ensures err { IfErr result (λ why. RefusesBegin (world_of self.now) s why) }
     {
@@ -37,59 +38,35 @@ impl PlainHistory {
         }
     }
 
-    /// Opens an idle session, which reads what has committed until now. Refusals: NoSuchSession, AlreadyOpen.
-    pub fn begin(&mut self, s: u8) -> Result<(), Refusal>
-        ensures done { OnOk result
-            (MayBegin (world_of self.old) s
-            × (world_of self.new ≡ begun (world_of self.old) s)) }
-        ensures refused { IfErr result
-            (λ why. RefusesBegin (world_of self.old) s why
-            × (world_of self.new ≡ stepped (world_of self.old) s)) }
+    /// The session is open, and reads what has committed until now.
+    pub fn start(&mut self, s: u8)
+        ensures { world_of self.new ≡ begun (world_of self.old) s }
     {
         let start = self.history.len();
-        self.begin_by(s, PlainIsolation::BySnapshot(start))
+        self.start_by(s, PlainIsolation::BySnapshot(start));
     }
 
-    /// Opens an idle session, each of whose statements reads what has committed until then. Refusals: NoSuchSession, AlreadyOpen.
-    pub fn begin_read_committed(&mut self, s: u8) -> Result<(), Refusal>
-        ensures done { OnOk result
-            (MayBegin (world_of self.old) s
-            × (world_of self.new ≡ begun_by_statement (world_of self.old) s)) }
-        ensures refused { IfErr result
-            (λ why. RefusesBegin (world_of self.old) s why
-            × (world_of self.new ≡ stepped (world_of self.old) s)) }
+    /// The session is open, and each of its statements reads what has committed until then.
+    pub fn start_by_statement(&mut self, s: u8)
+        ensures { world_of self.new ≡ begun_by_statement (world_of self.old) s }
     {
-        self.begin_by(s, PlainIsolation::ByStatement)
+        self.start_by(s, PlainIsolation::ByStatement);
     }
 
-    fn begin_by(&mut self, s: u8, isolation: PlainIsolation) -> Result<(), Refusal>
-        ensures done { OnOk result
-            (MayBegin (world_of self.old) s
-            × (world_of self.new
+    fn start_by(&mut self, s: u8, isolation: PlainIsolation)
+        ensures { world_of self.new
             ≡ free_to_scan
-            (put (world_of self.old) s (Some (new_session (isolation_of isolation)))) s)) }
-        ensures refused { IfErr result
-            (λ why. RefusesBegin (world_of self.old) s why
-            × (world_of self.new ≡ stepped (world_of self.old) s)) }
+            (put (world_of self.old) s (Some (new_session (isolation_of isolation)))) s }
     {
-        match self.check_begin(s) {
-            Ok(()) => {
-                let session = PlainSession {
-                    isolation,
-                    newest: PlainLevel::new(self.alloc),
-                    older: Vec::new(self.alloc),
-                    failed: false,
-                    cursor: None,
-                };
-                self.put(s, Some(session));
-                self.may_scan_all(s);
-                Ok(())
-            }
-            Err(why) => {
-                self.end_wait(s);
-                Err(why)
-            }
-        }
+        let session = PlainSession {
+            isolation,
+            newest: PlainLevel::new(self.alloc),
+            older: Vec::new(self.alloc),
+            failed: false,
+            cursor: None,
+        };
+        self.put(s, Some(session));
+        self.may_scan_all(s);
     }
 
     /// The row that the session reads. It is no step, and ends no wait. Refusals in order: NoSuchSession, NotOpen, Failed.
@@ -103,94 +80,28 @@ impl PlainHistory {
         }
     }
 
-    /// Does the step of a [`PlainHistory::read`], with its answer.
-    pub fn get(&mut self, s: u8, key: u64) -> Result<Option<Row>, Refusal>
-        ensures found { IfOk result (λ row. PlainReads (world_of self.old) s key row) }
-        ensures refused { IfErr result
-            (λ why. BarsReady (world_sessions (world_of self.old)) s why) }
-        ensures next { world_of self.new ≡ stepped (world_of self.old) s }
-    {
-        let answer = self.read(s, key);
-        self.end_wait(s);
-        answer
-    }
-
-    /// Inserts a row whose key the session doesn't see. Refusals in order: those of [`PlainHistory::check_insert`], NoMemory.
-    pub fn insert(&mut self, s: u8, row: Row) -> Result<(), Refused>
-        ensures done { OnOk result
-            (MayInsert (world_of self.old) s row.key
-            × (world_of self.new ≡ change (world_of self.old) s (with_row self.old.history row))) }
-        ensures refused { IfErr result
-            (λ why. OrWriteMemory why (MayInsert (world_of self.old) s row.key)
-            (RefusesInsert (world_of self.old) s row.key why)
-            × (world_of self.new ≡ after_refusal (world_of self.old) s why)) }
-    {
-        match self.check_insert(s, row.key) {
-            Ok(()) => self.write_row(s, row),
-            Err(why) => {
-                self.refuse(s, why);
-                Err(why)
-            }
-        }
-    }
-
-    /// Gives the session's row of the key another value. Refusals in order: those of [`PlainHistory::check_replace`], NoMemory.
-    pub fn update(&mut self, s: u8, row: Row) -> Result<(), Refused>
-        ensures done { OnOk result
-            (MayReplace (world_of self.old) s row.key
-            × (world_of self.new ≡ change (world_of self.old) s (with_row self.old.history row))) }
-        ensures refused { IfErr result
-            (λ why. OrWriteMemory why (MayReplace (world_of self.old) s row.key)
-            (RefusesReplace (world_of self.old) s row.key why)
-            × (world_of self.new ≡ after_refusal (world_of self.old) s why)) }
-    {
-        match self.check_replace(s, row.key) {
-            Ok(()) => self.write_row(s, row),
-            Err(why) => {
-                self.refuse(s, why);
-                Err(why)
-            }
-        }
-    }
-
-    fn write_row(&mut self, s: u8, row: Row) -> Result<(), Refused>
+    /// The session writes the row. Where memory is refused only its own wait ends.
+    pub fn put_row(&mut self, s: u8, row: Row) -> Result<(), AllocError>
         ensures ok { OnOk result
             (world_of self.new ≡ change (world_of self.old) s (with_row self.old.history row)) }
-        ensures err { IfErr result
-            (λ why. (why ≡ Refused.By Refusal.NoMemory)
-            × (world_of self.new ≡ stepped (world_of self.old) s)) }
+        ensures err { OnErr result (world_of self.new ≡ stepped (world_of self.old) s) }
     {
         let key = row.key;
-        match self.write(s, key, Some(row)) {
-            Ok(()) => Ok(()),
-            Err(_) => Err(Refused::By(Refusal::NoMemory)),
-        }
+        self.write(s, key, Some(row))
     }
 
-    /// Deletes the session's row of the key. Refusals in order: those of [`PlainHistory::check_replace`], NoMemory.
-    pub fn delete(&mut self, s: u8, key: u64) -> Result<(), Refused>
-        ensures done { OnOk result
-            (MayReplace (world_of self.old) s key
-            × (world_of self.new
-            ≡ change (world_of self.old) s (without_row self.old.history key))) }
-        ensures refused { IfErr result
-            (λ why. OrWriteMemory why (MayReplace (world_of self.old) s key)
-            (RefusesReplace (world_of self.old) s key why)
-            × (world_of self.new ≡ after_refusal (world_of self.old) s why)) }
+    /// The session writes that the key has no row. Where memory is refused only its own wait ends.
+    pub fn take_row(&mut self, s: u8, key: u64) -> Result<(), AllocError>
+        ensures ok { OnOk result
+            (world_of self.new ≡ change (world_of self.old) s (without_row self.old.history key)) }
+        ensures err { OnErr result (world_of self.new ≡ stepped (world_of self.old) s) }
     {
-        match self.check_replace(s, key) {
-            Ok(()) => match self.write(s, key, None) {
-                Ok(()) => Ok(()),
-                Err(_) => Err(Refused::By(Refusal::NoMemory)),
-            },
-            Err(why) => {
-                self.refuse(s, why);
-                Err(why)
-            }
-        }
+        self.write(s, key, None)
     }
 
-    fn check_save(&self, s: u8) -> Result<(), Refusal>
+    /// Whether the session may make a savepoint; nothing is changed. Refusals in order: NoSuchSession, NotOpen, Failed, CursorOpen,
+    /// TooDeep.
+    pub fn check_save(&self, s: u8) -> Result<(), Refusal>
         ensures ok { OnOk result (MaySave (world_of self.now) s) }
         ensures err { IfErr result (λ why. RefusesSave (world_of self.now) s why) }
     {
@@ -206,30 +117,9 @@ impl PlainHistory {
         }
     }
 
-    /// Makes a savepoint, of which a session has at most 32. Refusals in order: NoSuchSession, NotOpen, Failed, CursorOpen,
-    /// TooDeep, NoMemory.
-    pub fn savepoint(&mut self, s: u8) -> Result<(), Refusal>
-        ensures done { OnOk result
-            (MaySave (world_of self.old) s
-            × (world_of self.new ≡ change (world_of self.old) s with_savepoint)) }
-        ensures refused { IfErr result
-            (λ why. OrMemory why (MaySave (world_of self.old) s)
-            (RefusesSave (world_of self.old) s why)
-            × (world_of self.new ≡ stepped (world_of self.old) s)) }
-    {
-        match self.check_save(s) {
-            Ok(()) => match self.save(s) {
-                Ok(()) => Ok(()),
-                Err(_) => Err(Refusal::NoMemory),
-            },
-            Err(why) => {
-                self.end_wait(s);
-                Err(why)
-            }
-        }
-    }
-
-    fn check_roll_back(&self, s: u8) -> Result<(), Refusal>
+    /// Whether the session may go back to a savepoint; nothing is changed. Refusals in order: NoSuchSession, NotOpen, CursorOpen,
+    /// NoSavepoint.
+    pub fn check_roll_back(&self, s: u8) -> Result<(), Refusal>
         ensures ok { OnOk result (MayRollBack (world_of self.now) s) }
         ensures err { IfErr result (λ why. RefusesRollBack (world_of self.now) s why) }
     {
@@ -247,30 +137,17 @@ impl PlainHistory {
         }
     }
 
-    /// Takes back what was written since the newest savepoint, which stays. A failed session is usable again. Refusals in order:
-    /// NoSuchSession, NotOpen, CursorOpen, NoSavepoint.
-    pub fn roll_back_to(&mut self, s: u8) -> Result<(), Refusal>
-        ensures done { OnOk result
-            (MayRollBack (world_of self.old) s
-            × (world_of self.new ≡ rolled_back_to (world_of self.old) s)) }
-        ensures refused { IfErr result
-            (λ why. RefusesRollBack (world_of self.old) s why
-            × (world_of self.new ≡ stepped (world_of self.old) s)) }
+    /// What was written since the newest savepoint is gone, and a failed session is usable again.
+    pub fn go_back(&mut self, s: u8)
+        ensures { world_of self.new ≡ rolled_back_to (world_of self.old) s }
     {
-        match self.check_roll_back(s) {
-            Ok(()) => {
-                self.roll_back(s);
-                self.wake(s);
-                Ok(())
-            }
-            Err(why) => {
-                self.end_wait(s);
-                Err(why)
-            }
-        }
+        self.roll_back(s);
+        self.wake(s);
     }
 
-    fn check_release(&self, s: u8) -> Result<(), Refusal>
+    /// Whether the session may forget a savepoint; nothing is changed. Refusals in order: NoSuchSession, NotOpen, Failed,
+    /// CursorOpen, NoSavepoint.
+    pub fn check_release(&self, s: u8) -> Result<(), Refusal>
         ensures ok { OnOk result (MayRelease (world_of self.now) s) }
         ensures err { IfErr result (λ why. RefusesRelease (world_of self.now) s why) }
     {
@@ -286,83 +163,8 @@ impl PlainHistory {
         }
     }
 
-    /// Forgets the newest savepoint; what was written since joins the level below. Refusals in order: NoSuchSession, NotOpen,
-    /// Failed, CursorOpen, NoSavepoint, NoMemory.
-    pub fn release(&mut self, s: u8) -> Result<(), Refusal>
-        ensures done { OnOk result
-            (MayRelease (world_of self.old) s
-            × (world_of self.new ≡ change (world_of self.old) s without_savepoint)) }
-        ensures refused { IfErr result
-            (λ why. OrMemory why (MayRelease (world_of self.old) s)
-            (RefusesRelease (world_of self.old) s why)
-            × (world_of self.new ≡ stepped (world_of self.old) s)) }
-    {
-        match self.check_release(s) {
-            Ok(()) => match self.join(s) {
-                Ok(()) => Ok(()),
-                Err(_) => Err(Refusal::NoMemory),
-            },
-            Err(why) => {
-                self.end_wait(s);
-                Err(why)
-            }
-        }
-    }
-
-    /// Ends the session. What it wrote joins the history, unless it has failed. Refusals in order: NoSuchSession, NotOpen,
-    /// NoMemory, which leaves the session open and is never answered to one that has failed.
-    pub fn commit(&mut self, s: u8) -> Result<Outcome, Refusal>
-        ensures done { IfOk result
-            (λ outcome. EndsTransaction (world_of self.old) s outcome (world_of self.new)) }
-        ensures refused { IfErr result
-            (λ why. OrMemory why (MayCommit (world_of self.old) s)
-            (BarsOpen (world_sessions (world_of self.old)) s why)
-            × (world_of self.new ≡ stepped (world_of self.old) s)) }
-    {
-        match self.transaction(s) {
-            Ok(transaction) => match self.append(transaction) {
-                Ok(()) => {
-                    self.end(s);
-                    Ok(Outcome::Committed)
-                }
-                Err(_) => {
-                    self.end_wait(s);
-                    Err(Refusal::NoMemory)
-                }
-            },
-            Err(Refusal::Failed) => {
-                self.end(s);
-                Ok(Outcome::RolledBack)
-            }
-            Err(why) => {
-                self.end_wait(s);
-                Err(why)
-            }
-        }
-    }
-
-    /// Ends the session, and drops what it wrote. Refusals in order: NoSuchSession, NotOpen.
-    pub fn abort(&mut self, s: u8) -> Result<(), Refusal>
-        ensures done { OnOk result
-            (IsSome ((world_of self.old).session s)
-            × (world_of self.new ≡ aborted (world_of self.old) s)) }
-        ensures refused { IfErr result
-            (λ why. BarsOpen (world_sessions (world_of self.old)) s why
-            × (world_of self.new ≡ stepped (world_of self.old) s)) }
-    {
-        match self.check_open(s) {
-            Ok(()) => {
-                self.end(s);
-                Ok(())
-            }
-            Err(why) => {
-                self.end_wait(s);
-                Err(why)
-            }
-        }
-    }
-
-    fn check_open(&self, s: u8) -> Result<(), Refusal>
+    /// Whether the session is open; nothing is changed. Refusals in order: NoSuchSession, NotOpen.
+    pub fn check_open(&self, s: u8) -> Result<(), Refusal>
         ensures ok { OnOk result (IsSome ((world_of self.now).session s)) }
         ensures err { IfErr result (λ why. BarsOpen (world_sessions (world_of self.now)) s why) }
     {
@@ -372,11 +174,30 @@ impl PlainHistory {
         }
     }
 
-    fn end(&mut self, s: u8)
+    /// The session is idle, and what it wrote is gone.
+    pub fn end(&mut self, s: u8)
         ensures { world_of self.new ≡ aborted (world_of self.old) s }
     {
         self.put(s, None);
         self.wake(s);
+    }
+
+    /// What the session wrote joins the history, and the session is idle. Where memory is refused all is as it was.
+    pub fn take_in(&mut self, s: u8) -> Result<(), Refusal>
+        requires { MayCommit (world_of self.old) s }
+        ensures ok { OnOk result (world_of self.new ≡ committed_by (world_of self.old) s) }
+        ensures err { OnErr result (world_of self.new ≡ world_of self.old) }
+    {
+        match self.transaction(s) {
+            Ok(transaction) => match self.append(transaction) {
+                Ok(()) => {
+                    self.end(s);
+                    Ok(())
+                }
+                Err(_) => Err(Refusal::NoMemory),
+            },
+            Err(why) => Err(why),
+        }
     }
 
     /// The transaction that the session would commit.

@@ -105,7 +105,7 @@ leads_on_reply w step (reply.Refused (refusal.Busy o)) allows = leads_to_wait w 
 leads_on_reply w step (reply.Refused refusal.Deadlock) allows = leads_to_deadlock w step allows
 leads_on_reply w step reply allows = leads_on w step reply allows
 
-leads : (from w : World) (steps : List Step) (replies : List Reply) → StepsReach from w → IsRun w steps replies → StepsReach from (after w steps replies)
+pub leads : (from w : World) (steps : List Step) (replies : List Reply) → StepsReach from w → IsRun w steps replies → StepsReach from (after w steps replies)
 leads from w [] [] run ok = run
 leads from w [] (r ∷ rs) run ok = absurd ok
 leads from w (s ∷ ss) [] run ok = absurd ok

@@ -1,3 +1,3 @@
 pub mod Rooms
-pub mod Replies
+pub mod Hindrances
 pub mod Noted

@@ -1,21 +1,17 @@
-//! The engine beside the plain program of the history, asked the same, and what is taken for the same answer.
+//! The engine, with a judge of what it answers.
 //!
-//! That the history allows each reply of the engine is proved (`session_core`), and that each answer of the plain program is by
-//! the definitions of the history (`plain_history`). Here a pair of them is asked for the same steps, and every reply, every id
-//! that is given, and what sessions read is compared. What the history leaves to an engine is compared with the engine's pages
-//! and ids, and of a vacuum, of which the history knows nothing, with whether one runs. What is noted of pages and in indexes is
-//! looked at after each of its steps.
+//! That the history allows each reply of the engine is proved (`session_core`), and that the judge allows exactly such replies
+//! (`judge`). Here the judge is told what the compiled engine replies to each step, and what its sessions read. What the history
+//! leaves to an engine is compared with the engine's pages and ids, and of a vacuum, of which the history knows nothing, with
+//! whether one runs. So is every id that is given. What is noted of pages and in indexes is looked at after each step of a vacuum.
 #![tactic(auto)]
 
-mod compare;
-mod cursors;
 mod cuts;
+mod hindrance;
 mod levels;
 mod look;
 mod making;
-mod page_rows;
 mod pair;
-mod plain_side;
 mod vacuum;
 mod written;
 

@@ -1,19 +1,8 @@
-//! The making of an index: what hinders it, and whether what was made is as the history has it.
+//! Whether an index that was made is as the history has it.
 
 use plain_history::PlainHistory;
 use root_index::{Entry, RootIndex};
-use session_core::{Refusal, Reply, Row};
-
-/// Why no index is made that is not there, if it isn't. The plain program knows neither vacuums nor ids.
-pub(crate) fn hindrance(has_vacuum: bool, has_writer: bool) -> Option<Reply> {
-    if has_vacuum {
-        Some(Reply::Refused(Refusal::VacuumRunning))
-    } else if has_writer {
-        Some(Reply::Refused(Refusal::IndexBusy))
-    } else {
-        None
-    }
-}
+use session_core::Row;
 
 fn value_in(number: u8, row: &Row) -> i128 {
     match number {

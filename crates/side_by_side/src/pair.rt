@@ -1,4 +1,4 @@
-//! The engine and the plain program side by side.
+//! The engine, with a judge at its side.
 
 ghost use Rattle.std.specs.Prelude.{◌≡◌, ◌<◌, ◌≤◌, ◌↔◌, IsTrue, IfOk, IfErr, length};
 ghost use Rattle.std.specs.Prelude.{option_copied};
@@ -7,27 +7,31 @@ ghost use Rattle.side_by_side.specs.declared.pair.Difference.TheVariants.{NoView
 ghost use Rattle.tuple_header.specs.declared.version.TheConstants.{MOST_BODY};
 ghost use Rattle.xid_circle.specs.Circle.{IsNormal, distance_of};
 
-use crate::compare::{same_found, same_reply};
-use crate::cursors::{Cursor, hand_out};
 use crate::cuts::{Chains, chains_of, count_cuts};
+use crate::hindrance::{
+    Before, agrees_with, hindrance_of_making, hindrance_of_plan, hindrance_of_second_vacuum,
+    hindrance_of_vacuum, tells_oldest,
+};
 use crate::levels::{Levels, horizon_of, session_of_levels, xmin_of};
 use crate::look::{are_all_visible, count_slots, first_astray, first_misnoted};
-use crate::making::{hindrance, is_exact};
-use crate::page_rows::read_again;
-use crate::plain_side::{all_rows, answer, answer_without_writing, refused_or, refused_to_read};
-use crate::vacuum::{RunningVacuum, expected_of_vacuum};
+use crate::making::is_exact;
+use crate::vacuum::RunningVacuum;
 use crate::written::{is_too_large, row_to_write, size_on_page, writer_of};
+use judge::{Judge, Ruling};
 use page_slots::Page;
-use plain_history::PlainHistory;
 use session_core::{Engine, Mode, Refusal, Reply, Row, RowIn, Settings, Step};
 use std::alloc::{AllocError, Global};
 use xid_circle::{Xid, distance, next};
 
-/// What differed.
+/// What is not as it has to be.
 #[derive(Debug, Drop)]
 pub enum Difference {
-    /// The engine's reply, and the one that it has to give, if there is one.
-    Reply(Reply, Option<Reply>),
+    /// The history does not allow this reply of the engine.
+    Broken(Reply),
+    /// The history leaves this reply open, and what hinders the step, if anything does, is another.
+    Unhindered(Reply, Option<Refusal>),
+    /// The oldest id remembered that a vacuum told at its end, and the one that it has to be.
+    Oldest(Reply, Xid),
     /// The engine's next id and the oldest remembered, and those that they have to be.
     Ids((Xid, Xid), (Xid, Xid)),
     /// What this session reads of this key.
@@ -62,28 +66,28 @@ pub struct Views {
     pub rows: u64,
 }
 
-// What a session reads of a key, on both sides.
+// What a session of the engine reads of a key.
+#[derive(Clone, Copy)]
 enum Reading {
-    Differing,
-    // It is refused, or reads in a failed session, for which the plain program has no call.
+    // The history does not allow it.
+    Broken,
+    // It is refused, or reads in a failed session, for which the history has no call.
     Refused,
     NoRow,
     Row,
 }
 
-/// An engine, and the plain program that is asked the same.
+/// An engine, and a judge of what it replies.
 #[derive(Drop)]
 pub struct Pair {
     engine: Engine,
-    plain: PlainHistory,
+    judge: Judge,
     settings: Settings,
     // Those of which a view is read.
     keys: &'static [u64],
     views: Views,
     // Those of each session that is open.
     levels: Vec<Levels>,
-    // That of each session.
-    cursors: Vec<Cursor>,
     // The one that runs, if one does.
     vacuum: Option<RunningVacuum>,
     // How many versions prunings took before they were dead.
@@ -91,15 +95,6 @@ pub struct Pair {
     // Which indexes were made in use, by their numbers, and how many.
     made: [bool; 5],
     makings: u64,
-}
-
-// What was so before a step.
-#[derive(Clone, Copy)]
-struct Before {
-    ids: (Xid, Xid),
-    needs_freeze: bool,
-    has_page: bool,
-    has_index: bool,
 }
 
 // Whether from first to next is as far as ids may go.
@@ -134,14 +129,6 @@ fn no_levels(alloc: Global) -> Result<Vec<Levels>, AllocError> {
     Ok(levels)
 }
 
-fn no_cursors(alloc: Global) -> Result<Vec<Cursor>, AllocError> {
-    let mut cursors = Vec::new(alloc);
-    for _ in 0..64usize {
-        cursors.push(Cursor::None)?;
-    }
-    Ok(cursors)
-}
-
 // Whether the page is in use, and a version of this size does not fit.
 fn is_full_page(page: Option<&Page>, size: usize) -> bool
     ensures { IsTrue result ↔ PageIsFull (option_copied page.entry) size }
@@ -152,14 +139,11 @@ fn is_full_page(page: Option<&Page>, size: usize) -> bool
     }
 }
 
-// What was read of a key on both sides.
-fn reading_of(row: &Option<Row>, expected: &Option<Row>) -> Reading {
-    if !same_found(row, expected) {
-        Reading::Differing
-    } else if row.is_some() {
-        Reading::Row
-    } else {
-        Reading::NoRow
+// What was read, where the history allows it.
+fn reading_of(row: &Option<Row>) -> Reading {
+    match row {
+        Some(_) => Reading::Row,
+        None => Reading::NoRow,
     }
 }
 
@@ -176,14 +160,6 @@ fn session_of_snapshot(step: &Step) -> Option<u8> {
 // Whether the session of the step has failed by it.
 fn makes_fail(reply: &Reply) -> bool {
     matches!(reply, Reply::Refused(Refusal::Conflict | Refusal::Deadlock))
-}
-
-// What the engine has to reply to a plan of a page in use, where it has replied this. Whether the plan checks is left to it.
-fn expected_of_plan(reply: &Reply) -> Reply {
-    match reply {
-        Reply::Refused(Refusal::Stale) => Reply::Refused(Refusal::Stale),
-        _ => Reply::Done,
-    }
 }
 
 // Whether the step was done. What is read changes nothing, and isn't asked for here.
@@ -209,20 +185,19 @@ impl Pair {
         let Ok(engine) = Engine::new(alloc, settings) else {
             return Err(Difference::NoMemory);
         };
-        let Ok(plain) = PlainHistory::new(alloc, settings.indexed) else {
+        let Ok(judge) = Judge::new(alloc, settings.indexed) else {
             return Err(Difference::NoMemory);
         };
-        let (Ok(levels), Ok(cursors)) = (no_levels(alloc), no_cursors(alloc)) else {
+        let Ok(levels) = no_levels(alloc) else {
             return Err(Difference::NoMemory);
         };
         Ok(Pair {
             engine,
-            plain,
+            judge,
             settings,
             keys,
             views: Views { views: 0, rows: 0 },
             levels,
-            cursors,
             vacuum: None,
             cuts: 0,
             made: [false; 5],
@@ -237,7 +212,7 @@ impl Pair {
 
     /// How the session stands, and whether it reads a row of the key.
     pub fn standing(&self, s: u8, key: u64) -> Standing {
-        match self.plain.read(s, key) {
+        match self.judge.history().read(s, key) {
             Ok(Some(_)) => Standing::Reads,
             Ok(None) => Standing::ReadsNone,
             Err(Refusal::Failed) => Standing::Failed,
@@ -261,10 +236,7 @@ impl Pair {
 
     /// Whether the session has a cursor open.
     pub fn has_cursor(&self, s: u8) -> bool {
-        matches!(
-            self.cursors.get(s as usize),
-            Some(Cursor::Index | Cursor::Heap(_))
-        )
+        self.judge.history().check_cursor(s).is_ok()
     }
 
     /// Whether the session is open.
@@ -361,8 +333,8 @@ impl Pair {
                 }
                 _ => false,
             },
-            has_index: match step {
-                Step::CreateIndex(column) => self.engine.index(column.saturating_add(1)).is_some(),
+            lacks_index: match step {
+                Step::CreateIndex(column) if *column < 4 => self.engine.index(column + 1).is_none(),
                 _ => false,
             },
         }
@@ -392,65 +364,17 @@ impl Pair {
         }
     }
 
-    // What the engine has to reply to a write, where it has replied this: which write finds no room is left to it.
-    fn expected_of_write(
-        &mut self,
-        s: u8,
-        step: &Step,
-        before: Before,
-        reply: &Reply,
-    ) -> Option<Reply> {
-        let is_without_room = match row_to_write(step) {
-            Some(row) if is_too_large(row) => {
-                return refused_or(&mut self.plain, s, Refusal::TooLarge);
+    // What hinders a write, where the engine has replied this: which write finds no room is left to it.
+    fn hindrance_of_write(&self, step: &Step, before: Before, reply: &Reply) -> Option<Refusal> {
+        if before.needs_freeze {
+            return Some(Refusal::NeedsFreeze);
+        }
+        match row_to_write(step) {
+            Some(row) if !is_too_large(row) && self.is_without_room(row, reply) => {
+                Some(Refusal::NoRoom)
             }
-            Some(row) => self.is_without_room(row, reply),
-            None => false,
-        };
-        let lack = if before.needs_freeze {
-            Refusal::NeedsFreeze
-        } else if is_without_room {
-            Refusal::NoRoom
-        } else {
-            return answer(&mut self.plain, step);
-        };
-        match answer_without_writing(&mut self.plain, s, step) {
-            Some(Reply::Done) => Some(Reply::Refused(lack)),
-            other => other,
+            _ => None,
         }
-    }
-
-    // What the engine has to reply to a request for more rows or keys, where it has replied this. The plain program has handed out
-    // all rows of a heap cursor already.
-    fn expected_of_next(
-        &mut self,
-        alloc: Global,
-        s: u8,
-        step: &Step,
-        reply: &Reply,
-    ) -> Option<Reply> {
-        let answered = answer(&mut self.plain, step);
-        match (&answered, self.cursors.get_mut(s as usize)) {
-            (Some(Reply::End), Some(Cursor::Heap(rest))) => hand_out(alloc, rest, reply).ok(),
-            _ => answered,
-        }
-    }
-
-    // What the engine has to reply to a session that takes the rows of a page, where it has replied this.
-    fn expected_of_taking(
-        &mut self,
-        alloc: Global,
-        s: u8,
-        before: Before,
-        reply: &Reply,
-    ) -> Option<Reply> {
-        if let Some(refused) = refused_to_read(&mut self.plain, s) {
-            return Some(refused);
-        }
-        if !before.has_page {
-            return Some(Reply::Refused(Refusal::NoSuchPage));
-        }
-        read_again(alloc, &self.plain, s, reply).ok()
     }
 
     // Whether an open session has an id.
@@ -463,62 +387,33 @@ impl Pair {
         false
     }
 
-    // What the engine has to reply to the making of an index.
-    fn expected_of_making(&mut self, column: u8, step: &Step, before: Before) -> Option<Reply> {
-        if column < 4 && !before.has_index {
-            if let Some(refused) = hindrance(self.vacuum.is_some(), self.has_writer()) {
-                return Some(refused);
-            }
-        }
-        answer(&mut self.plain, step)
-    }
-
-    // What the engine has to reply, where it has replied this.
-    fn expect(
-        &mut self,
-        alloc: Global,
-        step: &Step,
-        before: Before,
-        reply: &Reply,
-    ) -> Option<Reply> {
-        if let Some(s) = writer_of(step) {
-            return self.expected_of_write(s, step, before, reply);
+    // What hinders the step where the history lets it pass, and where the engine has replied this.
+    fn hindrance(&self, step: &Step, before: Before, reply: &Reply) -> Option<Refusal> {
+        if let Some(_) = writer_of(step) {
+            return self.hindrance_of_write(step, before, reply);
         }
         match step {
-            Step::Prune(_) | Step::ApplyPlan(_, _) if !before.has_page => {
-                Some(Reply::Refused(Refusal::NoSuchPage))
+            Step::TakePage(_, _) | Step::Prune(_) | Step::ApplyPlan(_, _) if !before.has_page => {
+                Some(Refusal::NoSuchPage)
             }
-            Step::Prune(_) => Some(Reply::Done),
-            Step::ApplyPlan(_, _) => Some(expected_of_plan(reply)),
-            Step::VacuumBegin(_) | Step::VacuumStep | Step::VacuumCancel => {
-                expected_of_vacuum(self.vacuum, before.ids.1, step, reply)
+            Step::ApplyPlan(_, _) => hindrance_of_plan(reply),
+            Step::VacuumBegin(_) => hindrance_of_second_vacuum(self.vacuum.is_some()),
+            Step::VacuumStep | Step::VacuumCancel => hindrance_of_vacuum(self.vacuum.is_some()),
+            Step::CreateIndex(_) if before.lacks_index => {
+                hindrance_of_making(self.vacuum.is_some(), self.has_writer())
             }
-            Step::Next(s, _) => self.expected_of_next(alloc, *s, step, reply),
-            Step::TakePage(s, _) => self.expected_of_taking(alloc, *s, before, reply),
-            Step::CreateIndex(column) => self.expected_of_making(*column, step, before),
-            _ => answer(&mut self.plain, step),
-        }
-    }
-
-    // The session whose cursor a step that was done has changed, and its cursor now, if there is such a session.
-    fn cursor_after(&mut self, alloc: Global, step: &Step) -> Option<(u8, Cursor)> {
-        match step {
-            Step::OpenIndex(s, _, _, _) | Step::OpenKeys(s, _, _) => Some((*s, Cursor::Index)),
-            Step::OpenHeap(s) => Some((*s, Cursor::Heap(all_rows(alloc, &mut self.plain, *s)))),
-            Step::Begin(s) | Step::BeginReadCommitted(s) => Some((*s, Cursor::None)),
-            Step::Close(s) | Step::Commit(s) | Step::Abort(s) => Some((*s, Cursor::None)),
             _ => None,
         }
     }
 
-    fn note_cursor(&mut self, alloc: Global, step: &Step, reply: &Reply) {
-        if !is_done(reply) {
-            return;
-        }
-        if let Some((s, now)) = self.cursor_after(alloc, step) {
-            if let Some(cursor) = self.cursors.get_mut(s as usize) {
-                *cursor = now;
-            }
+    // Has the reply judged, and compares it with what hinders the step.
+    fn judge(&mut self, step: &Step, before: Before, reply: Reply) -> Result<Reply, Difference> {
+        let hindrance = self.hindrance(step, before, &reply);
+        match self.judge.judge(step, &reply) {
+            Ok(Ruling::Allowed) if agrees_with(hindrance, &reply) => Ok(reply),
+            Ok(Ruling::Allowed) => Err(Difference::Unhindered(reply, hindrance)),
+            Ok(Ruling::Broken) => Err(Difference::Broken(reply)),
+            Err(_) => Err(Difference::NoMemory),
         }
     }
 
@@ -587,9 +482,9 @@ impl Pair {
             return Err(Difference::Made(number));
         };
         // Nobody waits for a session that is not open, so these two end no wait.
-        let _ = self.plain.begin(s);
-        let exact = is_exact(&self.plain, s, index, number, self.keys);
-        let _ = self.plain.abort(s);
+        let _ = self.judge.judge(&Step::Begin(s), &Reply::Done);
+        let exact = is_exact(self.judge.history(), s, index, number, self.keys);
+        let _ = self.judge.judge(&Step::Abort(s), &Reply::RolledBack);
         if exact {
             Ok(())
         } else {
@@ -605,7 +500,7 @@ impl Pair {
         reply: &Reply,
     ) -> Result<(), Difference> {
         match (step, reply) {
-            (Step::CreateIndex(column), Reply::Done) if *column < 4 && !before.has_index => {
+            (Step::CreateIndex(column), Reply::Done) if before.lacks_index => {
                 let number = column.saturating_add(1);
                 if let Some(made) = self.made.get_mut(number as usize) {
                     *made = true;
@@ -617,7 +512,7 @@ impl Pair {
         }
     }
 
-    /// Does the step on both sides, and gives the reply, where it is as it has to be. The engine gets a copy.
+    /// Has the engine do the step, and gives its reply, where it is as it has to be. The engine gets a copy.
     pub fn step(&mut self, alloc: Global, step: &Step) -> Result<Reply, Difference> {
         let before = self.before(step);
         let chains = self.chains(alloc, step)?;
@@ -626,22 +521,19 @@ impl Pair {
         };
         let reply = self.engine.step(copy);
         if let (true, Some(s)) = (makes_fail(&reply), writer_of(step)) {
-            // The engine's session has failed, and reads on. That of the plain program has not yet.
+            // The engine's session has failed, and reads on. In the judge's history it has not yet.
             self.compare_views(&[s])?;
         }
-        let Some(expected) = self.expect(alloc, step, before, &reply) else {
-            return Err(Difference::Reply(reply, None));
-        };
-        if !same_reply(&reply, &expected) {
-            return Err(Difference::Reply(reply, Some(expected)));
-        }
+        let reply = self.judge(step, before, reply)?;
         let ids = self.engine.ids();
         let expected_ids = self.expected_ids(step, before, &reply);
+        if !tells_oldest(&reply, expected_ids.1) {
+            return Err(Difference::Oldest(reply, expected_ids.1));
+        }
         if ids != expected_ids {
             return Err(Difference::Ids(ids, expected_ids));
         }
         self.count_cuts(chains);
-        self.note_cursor(alloc, step, &reply);
         self.note_snapshot(step, &reply);
         self.note_vacuum(step, &reply);
         self.note_making(step, before, &reply)?;
@@ -668,7 +560,7 @@ impl Pair {
     pub fn compare_bare(&self, s: u8) -> Result<(), Difference> {
         let mut rows: u64 = 0;
         for key in self.keys {
-            if let Ok(Some(_)) = self.plain.read(s, *key) {
+            if let Ok(Some(_)) = self.judge.history().read(s, *key) {
                 rows = rows.saturating_add(1);
             }
         }
@@ -683,15 +575,29 @@ impl Pair {
         Ok(())
     }
 
-    // What the session reads of the key on both sides.
+    fn has_failed(&self, s: u8) -> bool {
+        matches!(self.judge.history().check_ready(s), Err(Refusal::Failed))
+    }
+
+    // Whether the history allows that a get of the session is answered so.
+    fn allows_read(&self, s: u8, key: u64, reply: &Reply) -> bool {
+        self.judge.allows(&Step::Get(s, key), reply)
+    }
+
+    // What the engine's session reads of the key.
     fn reading(&self, s: u8, key: u64) -> Reading {
-        let read = self.engine.read(s, key);
-        let expected = self.plain.read(s, key);
-        match (&read, &expected) {
-            (Ok(row), Ok(expected)) => reading_of(row, expected),
-            (Ok(_), Err(Refusal::Failed)) => Reading::Refused,
-            (Err(refusal), Err(why)) if *why == *refusal => Reading::Refused,
-            _ => Reading::Differing,
+        match self.engine.read(s, key) {
+            Ok(_) if self.has_failed(s) => Reading::Refused,
+            Ok(row) => {
+                let reading = reading_of(&row);
+                if self.allows_read(s, key, &Reply::Found(row)) {
+                    reading
+                } else {
+                    Reading::Broken
+                }
+            }
+            Err(why) if self.allows_read(s, key, &Reply::Refused(why)) => Reading::Refused,
+            Err(_) => Reading::Broken,
         }
     }
 
@@ -701,7 +607,7 @@ impl Pair {
         let mut rows: u64 = 0;
         for key in self.keys {
             match self.reading(s, *key) {
-                Reading::Differing => return Err(Difference::View(s, *key)),
+                Reading::Broken => return Err(Difference::View(s, *key)),
                 Reading::Refused => is_read = false,
                 Reading::NoRow => {}
                 Reading::Row => rows = rows.saturating_add(1),

@@ -1,7 +1,7 @@
 //! The vacuum that runs, of which the history knows nothing.
 
 use crate::levels::earlier;
-use session_core::{Mode, Refusal, Reply, Step};
+use session_core::Mode;
 use xid_circle::{Xid, precedes};
 
 /// A vacuum that is running.
@@ -50,31 +50,5 @@ impl RunningVacuum {
             Some(cutoff) => cutoff,
             None => first,
         }
-    }
-}
-
-// What has to be replied to the next step of a vacuum, where the engine has replied this: which work comes next, and when there is none
-// left, is the vacuum's own.
-fn expected_of_step(vacuum: RunningVacuum, first: Xid, reply: &Reply) -> Reply {
-    match reply {
-        Reply::Worked(piece) => Reply::Worked(*piece),
-        _ => Reply::Ended(vacuum.first_after(first).0),
-    }
-}
-
-/// What has to be replied to a vacuum's step, where the engine has replied this: with the vacuum that runs, if one does, and the oldest
-/// id that is remembered. Nothing to any other step.
-pub(crate) fn expected_of_vacuum(
-    running: Option<RunningVacuum>,
-    first: Xid,
-    step: &Step,
-    reply: &Reply,
-) -> Option<Reply> {
-    match (step, running) {
-        (Step::VacuumBegin(_), None) | (Step::VacuumCancel, Some(_)) => Some(Reply::Done),
-        (Step::VacuumBegin(_), Some(_)) => Some(Reply::Refused(Refusal::VacuumRunning)),
-        (Step::VacuumStep, Some(vacuum)) => Some(expected_of_step(vacuum, first, reply)),
-        (Step::VacuumStep | Step::VacuumCancel, None) => Some(Reply::Refused(Refusal::NoVacuum)),
-        _ => None,
     }
 }

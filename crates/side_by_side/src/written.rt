@@ -1,10 +1,9 @@
-//! The rows of writes, as the plain program takes them and as they stand on pages.
+//! Writes, and their rows as they stand on pages.
 
 ghost use Rattle.std.specs.Prelude.{◌≡◌, ◌<◌, ◌≤◌, ◌+◌, ◌↔◌, IsTrue, length};
 ghost use Rattle.std.specs.Int.{next_multiple_of};
 
-use arrayvec::ArrayVec;
-use session_core::{Row, RowIn, Step};
+use session_core::{RowIn, Step};
 use tuple_header::MOST_BODY;
 
 /// The session that would write, if the step is a write.
@@ -20,17 +19,6 @@ pub(crate) fn row_to_write(step: &Step) -> Option<&RowIn> {
     match step {
         Step::Insert(_, row) | Step::Update(_, row) => Some(row),
         _ => None,
-    }
-}
-
-/// The row of the table. A body of more than 1024 bytes is left out.
-pub(crate) fn table_row(row: &RowIn) -> Row {
-    let mut body = ArrayVec::new();
-    let _ = body.try_extend_from_slice(row.body.as_slice());
-    Row {
-        key: row.key,
-        cols: row.cols,
-        body,
     }
 }
 

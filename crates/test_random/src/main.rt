@@ -1,9 +1,9 @@
-//! Runs the engine beside the plain program of the history on random steps, and compares every reply.
+//! Runs the engine on random steps, and has a judge of the history judge every reply.
 //!
-//! That the history allows each reply of the engine is proved (`session_core`). This program asks the compiled engine and
-//! the plain program, whose contracts are the definitions of the history, the same, and compares what they answer. What the
-//! history leaves to an engine is compared with the engine's pages and ids. At the first difference it says where it is and
-//! ends with status 1, as it does where a kind of reply never came.
+//! That the history allows each reply of the engine is proved (`session_core`), and that the judge allows exactly such replies
+//! (`judge`). This program tries the compiled engine. What the history leaves to an engine is compared with the engine's pages and
+//! ids. At the first reply that is not as it has to be it says where that is and ends with status 1, as it does where a kind of
+//! reply never came.
 #![tactic(auto)]
 
 mod bodies;

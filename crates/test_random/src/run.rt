@@ -32,7 +32,7 @@ const MOST_VACUUM_STEPS: u32 = 20_000;
 // The ids end in the runs of the second: the next one after them is 3.
 const FIRST_IDS: [u32; 4] = [3, 4_294_967_290, 2_147_483_640, 1000];
 
-/// Where a run ended early: how many steps were done, the step after these, and what differed.
+/// Where a run ended early: how many steps were done, the step after these, and what is not as it has to be.
 #[derive(Debug, Drop)]
 pub(crate) struct Failure {
     pub(crate) done: u64,
@@ -218,7 +218,7 @@ impl Run {
         }
     }
 
-    // Does the step, compares its reply and counts it.
+    // Does the step, has its reply judged and counts it.
     fn do_step(&mut self, alloc: Global, counts: &mut Counts, step: Step) -> Result<(), Failure> {
         let slots = self.pair.slots();
         match self.pair.step(alloc, &step) {
@@ -229,7 +229,7 @@ impl Run {
         Ok(())
     }
 
-    // Compares what all sessions read, and looks at the maps and the indexes.
+    // Has judged what all sessions read, and looks at the maps and the indexes.
     fn compare(&mut self, sessions: &[u8]) -> Result<(), Failure> {
         if let Err(difference) = self.pair.compare_views(sessions) {
             return Err(self.failure(None, difference));
@@ -400,7 +400,7 @@ impl Run {
     }
 }
 
-/// Does the steps of the run, and compares each reply. At its end the table is vacuumed while no session is open.
+/// Does the steps of the run, and has each reply judged. At its end the table is vacuumed while no session is open.
 pub(crate) fn do_run(
     alloc: Global,
     bodies: &Bodies,

@@ -1,0 +1,5 @@
+pub mod Due
+pub mod Allowing
+pub mod After
+pub mod Rows
+pub mod RunsLemmas

@@ -1,0 +1,6 @@
+use Rattle.plain_history.specs.Plain.{world_of}
+use Rattle.judge.proofs.Due.{close_refused}
+use Rattle.judge.proofs.expect.of_close.Goals as goal
+
+pub returns-in-Err : goal.returns-in-Err
+returns-in-Err c = close_refused (world_of c.args.plain.now) c.args.s c.in-Err.why c.in-Err.ensures.err

@@ -1,0 +1,9 @@
+use Rattle.plain_history.specs.Plain.{world_of}
+use Rattle.judge.proofs.Due.{rollback_to_refused, rollback_to_taken}
+use Rattle.judge.proofs.expect.of_rollback_to.Goals as goal
+
+pub returns-in-Ok : goal.returns-in-Ok
+returns-in-Ok c = rollback_to_taken (world_of c.args.plain.now) c.args.s c.in-Ok.ensures.ok
+
+pub returns-in-Err : goal.returns-in-Err
+returns-in-Err c = rollback_to_refused (world_of c.args.plain.now) c.args.s c.in-Err.why c.in-Err.ensures.err

@@ -1,0 +1,28 @@
+//! The answers to many steps.
+
+ghost use Rattle.std.specs.Prelude.{◌≡◌, ◌+◌, ◌<◌, IfOk, length, take};
+ghost use Rattle.refinement.specs.Allowed.{IsRun};
+ghost use Rattle.plain_history.specs.Plain.{world_of};
+ghost use Rattle.judge.specs.Runs.{HasJudged};
+
+use crate::judge::{Judge, NoMemory, Ruling};
+use calls::{Reply, Step};
+
+/// Judges the answers to the steps, one after another, up to the first that is not allowed. How many were.
+pub fn judge_all(judge: &mut Judge, steps: &[Step], replies: &[Reply]) -> Result<usize, NoMemory>
+    requires { length steps.now ≡ length replies.now }
+    ensures run { IfOk result
+        (λ n. HasJudged (world_of judge.old) steps.now replies.now n (world_of judge.new)) }
+    ensures first { IfOk result
+        (λ n. n < length steps.now
+        → ¬ IsRun (world_of judge.old) (take (n + 1) steps.now) (take (n + 1) replies.now)) }
+{
+    for i in 0..steps.len() {
+        match judge.judge(&steps[i], &replies[i]) {
+            Ok(Ruling::Allowed) => {}
+            Ok(Ruling::Broken) => return Ok(i),
+            Err(NoMemory) => return Err(NoMemory),
+        }
+    }
+    Ok(steps.len())
+}
