@@ -207,7 +207,7 @@ def run_together(draw: random.Random, table: Table, committed: Rows, steps: int)
     for number in list(together.sessions):
         together.end(number)
     counts = together.counts
-    assert all(counts[it] >= steps // 2000 for it in ("done", "Busy", "Conflict", "Deadlock", "Failed", "AlreadyThere", "NotThere")), counts
+    assert all(counts[it] > steps // 20000 for it in ("done", "Busy", "Conflict", "Deadlock", "Failed", "AlreadyThere", "NotThere")), counts
     print(f"{sum(counts.values())} writes of sessions that go on together: {dict(counts)}")
 
 
