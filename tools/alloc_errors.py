@@ -10,8 +10,8 @@ refuses
   by `?` or by `Err(error) => return Err(error)`;
 - the NoMemory of an enum as an expression, or the RefusedGrowth of `script_text`, unless it answers a call that failed: in the arm
   of an `Err(..)`, in a `map_err(..)`, in a block behind `is_err()` or behind the `else` of a `let Ok(..)`, in an
-  `impl From<AllocError>`, or as one NoMemory turned into another's. (`no_memory` of crates/script/src/io_log.rt makes one for its
-  callers, which call it where a call failed.)
+  `impl From<AllocError>`, as one NoMemory turned into another's, or in the pattern of a `matches!`. (`no_memory` of
+  crates/script/src/io_log.rt makes one for its callers, which call it where a call failed.)
 - `mem::forget`, `ManuallyDrop`, `leak` and `into_raw`, by which memory is never given back. (`Block` of
   crates/sandpiper_c/src/block.rt takes a box apart, and makes it again.)
 - a `reserve` or `try_reserve` of a fixed number over 99999, or of the largest of a type: no memory has so much, so it is refused.
@@ -45,6 +45,22 @@ def bare(text):
         line = re.sub(r"'\"'|\"(\\.|[^\"\\])*\"", '""', line)
         lines.append(re.sub(r"//.*", "", line))
     return lines
+
+
+def without_patterns(lines):
+    """The lines without what stands behind the comma of a `matches!`: a pattern makes no error."""
+    text, at = "\n".join(lines), 0
+    while (at := text.find("matches!(", at)) >= 0:
+        at += len("matches!(")
+        depth, end, comma = 1, at, None
+        while depth and end < len(text):
+            depth += {"(": 1, ")": -1}.get(text[end], 0)
+            if text[end] == "," and depth == 1 and comma is None:
+                comma = end
+            end += 1
+        if comma is not None:
+            text = text[:comma] + re.sub(r"[^\n]", " ", text[comma : end - 1]) + text[end - 1 :]
+    return text.split("\n")
 
 
 def with_heads(lines):
@@ -96,7 +112,7 @@ def main():
         if path.relative_to(top).parts[1].startswith("test_"):
             continue
         name = str(path.relative_to(top))
-        for number, line, heads in with_heads(bare(path.read_text(encoding="utf-8"))):
+        for number, line, heads in with_heads(without_patterns(bare(path.read_text(encoding="utf-8")))):
             if is_wrong(line, heads) or not GHOST.match(line) and is_kept(name, line, heads):
                 wrong.append(f"{name}:{number}: {line.strip()}")
     print("\n".join(wrong) if wrong else "no error of the allocator is made by hand, and no memory is kept for good")
