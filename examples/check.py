@@ -1,6 +1,7 @@
-"""Runs each script of this folder, and compares its answers with those on its page.
+"""Runs each script of this folder, and compares its answers with those on its page: by heapsh the scripts, by heapview those with looks.
 
     python3 examples/check.py HEAPSH
+    python3 examples/check.py HEAPVIEW
 
 A page has a table with a row for each line of its script, and for each further line of an answer. A row may stand for several lines,
 `and N times more: ..`, in which K counts as the row says.
@@ -43,9 +44,9 @@ def rows(page):
             yield "".join(quoted(line)), quoted(answer)
 
 
-def fault(heapsh, path):
+def fault(program, path):
     """What is wrong with a script's page, if anything is."""
-    page = path[: -len(".script")] + ".md"
+    page = os.path.splitext(path)[0] + ".md"
     if not os.path.exists(page):
         return "there is no page"
     told = list(rows(page))
@@ -54,7 +55,7 @@ def fault(heapsh, path):
     if [line for line, _ in told if line] != lines:
         return "the page's lines are not those of the script"
     with open(path, "rb") as script:
-        answers = subprocess.run([heapsh, "run"], stdin=script, stdout=subprocess.PIPE, check=True).stdout.decode().splitlines()
+        answers = subprocess.run([program, "run"], stdin=script, stdout=subprocess.PIPE, check=True).stdout.decode().splitlines()
     expected = [line for _, answer in told for line in answer]
     for number, (there, here) in enumerate(zip(answers, expected), 1):
         if there != here:
@@ -65,9 +66,10 @@ def fault(heapsh, path):
 
 
 def main():
-    heapsh = os.path.abspath(sys.argv[1])
-    scripts = sorted(glob.glob(os.path.join(os.path.dirname(os.path.abspath(__file__)), "*.script")))
-    faults = {path: wrong for path in scripts if (wrong := fault(heapsh, path))}
+    program = os.path.abspath(sys.argv[1])
+    kind = "*.view" if os.path.basename(program) == "heapview" else "*.script"
+    scripts = sorted(glob.glob(os.path.join(os.path.dirname(os.path.abspath(__file__)), kind)))
+    faults = {path: wrong for path in scripts if (wrong := fault(program, path))}
     for path, wrong in faults.items():
         print(f"{os.path.basename(path)}: {wrong}")
     print(f"{len(scripts) - len(faults)} pages agree with their scripts, {len(faults)} don't")

@@ -18,13 +18,15 @@
  * WAITS. After SANDPIPER_BUSY it is noted that the session waits for the other, until its own next step, whatever that answers, or until
  * the other is committed, aborted or returned to a savepoint. Where a wait would close a ring, the answer is SANDPIPER_DEADLOCK. A step
  * is a call that is handed the session's number, but not sandpiper_take_page, nor sandpiper_next with no capacity, nor _insert_many or
- * _update_many of no rows, nor a write of a body over 1024 bytes that answers SANDPIPER_NO_MEMORY.
+ * _update_many of no rows, nor a write of a body over 1024 bytes that answers SANDPIPER_NO_MEMORY, nor a look (sandpiper_next_entry and
+ * those after it).
  *
  * MEMORY comes from the program's malloc, realloc and free. Where that is refused, the call says SANDPIPER_NO_MEMORY and has changed
  * nothing; it may be repeated. (Of _insert_many and _update_many the rows before stay written; and where memory for the places of keys
  * is refused, fewer are noted, and the call goes on.) sandpiper_begin_read_committed, _get, _rollback_to, _release, _commit, _abort,
  * _prune, _close, _next, _close_cursor, _slot_at, _page_at, _page_bytes, _check_page, _state_of, _version, _keep_places, _vacuum_begin,
- * _vacuum_step, _vacuum_cancel and _close_ticket ask for none.
+ * _vacuum_step, _vacuum_cancel, _close_ticket and the looks ask for none. (The first _id_of asks for some, to keep what became of ids that
+ * are asked for often; where that is refused it answers all the same.)
  * Nor do _open_heap, _open_by_key, _open_index and _open_keys, unless the session reads by statement and more than 8 ids are in progress.
  *
  * STATUSES. Each call returns one of those below. From 16 on something was refused. Whatever the status is, also where nobody reads
@@ -38,9 +40,9 @@
 #include <stddef.h>
 #include <stdint.h>
 
-#define SANDPIPER_VERSION "0.3"
+#define SANDPIPER_VERSION "0.4"
 #define SANDPIPER_VERSION_MAJOR 0
-#define SANDPIPER_VERSION_MINOR 3
+#define SANDPIPER_VERSION_MINOR 4
 
 #ifdef __cplusplus
 extern "C" {
@@ -321,6 +323,175 @@ enum sandpiper_page_fault {
 /* Checks bytes from anywhere, and answers what is wrong first, no status. The slot that has it is written to `slot`, or 0. It needs no
  * table. */
 uint32_t sandpiper_check_page(const uint8_t *bytes, size_t length, uint32_t *slot);
+
+/* Looks: why a session sees a version, who holds the horizon back, what pruning would do. They are no steps: they change nothing, end no
+ * wait and disturb no vacuum. Where there is no table they answer NO_ENGINE, and where a session is asked for that is not open
+ * NO_SUCH_SESSION or NOT_OPEN. A session that has failed is told too. After all but FOUND the caller's places are as they were. */
+
+/* A place: a page, counted from 0, and a slot, counted from 1. */
+struct sandpiper_place {
+    uint32_t page;
+    uint16_t slot;
+};
+
+/* Where the next entry of a key leads, by the index by key: the first after the entry that leads to `place`, or the first of all where
+ * place->slot is 0. It is written to `place`: FOUND, or NO_ROW where there is none. Each leads to a chain of versions of one row. */
+uint32_t sandpiper_next_entry(struct sandpiper *table, uint64_t key, struct sandpiper_place *place);
+
+/* Why a session counts what an id did, or does not: the first of these that holds. OWN, BEFORE, UNLISTED, PARENT_BEFORE and PARENT_UNLISTED
+ * count. From BEFORE on the id has committed. */
+enum sandpiper_reason_kind {
+    SANDPIPER_NOBODY = 0,            /* nobody took the version away; or it is frozen, so that its making counts for everybody */
+    SANDPIPER_OWN = 1,               /* the id is the session's own, and was not rolled back */
+    SANDPIPER_FORGOTTEN = 2,         /* it is not remembered, or was never given */
+    SANDPIPER_RUNNING = 3,           /* it is in progress (sandpiper_id_of names its session) */
+    SANDPIPER_ABORTED = 4,           /* it was rolled back */
+    SANDPIPER_BEFORE = 5,            /* it is before `limit`, the snapshot's xmin */
+    SANDPIPER_NOT_BEFORE = 6,        /* it is not before `limit`, the snapshot's xmax: the next id when that was taken */
+    SANDPIPER_LISTED = 7,            /* it is between, and the snapshot lists it: it was in progress then */
+    SANDPIPER_UNLISTED = 8,          /* it is between, and not listed */
+    SANDPIPER_PARENT_BEFORE = 9,     /* the snapshot lists not all children, so the topmost parent was asked: `parent` is BEFORE */
+    SANDPIPER_PARENT_NOT_BEFORE = 10,
+    SANDPIPER_PARENT_LISTED = 11,
+    SANDPIPER_PARENT_UNLISTED = 12
+};
+
+/* Fields that do not apply are 0. */
+struct sandpiper_reason {
+    uint32_t id;     /* who made the version, or took it away */
+    uint32_t reason; /* an enum sandpiper_reason_kind */
+    uint32_t limit;  /* of BEFORE, NOT_BEFORE and the same of a parent: the id beside which it was held */
+    uint32_t parent; /* from PARENT_BEFORE on: the topmost parent */
+};
+
+/* A version, and why a session sees it, or does not. */
+struct sandpiper_shown {
+    uint16_t slot;
+    bool is_seen; /* its making counts, and no deletion does */
+    struct sandpiper_reason maker;
+    struct sandpiper_reason deleter;
+};
+
+/* The version at place `n`, counted from 0, of the chain to which an entry leads, and why a statement of the session, begun now, sees it, or
+ * does not: FOUND, or NO_ROW where the chain has no more. Of all that is shown of a key, entry by entry, one version is seen, with the row
+ * that sandpiper_get finds, or none where that finds none. By statement the snapshot is that at the next id. */
+uint32_t sandpiper_explain(struct sandpiper *table, uint8_t session, const struct sandpiper_place *entry, size_t n,
+                           struct sandpiper_shown *shown);
+
+/* The snapshot that a session keeps: that of its beginning; by statement that of its open cursor. Without one all is 0. */
+struct sandpiper_snapshot {
+    bool is_kept;
+    bool is_overflowed; /* the children of some transaction are not listed */
+    uint32_t xmin;      /* an id before this one is seen */
+    uint32_t xmax;      /* this id is not seen, nor one after it */
+    size_t listed;      /* so many between them are listed, and so not seen */
+};
+
+enum sandpiper_cursor_kind {
+    SANDPIPER_NO_CURSOR_OPEN = 0,
+    SANDPIPER_INDEX_CURSOR = 1,
+    SANDPIPER_HEAP_CURSOR = 2,
+    SANDPIPER_KEY_CURSOR = 3
+};
+
+/* An open session. */
+struct sandpiper_session {
+    bool is_by_statement;
+    bool has_failed;
+    bool is_waiting;
+    uint8_t waits_for; /* for which session it waits, if it does; else 0 */
+    uint32_t cursor;   /* an enum sandpiper_cursor_kind */
+    size_t savepoints;
+    size_t ids;        /* how many it has of its own */
+    struct sandpiper_snapshot snapshot;
+};
+
+uint32_t sandpiper_session_of(struct sandpiper *table, uint8_t session, struct sandpiper_session *shown);
+/* The id of this number, counted from 0: of a session's own in the order of giving, or of those that its snapshot lists. FOUND, or NO_ROW
+ * where there are no more. */
+uint32_t sandpiper_own_id(struct sandpiper *table, uint8_t session, size_t n, uint32_t *id);
+uint32_t sandpiper_listed_id(struct sandpiper *table, uint8_t session, size_t n, uint32_t *id);
+
+enum sandpiper_holder {
+    SANDPIPER_NEXT_ID = 0,     /* nobody holds it back: the horizon is the next id */
+    SANDPIPER_BY_SNAPSHOT = 1, /* the session does by its snapshot, whose xmin it is */
+    SANDPIPER_BY_ID = 2        /* the session does by its first id */
+};
+
+/* The horizon: what was deleted by an id before it may go. */
+struct sandpiper_horizon {
+    uint32_t id;
+    uint32_t holder;  /* an enum sandpiper_holder */
+    uint32_t session; /* the lowest that holds it back, else 0 */
+};
+
+uint32_t sandpiper_horizon_of(struct sandpiper *table, struct sandpiper_horizon *horizon);
+
+/* What became of an id. */
+enum sandpiper_id_status {
+    SANDPIPER_ID_UNKNOWN = 0, /* it was not given, or is forgotten */
+    SANDPIPER_ID_RUNNING = 1,
+    SANDPIPER_ID_COMMITTED = 2,
+    SANDPIPER_ID_ABORTED = 3
+};
+
+struct sandpiper_id {
+    uint32_t status;
+    bool is_owned;   /* whether an open session has it */
+    uint8_t session; /* which, else 0 */
+};
+
+uint32_t sandpiper_id_of(struct sandpiper *table, uint32_t id, struct sandpiper_id *shown);
+
+/* What pruning would do to a slot now, and why not more. */
+enum sandpiper_fate_kind {
+    SANDPIPER_NO_SLOT = 0,         /* the page has no such slot */
+    SANDPIPER_UNUSED_SLOT = 1,
+    SANDPIPER_DEAD_SLOT = 2,       /* it stays dead until a vacuum frees it */
+    SANDPIPER_REDIRECT_SLOT = 3,   /* it leads to `slot` */
+    SANDPIPER_GOES_ROLLED_BACK = 4, /* the version goes: its maker `id` was rolled back */
+    SANDPIPER_GOES_DELETED = 5,    /* it goes: its deleter `id` has committed, and is before the horizon */
+    SANDPIPER_GOES_WITH = 6,       /* it goes with a dead version that comes after it in its chain, the last of them in `slot` */
+    SANDPIPER_STAYS = 7,           /* it stays: nobody deleted it */
+    SANDPIPER_STAYS_DELETED = 8    /* it stays: its deleter `id` is `status`; if committed, not before the horizon */
+};
+
+/* Fields that do not apply are 0. */
+struct sandpiper_fate {
+    uint32_t kind;
+    uint32_t id;
+    uint32_t status; /* an enum sandpiper_id_status; an id that is not remembered counts as running */
+    uint32_t slot;
+};
+
+/* FOUND, or NO_SUCH_PAGE where the page is not in use. */
+uint32_t sandpiper_fate_of(struct sandpiper *table, uint32_t page, uint16_t slot, struct sandpiper_fate *fate);
+
+/* The plan that sandpiper_prune of a page would follow now, to be handed to sandpiper_apply_plan with *change. FOUND: its actions are in the
+ * first *count of `capacity` places. NO_PLACE: there are more than `capacity`, and none is written; for SANDPIPER_PAGE_ROWS there is always
+ * room. NO_SUCH_PAGE: the page is not in use; then *count and *change are 0, as after NO_ENGINE. */
+uint32_t sandpiper_plan_of(struct sandpiper *table, uint32_t page, struct sandpiper_action *actions, size_t capacity, size_t *count,
+                           uint64_t *change);
+
+enum sandpiper_phase {
+    SANDPIPER_VISITS_PAGES = 0,
+    SANDPIPER_GOES_THROUGH_INDEX = 1,
+    SANDPIPER_FREES_SLOTS = 2
+};
+
+/* The vacuum that is running. */
+struct sandpiper_vacuum {
+    uint32_t mode;    /* 1 if it is normal, 2 if it is aggressive */
+    uint32_t phase;   /* an enum sandpiper_phase: the work of its next step */
+    uint32_t index;   /* of SANDPIPER_GOES_THROUGH_INDEX which, else 0 */
+    uint32_t next;    /* the next page that it visits */
+    size_t collected; /* how many slots it has collected that are not freed yet */
+    uint32_t horizon; /* the horizon of its beginning */
+    uint32_t cutoff;  /* it freezes what an id before this one made */
+};
+
+/* FOUND, or NO_VACUUM where none runs. */
+uint32_t sandpiper_vacuum_of(struct sandpiper *table, struct sandpiper_vacuum *vacuum);
 
 /* A status in words: one sentence, which lasts as long as the program. */
 static inline const char *sandpiper_words(uint32_t status) {

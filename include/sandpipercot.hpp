@@ -227,6 +227,19 @@ public:
     void close() noexcept { sandpiper_close_ticket(&held); }
 };
 
+// An entry of a key: where it leads, what is in that slot, and the versions of the chain there, each with why a session sees it, or does not.
+struct ShownEntry {
+    sandpiper_place place;
+    sandpiper_fate leads_to;
+    std::vector<sandpiper_shown> versions;
+};
+
+// What a pruning of a page would do now.
+struct Plan {
+    std::uint64_t change;
+    std::vector<sandpiper_action> actions;
+};
+
 // A transaction. At the end of its scope it is aborted, unless it has ended before.
 class Session {
     std::shared_ptr<detail::Transaction> state;
@@ -248,6 +261,12 @@ class Session {
         sandpiper_row place;
         detail::put(row, place);
         return ask(call, static_cast<const sandpiper_row *>(&place));
+    }
+
+    template <typename Call> std::vector<std::uint32_t> all(Call call) const {
+        std::vector<std::uint32_t> ids;
+        for (std::uint32_t id; ask(call, ids.size(), &id) == Status::Found;) ids.push_back(id);
+        return ids;
     }
 
     template <typename Call, typename... Bounds> Cursor opened(std::size_t batch, bool keys, Call call, Bounds... bounds) {
@@ -320,6 +339,30 @@ public:
         return opened(batch, true, sandpiper_open_keys, low, high);
     }
 
+    // Why a statement of the session, begun now, reads the row of the key, or none: one version that is shown is seen, or none is.
+    std::vector<ShownEntry> explain(std::uint64_t key) const {
+        std::vector<ShownEntry> entries;
+        sandpiper *table = ready().table.get();
+        for (sandpiper_place place{}; told(sandpiper_next_entry(table, key, &place)) == Status::Found;) {
+            ShownEntry entry{place, {}, {}};
+            told(sandpiper_fate_of(table, place.page, place.slot, &entry.leads_to));
+            sandpiper_shown shown;
+            const sandpiper_place *at = &place;
+            while (ask(sandpiper_explain, at, entry.versions.size(), &shown) == Status::Found) entry.versions.push_back(shown);
+            entries.push_back(std::move(entry));
+        }
+        return entries;
+    }
+    // What the session is like now.
+    sandpiper_session info() const {
+        sandpiper_session it;
+        ask(sandpiper_session_of, &it);
+        return it;
+    }
+    // Its own ids, in the order of giving; and those that its snapshot lists.
+    std::vector<std::uint32_t> ids() const { return all(sandpiper_own_id); }
+    std::vector<std::uint32_t> listed_ids() const { return all(sandpiper_listed_id); }
+
     // A page, counted from 0, as it is now, with what the session sees of it now.
     Ticket take_page(std::uint32_t page) const {
         Ticket ticket;
@@ -379,6 +422,40 @@ public:
     }
     void create_index(unsigned column) { told(sandpiper_create_index(ready(), static_cast<std::uint8_t>(column > 255 ? 255 : column))); }
     void prune(std::uint32_t page) { told(sandpiper_prune(ready(), page)); }
+    // The horizon, and who holds it back.
+    sandpiper_horizon horizon() const {
+        sandpiper_horizon it;
+        told(sandpiper_horizon_of(ready(), &it));
+        return it;
+    }
+    // What pruning would do now to a slot, counted from 1, of a page, counted from 0.
+    sandpiper_fate fate(std::uint32_t page, std::uint16_t slot) const {
+        sandpiper_fate it;
+        told(sandpiper_fate_of(ready(), page, slot, &it));
+        return it;
+    }
+    Plan plan(std::uint32_t page) const {
+        Plan it{0, std::vector<sandpiper_action>(SANDPIPER_PAGE_ROWS)};
+        std::size_t count = 0;
+        told(sandpiper_plan_of(ready(), page, it.actions.data(), it.actions.size(), &count, &it.change));
+        it.actions.resize(count);
+        return it;
+    }
+    void apply(std::uint32_t page, const Plan &plan) {
+        told(sandpiper_apply_plan(ready(), page, plan.change, plan.actions.data(), plan.actions.size()));
+    }
+    // What became of an id, and whose it is.
+    sandpiper_id status_of(std::uint32_t id) const {
+        sandpiper_id it;
+        told(sandpiper_id_of(ready(), id, &it));
+        return it;
+    }
+    // The vacuum that is running, if one is.
+    std::optional<sandpiper_vacuum> vacuum_state() const {
+        sandpiper_vacuum it;
+        const std::uint32_t status = sandpiper_vacuum_of(ready(), &it);
+        return status == SANDPIPER_NO_VACUUM ? std::nullopt : std::optional<sandpiper_vacuum>((told(status), it));
+    }
     // A whole vacuum, and the oldest id that is remembered after it.
     std::uint32_t vacuum(bool aggressive = false) {
         sandpiper_piece piece{};

@@ -2,7 +2,7 @@
 """Says which crates a change proves again, and what that costs: tools/affected.py CRATE [CRATE ..]
 
 Run at the top of the repository. A change of a crate is proved, tested and tried again in that crate and in every crate above it: those
-that name it in crates.txt, or name one that does. The minutes are those of the table in docs/gate.md, of one processor. Where a cell
+that name it in crates.txt, or name one that does. The minutes are those of the table in bench/gate.md, of one processor. Where a cell
 there is empty the crate was not measured, or has no tests or edits; such a cell counts as nothing, and is shown as a dot.
 """
 import re
@@ -36,9 +36,9 @@ def above(uses, changed):
 
 
 def minutes():
-    """What docs/gate.md says of each crate: minutes by kind, none where a cell is empty."""
+    """What bench/gate.md says of each crate: minutes by kind, none where a cell is empty."""
     found = {}
-    with open("docs/gate.md", encoding="utf-8") as file:
+    with open("bench/gate.md", encoding="utf-8") as file:
         for line in file:
             cells = [cell.strip() for cell in line.strip().strip("|").split("|")]
             name = re.fullmatch(r"`(\w+)`", cells[0])
@@ -64,7 +64,7 @@ def main():
         sums = [total + (cell or 0) for total, cell in zip(sums, row)]
         print(f"{name:{width}}  " + " ".join(f"{'.' if cell is None else format(cell, '.1f'):>6}" for cell in row))
     print(f"{'all':{width}}  " + " ".join(f"{total:6.1f}" for total in sums))
-    print(f"\n{len(found)} of {len(uses)} crates, {sum(sums):.0f} processor minutes by the table of docs/gate.md")
+    print(f"\n{len(found)} of {len(uses)} crates, {sum(sums):.0f} processor minutes by the table of bench/gate.md")
 
 
 if __name__ == "__main__":

@@ -8,12 +8,15 @@ refuses
 
 - `AllocError` as an expression, as in `Err(AllocError)`, `=> AllocError` or `return AllocError`: pass on what the call answered,
   by `?` or by `Err(error) => return Err(error)`;
-- the NoMemory of an enum as an expression, or the RefusedGrowth of `script_text`, unless it answers a call that failed: in the arm
+- the NoMemory of an enum as an expression, that of `judge`, the OutOfMemory of `reply_text`, or the RefusedGrowth of
+  `script_text`, unless it answers a call that failed: in the arm
   of an `Err(..)`, in a `map_err(..)`, in a block behind `is_err()` or behind the `else` of a `let Ok(..)`, in an
   `impl From<AllocError>`, as one NoMemory turned into another's, or in the pattern of a `matches!`. (`no_memory` of
-  crates/script/src/io_log.rt makes one for its callers, which call it where a call failed.)
+  crates/script/src/io_log.rt makes one for its callers, which call it where a call failed. That of crates/judge/src/due.rt names it as
+  what some engine may answer.)
+  `reply_text` reads the word NoMemory in a reply, and makes no error of it.
 - `mem::forget`, `ManuallyDrop`, `leak` and `into_raw`, by which memory is never given back. (`Block` of
-  crates/sandpiper_c/src/block.rt takes a box apart, and makes it again.)
+  crates/c_handles/src/block.rt takes a box apart, and makes it again.)
 - a `reserve` or `try_reserve` of a fixed number over 99999, or of the largest of a type: no memory has so much, so it is refused.
   (`ask_for_too_much` of crates/root_index/src/index.rt does that where more entries than a u64 can count are asked for.)
 
@@ -28,11 +31,13 @@ import sys
 GHOST = re.compile(r"\s*(ghost|requires|ensures)\b")
 BY_HAND = re.compile(r"(\(|=>|=|\breturn|\{|^)\s*(\w+::)*AllocError\s*(\(\s*\))?\s*(\)|,|;|\}|$)")
 VALUE = re.compile(
-    r"\b[A-Z]\w*::NoMemory\b(?!\s*\)*\s*(=>|\|))|\bREFUSED\b(?!:)|(?<!struct )(?<!: RefusedGrowth = )\bRefusedGrowth \{"
+    r"\b[A-Z]\w*::NoMemory\b(?!\s*\)*\s*(=>|\|))|\bErr\((NoMemory|OutOfMemory)\)(?!\s*\)*\s*(=>|\|))"
+    r"|\bREFUSED\b(?!:)|(?<!struct )(?<!: RefusedGrowth = )\bRefusedGrowth \{"
 )
 FAILED = re.compile(r"\bErr\((_|\w+|[\w:]+::NoMemory)\)(\s+if\b[^>]*)?\s*=>|\bNoMemory\b\)*\s*=>|map_err\(|\.is_err\(\)|\blet\s+.*\bOk\(.*\belse\b")
 KEPT = re.compile(r"\bmem::(\{[^}]*\b)?forget\b|\bManuallyDrop\b|\bleak\(|\binto_raw\(")
-KEEPS = "crates/sandpiper_c/src/block.rt"
+KEEPS = "crates/c_handles/src/block.rt"
+READS = ("crates/reply_text/src/refusals.rt", "Some(Refusal::NoMemory)")
 TOO_MUCH = re.compile(r"reserve\w*\([^;]*(\b\w+::MAX\b|\b[\d_]{6,}\b|<<)")
 ASKS_TOO_MUCH = re.compile(r"\bfn ask_for_too_much\b")
 MAKES = re.compile(r"\bimpl\b.*\bFrom<AllocError>|\bfn no_memory\b")
@@ -113,7 +118,7 @@ def main():
             continue
         name = str(path.relative_to(top))
         for number, line, heads in with_heads(without_patterns(bare(path.read_text(encoding="utf-8")))):
-            if is_wrong(line, heads) or not GHOST.match(line) and is_kept(name, line, heads):
+            if (name, line.strip()) != READS and is_wrong(line, heads) or not GHOST.match(line) and is_kept(name, line, heads):
                 wrong.append(f"{name}:{number}: {line.strip()}")
     print("\n".join(wrong) if wrong else "no error of the allocator is made by hand, and no memory is kept for good")
     return 1 if wrong else 0

@@ -4,6 +4,7 @@
     edits.py [NAME ..]      those of the crates (of these alone, if some are named) whose line in tests/edits.lock is old or missing
     edits.py --all [NAME ..]    those of all, whatever the lock says
     edits.py --check        tries none, and says which lines are old; exits 1 if any is
+    edits.py --compile [NAME ..]    tries none, and says which are no code, those of audit/ too (tools/read_edits.py)
     edits.py --gate         as the gate has it: the edits of each crate whose line is old, and ten of the others, drawn by the commit.
                             It leaves the lock as it is
 
@@ -33,6 +34,7 @@ from concurrent.futures import ThreadPoolExecutor, as_completed
 from typing import Dict, List, Optional
 
 import audit
+import read_edits
 from over_gate import PROVER, ROOT, below, is_made, used, words_for
 
 LOCK = f"{ROOT}/tests/edits.lock"
@@ -188,9 +190,12 @@ def main() -> None:
     way = parser.add_mutually_exclusive_group()
     way.add_argument("--all", action="store_true", help="try the edits of crates whose line is fresh too")
     way.add_argument("--check", action="store_true", help="say which lines are old, and try none")
+    way.add_argument("--compile", action="store_true", help="say which edits are no code, and try none")
     way.add_argument("--gate", action="store_true", help="try those of old lines and a few others, and leave the lock")
     parser.add_argument("names", nargs="*", help="crates; all that have edits, if none is named")
     words = parser.parse_args()
+    if words.compile:
+        sys.exit(1 if read_edits.read_all(words.names) else 0)
 
     uses, of_logic = used(), logic()
     crates = [crate for crate in uses if audit.edits_of(f"{ROOT}/crates/{crate}", "by-function")]

@@ -2,7 +2,7 @@
 """Says what a run of the gate costs: tools/gate_times.py [--notes FILE] [COMMAND ..]
 
 Runs the command (`tools/test.sh` if none is given) at the top of the repository, looks at the processor time of each of the prover's
-processes twice a second, and prints the table of docs/gate.md: of each crate the processor minutes of its proof (with its build), of its
+processes twice a second, and prints the table of bench/gate.md: of each crate the processor minutes of its proof (with its build), of its
 tests and of its edits, and how many edits it has. Then come the longest chain of crates, each of which waits for the one before, and what
 the whole run took by its own count. With --notes the minutes are added to those of the file, so that a table can be made of two runs: of
 the gate, and of `tools/edits.py --all`.

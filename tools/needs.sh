@@ -19,7 +19,7 @@ needs() {
 # not_tried NAME: says which of the callers' tests are left out, since what they need is missing.
 not_tried() {
     local by=$1 missing=() tool
-    for tool in "$cplusplus" rustc cargo pkg-config valgrind; do
+    for tool in "$cplusplus" rustc cargo pkg-config valgrind mypy; do
         command -v "$tool" >/dev/null || missing+=("$tool")
     done
     [ ${#missing[@]} -eq 0 ] || echo "$by: not tried, since it is missing here: ${missing[*]}"

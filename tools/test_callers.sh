@@ -38,6 +38,7 @@ in_c state ""
 in_c loops ""
 in_c statuses "$wrap"
 in_c waits "$wrap"
+in_c looks ""
 in_c misuse "" 20000
 in_c memory "$wrap"
 in_c making "$wrap" 300
@@ -111,6 +112,10 @@ if command -v rustc >/dev/null; then
     example "the example in Rust" "$work/example_rs"
 fi
 
+if command -v mypy >/dev/null; then
+    say "the types of the Python module"
+    mypy --strict --cache-dir=/dev/null "$root/python/sandpipercot"
+fi
 say "the Python module"
 CC=$compiler python3 "$tests/test_constants.py" "$prefix/include" "$work/statuses.out"
 python3 "$tests/test_table.py"
@@ -118,6 +123,7 @@ python3 "$tests/test_misuse.py"
 python3 "$root/tests/pages/test_pages.py"
 python3 "$tests/test_random.py"
 python3 "$tests/test_plans.py"
+python3 "$tests/test_looks.py"
 example "the example in Python" python3 "$root/examples/python/first_committer_wins.py"
 python3 "$tests/test_documents.py" "$prefix"
 

@@ -1,7 +1,8 @@
 #!/usr/bin/env python3
-"""Makes a program heapsh that nothing has proved, from the sources as they stand: tools/unproved_shell.py TO [--soon]
+"""Makes a program that nothing has proved, from the sources as they stand: tools/unproved_shell.py TO [--soon]
 
-It stays, so each script that it runs takes no time. With --soon it is compiled in half the time, and is slower. How: tools/unproved.py.
+It is the crate that TO is named like, as bin/heapsh. It stays, so each script that it runs takes no time. With --soon it is compiled in half
+the time, and is slower. How: tools/unproved.py.
 """
 import os
 import subprocess
@@ -14,17 +15,20 @@ import unproved
 def main() -> None:
     if len(sys.argv) < 2 or sys.argv[2:] not in ([], ["--soon"]):
         sys.exit("usage: tools/unproved_shell.py TO [--soon]")
+    program = os.path.basename(sys.argv[1])
+    if not os.path.exists(f"{unproved.ROOT}/crates/{program}/src/main.rt"):
+        sys.exit(f"unproved_shell.py: there is no program {program}")
     with tempfile.TemporaryDirectory() as work:
         unproved.copied(f"{work}/copy")
-        module = unproved.without_checks(unproved.module_of(f"{work}/copy/crates/heapsh", work))
+        module = unproved.without_checks(unproved.module_of(f"{work}/copy/crates/{program}", work))
         objects = unproved.compiled(module, work, unproved.way_of(sys.argv[2:]))
         archives = [f"{unproved.KIT}/c/libos_c.a", f"{unproved.KIT}/c/liblibc_c.a"]
         link = [f"{unproved.KIT}/bin/rattle-link", "--target", "x86_64-unknown-linux-gnu", "--toolchain", f"{unproved.KIT}/toolchain"]
-        linked = subprocess.run([*link, "-o", f"{work}/heapsh", *objects, *archives], capture_output=True, text=True, check=False)
+        linked = subprocess.run([*link, "-o", f"{work}/{program}", *objects, *archives], capture_output=True, text=True, check=False)
         if linked.returncode != 0:
             sys.exit(f"unproved_shell.py: it does not link:\n{linked.stderr}")
         os.makedirs(os.path.dirname(os.path.abspath(sys.argv[1])), exist_ok=True)
-        subprocess.run(["install", "-m", "755", f"{work}/heapsh", sys.argv[1]], check=True)
+        subprocess.run(["install", "-m", "755", f"{work}/{program}", sys.argv[1]], check=True)
     print(f"unproved_shell.py: {sys.argv[1]} is a program that nothing has proved")
 
 

@@ -14,6 +14,27 @@ thread that opened it. The numbers are those of sandpipercot.h, which says more 
 from __future__ import annotations
 
 from ._c import BODY, PAGE_BYTES, PAGE_ROWS, SAVEPOINTS, SESSIONS, VERSION
+from .looks import (
+    Action,
+    ActionKind,
+    CursorKind,
+    Explanation,
+    Fate,
+    FateKind,
+    Holder,
+    Horizon,
+    IdStatus,
+    IdStatusKind,
+    Phase,
+    Plan,
+    Reason,
+    ReasonKind,
+    SessionState,
+    ShownEntry,
+    ShownVersion,
+    Snapshot,
+    VacuumState,
+)
 from .pages import FaultKind, PageFault, check_page
 from .rows import Row
 from .sessions import Cursor, KeyCursor, Savepoint, Session
@@ -57,7 +78,7 @@ from .statuses import (
     TooLarge,
     VacuumRunning,
 )
-from .table import Action, ActionKind, Kind, Page, Piece, PieceKind, Slot, State, Table, Vacuum
+from .table import Kind, Page, Piece, PieceKind, Slot, State, Table, Vacuum
 from .tickets import Ticket
 from .transactions import run
 
@@ -83,12 +104,20 @@ __all__ = [
     "Busy",
     "Conflict",
     "Cursor",
+    "CursorKind",
     "CursorOpen",
     "Deadlock",
+    "Explanation",
     "Failed",
+    "Fate",
+    "FateKind",
     "FaultKind",
     "HasEngine",
     "HasTicket",
+    "Holder",
+    "Horizon",
+    "IdStatus",
+    "IdStatusKind",
     "IndexBusy",
     "IndexTooNew",
     "KeyCursor",
@@ -109,14 +138,22 @@ __all__ = [
     "NotThere",
     "Page",
     "PageFault",
+    "Phase",
     "Piece",
     "PieceKind",
+    "Plan",
+    "Reason",
+    "ReasonKind",
     "Refused",
     "RolledBack",
     "Row",
     "Savepoint",
     "Session",
+    "SessionState",
+    "ShownEntry",
+    "ShownVersion",
     "Slot",
+    "Snapshot",
     "Stale",
     "State",
     "Status",
@@ -126,6 +163,7 @@ __all__ = [
     "TooLarge",
     "Vacuum",
     "VacuumRunning",
+    "VacuumState",
     "check_page",
     "run",
 ]

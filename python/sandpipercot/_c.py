@@ -13,7 +13,7 @@ SAVEPOINTS = 32  # that a session may have at a time
 BODY = 1024  # bytes of the longest body
 PAGE_ROWS = 291  # that a page may have
 
-VERSION = (0, 3)  # of this module, and of the library that it takes
+VERSION = (0, 4)  # of this module, and of the library that it takes
 
 
 class Handle(Structure):
@@ -68,6 +68,59 @@ class Page(Structure):
     _fields_ = [("change", c_uint64), ("bits", c_uint32), ("slots", c_uint32)]
 
 
+class Place(Structure):
+    _fields_ = [("page", c_uint32), ("slot", c_uint16)]
+
+
+class Reason(Structure):
+    _fields_ = [("id", c_uint32), ("reason", c_uint32), ("limit", c_uint32), ("parent", c_uint32)]
+
+
+class Shown(Structure):
+    _fields_ = [("slot", c_uint16), ("is_seen", c_bool), ("maker", Reason), ("deleter", Reason)]
+
+
+class Snapshot(Structure):
+    _fields_ = [("is_kept", c_bool), ("is_overflowed", c_bool), ("xmin", c_uint32), ("xmax", c_uint32), ("listed", c_size_t)]
+
+
+class Session(Structure):
+    _fields_ = [
+        ("is_by_statement", c_bool),
+        ("has_failed", c_bool),
+        ("is_waiting", c_bool),
+        ("waits_for", c_uint8),
+        ("cursor", c_uint32),
+        ("savepoints", c_size_t),
+        ("ids", c_size_t),
+        ("snapshot", Snapshot),
+    ]
+
+
+class Horizon(Structure):
+    _fields_ = [("id", c_uint32), ("holder", c_uint32), ("session", c_uint32)]
+
+
+class Id(Structure):
+    _fields_ = [("status", c_uint32), ("is_owned", c_bool), ("session", c_uint8)]
+
+
+class Fate(Structure):
+    _fields_ = [("kind", c_uint32), ("id", c_uint32), ("status", c_uint32), ("slot", c_uint32)]
+
+
+class Vacuum(Structure):
+    _fields_ = [
+        ("mode", c_uint32),
+        ("phase", c_uint32),
+        ("index", c_uint32),
+        ("next", c_uint32),
+        ("collected", c_size_t),
+        ("horizon", c_uint32),
+        ("cutoff", c_uint32),
+    ]
+
+
 # A pointer is passed as a number, which costs a third of a typed one. Each is to a struct above that its caller keeps.
 POINTER, SESSION = c_void_p, c_uint8
 ARGUMENTS: Dict[str, List[Any]] = {
@@ -107,6 +160,16 @@ ARGUMENTS: Dict[str, List[Any]] = {
     "slot_at": [POINTER, c_uint32, c_uint16, POINTER],
     "page_at": [POINTER, c_uint32, POINTER],
     "state_of": [POINTER, POINTER],
+    "next_entry": [POINTER, c_uint64, POINTER],
+    "explain": [POINTER, SESSION, POINTER, c_size_t, POINTER],
+    "session_of": [POINTER, SESSION, POINTER],
+    "own_id": [POINTER, SESSION, c_size_t, POINTER],
+    "listed_id": [POINTER, SESSION, c_size_t, POINTER],
+    "horizon_of": [POINTER, POINTER],
+    "id_of": [POINTER, c_uint32, POINTER],
+    "fate_of": [POINTER, c_uint32, c_uint16, POINTER],
+    "plan_of": [POINTER, c_uint32, POINTER, c_size_t, POINTER, POINTER],
+    "vacuum_of": [POINTER, POINTER],
     "version": [],
 }
 

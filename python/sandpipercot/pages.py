@@ -31,5 +31,5 @@ class PageFault(NamedTuple):
 def check_page(page: bytes) -> Optional[PageFault]:
     """What is wrong first with these bytes, as those of a page (docs/format.md), or None. It needs no table."""
     given, slot = bytes(text_of(page, "page")), ctypes.c_uint32()
-    kind = _c.CALLS["check_page"](ctypes.cast(given, ctypes.c_void_p).value or 0, len(given), ctypes.addressof(slot))
+    kind = _c.CALLS["check_page"](ctypes.cast(ctypes.c_char_p(given), ctypes.c_void_p).value or 0, len(given), ctypes.addressof(slot))
     return PageFault(FaultKind(kind), slot.value) if kind else None

@@ -5,7 +5,7 @@ import ctypes
 import functools
 import operator
 import struct
-from typing import Any, Callable, List, NamedTuple, Tuple
+from typing import Any, Callable, List, NamedTuple, Tuple, cast
 
 from . import _c
 
@@ -30,7 +30,7 @@ assert HEAD.size == BODY_AT and PLACE.size == KEY.size == SIZE
 MOST = range(_c.BODY + 1)
 
 # A row without the call of its class, which costs as much as all else of a row that is read.
-_row: Callable[[Tuple[Any, ...]], Row] = functools.partial(tuple.__new__, Row)
+_row = cast("Callable[[Tuple[Any, ...]], Row]", functools.partial(tuple.__new__, Row))
 
 
 def whole(value: object, name: str) -> int:

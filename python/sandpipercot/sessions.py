@@ -8,9 +8,10 @@ import warnings
 import weakref
 from threading import get_ident
 from types import TracebackType
-from typing import TYPE_CHECKING, Any, Iterable, Iterator, List, Optional, Type, TypeVar
+from typing import TYPE_CHECKING, Any, Iterable, Iterator, List, Optional, Tuple, Type, TypeVar
 
 from . import _c
+from .looks import Explanation, Looks, SessionState, Snapshot
 from .owned import Owned
 from .rows import Places, Row, fits, fits_signed, whole
 from .statuses import Failed, NoSuchIndex, NotOpen, NotThere, RolledBack, Status, refusal
@@ -242,6 +243,29 @@ class Session(Owned):
         """A cursor over the keys alone that `by_key` would hand out rows of, in ascending order: no page is read that is noted as
         all-visible. Refusals: CursorOpen, BadBounds."""
         return KeyCursor(self, batch, "open_keys", fits(low, 64, "low"), fits(high, 64, "high"))
+
+    def explain(self, key: int) -> Explanation:
+        """Why a statement of the session, begun now, reads the row of the key, or none: the key's entries, and each version of the chains to
+        which they lead, with who made it and who took it away. A session that has failed is told too."""
+        return self._looks().explain(self._number, fits(key, 64, "key"))
+
+    @property
+    def snapshot(self) -> Optional[Snapshot]:
+        """The snapshot that it keeps: that of its beginning; by `read_committed` that of its open cursor, or None."""
+        return self.state().snapshot
+
+    @property
+    def ids(self) -> Tuple[int, ...]:
+        """Its own ids, in the order of giving, without those that were rolled back."""
+        return self.state().ids
+
+    def state(self) -> SessionState:
+        """What the session is like now."""
+        return self._looks().state_of(self._number)
+
+    def _looks(self) -> Looks:
+        self._ready()
+        return Looks(self._table._call)
 
     def take_page(self, page: int) -> Ticket:
         """A page, counted from 0, as it is now, with what the session sees of it now: its rows can be read at any time. Refusals:

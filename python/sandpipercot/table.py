@@ -8,6 +8,7 @@ import threading
 from typing import Any, Dict, Iterable, Iterator, List, NamedTuple, Optional, Sequence, Tuple
 
 from . import _c
+from .looks import Action, Fate, Horizon, IdStatus, Looks, Plan, VacuumState
 from .owned import Owned
 from .rows import Places, fits
 from .sessions import Session
@@ -27,14 +28,6 @@ class Kind(enum.IntEnum):
     DEAD = 3
 
 
-class ActionKind(enum.IntEnum):
-    """What a plan does to a slot: it becomes unused or dead, or leads to another."""
-
-    UNUSE = 0
-    KILL = 1
-    LEAD = 2
-
-
 class PieceKind(enum.IntEnum):
     """A part of a vacuum's work."""
 
@@ -50,14 +43,6 @@ class Vacuum(enum.IntEnum):
     NONE = 0
     NORMAL = 1
     AGGRESSIVE = 2
-
-
-class Action(NamedTuple):
-    """What a plan does to a slot, counted from 1, and to which slot that is to lead, of kind LEAD."""
-
-    slot: int
-    kind: ActionKind
-    target: int = 0
 
 
 class Slot(NamedTuple):
@@ -294,7 +279,9 @@ class Table(Owned):
 
     def slots(self, page: int) -> Iterator[Slot]:
         """The slots of a page, counted from 0: slot 1, 2 and so on. Of a page that is not in use there are none."""
-        self._finds("page_at", fits(page, 32, "page"), ctypes.addressof(_c.Page()))
+        # (kept by its name while the library writes to it)
+        head = _c.Page()
+        self._finds("page_at", fits(page, 32, "page"), ctypes.addressof(head))
         return self._slots(page)
 
     def _slots(self, page: int) -> Iterator[Slot]:
@@ -308,6 +295,26 @@ class Table(Owned):
         place = (ctypes.c_uint8 * _c.PAGE_BYTES)()
         found = self._finds("page_bytes", fits(page, 32, "page"), ctypes.addressof(place), _c.PAGE_BYTES)
         return bytes(place) if found else None
+
+    def horizon(self) -> Horizon:
+        """The horizon, and the lowest session that holds it back: what an id before it deleted may go."""
+        return Looks(self._call).horizon()
+
+    def fate(self, page: int, slot: int) -> Fate:
+        """What pruning would do now to a slot, counted from 1, of a page, counted from 0, and why not more. Refusal: NoSuchPage."""
+        return Looks(self._call).fate(fits(page, 32, "page"), fits(slot, 16, "slot"))
+
+    def plan(self, page: int) -> Plan:
+        """What `prune` of a page would do now: a plan for `apply_plan`. Refusal: NoSuchPage."""
+        return Looks(self._call).plan(fits(page, 32, "page"))
+
+    def status_of(self, id: int) -> IdStatus:
+        """What became of an id, such as a slot names, and the open session that has it, if one has."""
+        return Looks(self._call).status_of(fits(id, 32, "id"))
+
+    def vacuum_state(self) -> VacuumState:
+        """The vacuum that is running. Refusal: NoVacuum."""
+        return Looks(self._call).vacuum()
 
     def close(self) -> None:
         """Aborts what is open, and gives the memory back. A table that is closed stays so."""

@@ -18,7 +18,9 @@
 #![warn(missing_docs)]
 
 mod ffi;
+mod looks;
 
+pub use looks::{Action, Fate, Hold, Horizon, IdStatus, Plan, Reason, ShownEntry, ShownVersion, Snapshot, Standing};
 use std::cell::UnsafeCell;
 use std::fmt;
 use std::marker::PhantomData;
@@ -32,7 +34,7 @@ pub const PAGE_ROWS: usize = 291;
 /// How many bytes the longest body has.
 pub const BODY: usize = 1024;
 /// The version of the library that this crate is for: its major number times 100, and its minor number.
-pub const VERSION: u32 = 3;
+pub const VERSION: u32 = 4;
 
 const FOUND: u32 = 1;
 const COMMITTED: u32 = 3;

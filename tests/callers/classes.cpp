@@ -210,7 +210,43 @@ static void check_outliving() {
     CHECK(full.begin().number() == 5);
 }
 
+// The case of tests/looks/cases/older_reader: key 1 was written by 3, 4 and 5, of which the reader sees the first alone.
+static void check_looks() {
+    Table table;
+    auto write = [&](std::int64_t value) { run(table, [&](Session &session) { session.put({1, {value, 0, 0, 0}, ""}); }); };
+    write(5);
+    std::optional<Session> reader = table.begin();
+    write(6), write(7);
+    const std::vector<ShownEntry> entries = reader->explain(1);
+    CHECK(entries.size() == 1 && entries[0].place.slot == 1 && entries[0].leads_to.kind == SANDPIPER_STAYS_DELETED);
+    const std::vector<sandpiper_shown> &versions = entries[0].versions;
+    CHECK(versions.size() == 3 && versions[0].is_seen && !versions[1].is_seen && !versions[2].is_seen);
+    CHECK(versions[0].maker.id == 3 && versions[0].maker.reason == SANDPIPER_BEFORE && versions[0].maker.limit == 4);
+    CHECK(versions[0].deleter.id == 4 && versions[0].deleter.reason == SANDPIPER_NOT_BEFORE && versions[2].deleter.id == 0);
+    CHECK(reader->explain(2).empty() && reader->ids().empty() && reader->listed_ids().empty());
+    const sandpiper_session info = reader->info();
+    CHECK(info.snapshot.is_kept && info.snapshot.xmin == 4 && info.snapshot.xmax == 4 && !info.has_failed && !info.is_waiting);
+    CHECK(table.horizon().id == 4 && table.horizon().holder == SANDPIPER_BY_SNAPSHOT && table.horizon().session == 0);
+    CHECK(table.fate(0, 3).kind == SANDPIPER_STAYS && table.fate(0, 9).kind == SANDPIPER_NO_SLOT && table.plan(0).actions.empty());
+    CHECK(refused_as([&] { table.fate(1, 1); }) == Status::NoSuchPage && refused_as([&] { table.plan(1); }) == Status::NoSuchPage);
+    Session writer = table.begin();
+    writer.insert({2, {}, ""});
+    CHECK(writer.ids() == std::vector<std::uint32_t>{6} && table.status_of(6).is_owned && table.status_of(6).session == 1);
+    CHECK(table.begin().listed_ids() == std::vector<std::uint32_t>{6});
+    writer.abort(), reader.reset();
+    const Plan plan = table.plan(0);
+    CHECK(plan.actions.size() == 3 && plan.actions[0].kind == SANDPIPER_LEAD && plan.actions[0].target == 3);
+    table.apply(0, plan);
+    CHECK(table.fate(0, 1).kind == SANDPIPER_REDIRECT_SLOT && refused_as([&] { table.apply(0, plan); }) == Status::Stale);
+    CHECK(!table.vacuum_state());
+    CHECK(sandpiper_vacuum_begin(table.c_handle(), true) == SANDPIPER_DONE && table.vacuum_state()->mode == 2);
+    CHECK(refused_as([&] { writer.explain(1); }) == Status::NotOpen);
+    table.close();
+    CHECK(refused_as([&] { table.horizon(); }) == Status::NoEngine && refused_as([&] { table.vacuum_state(); }) == Status::NoEngine);
+}
+
 int main() {
+    check_looks();
     check_rows();
     check_bank();
     check_ends();

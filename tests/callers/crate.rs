@@ -1,5 +1,5 @@
 //! The crate of rust/: a bank, scans and a retry.
-use sandpipercot::{Refused, Row, Session, Settings, Table, Ticket, SESSIONS};
+use sandpipercot::{Action, Fate, Hold, Horizon, IdStatus, Reason, Refused, Row, Session, Settings, ShownEntry, ShownVersion, Snapshot, Standing, Table, Ticket, SESSIONS};
 use std::time::Duration;
 
 const SOON: Duration = Duration::from_micros(1);
@@ -132,7 +132,47 @@ fn check_ends() -> Result<(), Refused> {
     Ok(())
 }
 
+/// The case of tests/looks/cases/older_reader: key 1 was written by 3, 4 and 5, of which the reader sees the first alone.
+fn check_looks() -> Result<(), Refused> {
+    let table = Table::open(&Settings::default())?;
+    let write = |value| table.run(1, SOON, |session| session.put(&row(1, value, b"")));
+    write(5)?;
+    let reader = table.begin()?;
+    write(6)?;
+    write(7)?;
+    let (before, after) = (Reason::Committed(Standing::Before(4)), Reason::Committed(Standing::NotBefore(4)));
+    let version = |slot, is_seen, maker, deleter| ShownVersion { slot, is_seen, maker, deleter };
+    let versions = vec![
+        version(1, true, Some((3, before)), Some((4, after))),
+        version(2, false, Some((4, after)), Some((5, after))),
+        version(3, false, Some((5, after)), None),
+    ];
+    let leads_to = Fate::KeptDeleted(4, IdStatus::Committed);
+    assert_eq!(reader.explain(1)?, [ShownEntry { page: 0, slot: 1, leads_to, versions }]);
+    assert!(before.counts() && !after.counts() && reader.explain(2)?.is_empty());
+    let snapshot = Snapshot { xmin: 4, xmax: 4, is_overflowed: false, listed: vec![] };
+    assert_eq!((reader.snapshot()?, reader.ids()?, reader.waits_for()?), (Some(snapshot), vec![], None));
+    assert_eq!(table.horizon()?, Horizon { id: 4, holder: Some((0, Hold::BySnapshot)) });
+    assert_eq!((table.fate(0, 3)?, table.fate(0, 9)?, table.fate(1, 1)), (Fate::Undeleted, Fate::NoSlot, Err(Refused::NoSuchPage)));
+    let mut writer = table.begin()?;
+    writer.insert(&row(2, 0, b""))?;
+    let mut waiting = table.begin()?;
+    assert_eq!(waiting.insert(&row(2, 0, b"")), Err(Refused::Busy(1)));
+    assert_eq!((waiting.waits_for()?, waiting.snapshot()?.expect("one").listed), (Some(1), vec![6]));
+    assert_eq!((writer.ids()?, table.status_of(6)?, table.status_of(3)?), (vec![6], (IdStatus::Running, Some(1)), (IdStatus::Committed, None)));
+    assert_eq!(waiting.insert(&row(1, 0, b"")), Err(Refused::AlreadyThere));
+    assert!(!waiting.has_failed()?);
+    drop((reader, writer, waiting));
+    let plan = table.plan(0)?;
+    assert_eq!(plan.actions, [Action::Lead(1, 3), Action::Unuse(2), Action::Kill(4)]);
+    table.apply(0, &plan)?;
+    assert_eq!((table.fate(0, 1)?, table.fate(0, 4)?, table.apply(0, &plan)), (Fate::Redirect(3), Fate::Dead, Err(Refused::Stale)));
+    assert_eq!(table.horizon()?.holder, None);
+    Ok(())
+}
+
 fn main() -> Result<(), Refused> {
+    check_looks()?;
     check_rows()?;
     check_bank()?;
     check_ends()?;

@@ -36,6 +36,15 @@ def check_layouts(folder: pathlib.Path) -> None:
         "sandpiper_state": _c.State,
         "sandpiper_page": _c.Page,
         "sandpiper_action": _c.Action,
+        "sandpiper_place": _c.Place,
+        "sandpiper_reason": _c.Reason,
+        "sandpiper_shown": _c.Shown,
+        "sandpiper_snapshot": _c.Snapshot,
+        "sandpiper_session": _c.Session,
+        "sandpiper_horizon": _c.Horizon,
+        "sandpiper_id": _c.Id,
+        "sandpiper_fate": _c.Fate,
+        "sandpiper_vacuum": _c.Vacuum,
     }
     lines, ours = ["#include <sandpipercot.h>", "#include <stddef.h>", "#include <stdio.h>", "int main(void) {"], []
     for name, struct in structs.items():
@@ -60,6 +69,12 @@ def main() -> None:
     assert {it.name: it.value for it in sp.Kind} == enumeration(header, "sandpiper_kind")
     assert {it.name: it.value for it in sp.PieceKind} == enumeration(header, "sandpiper_piece_kind")
     assert {it.name: it.value for it in sp.ActionKind} == enumeration(header, "sandpiper_action_kind")
+    for kind in (sp.CursorKind, sp.FateKind, sp.ReasonKind):
+        words = re.sub("(?<!^)(?=[A-Z])", "_", kind.__name__).lower()
+        assert {it.name: it.value for it in kind} == enumeration(header, f"sandpiper_{words}"), kind
+    assert {it.name: it.value for it in sp.IdStatusKind} == enumeration(header, "sandpiper_id_status")
+    for kind in (sp.Holder, sp.Phase):
+        assert {it.name: it.value for it in kind} == enumeration(header, f"sandpiper_{kind.__name__.lower()}"), kind
     faults = {"PAGE_SOUND": 0, **{"PAGE_" + it.name: it.value for it in sp.FaultKind}}
     assert faults == enumeration(header, "sandpiper_page_fault"), faults
     answered: Set[str] = set(pathlib.Path(sys.argv[2]).read_text().split())
@@ -80,9 +95,12 @@ def main() -> None:
     refusals = {it.status for it in sp.Refused.__subclasses__()}
     assert refusals == {it for it in sp.Status if it >= sp.Status.NOT_OPEN}
     assert set(re.findall(r"^uint32_t sandpiper_(\w+)\(", header, re.M)) == set(_c.ARGUMENTS)
+    # (a struct that nothing names is gone before the library writes to its place)
+    nameless = [path.name for path in pathlib.Path(sp.__file__).parent.glob("*.py") if re.search(r"addressof\(_c\.\w+\(", path.read_text())]
+    assert not nameless, f"the place of a struct that is gone: {nameless}"
     with tempfile.TemporaryDirectory() as folder:
         check_layouts(pathlib.Path(folder))
-    print(f"{len(statuses)} statuses, each answered by the library; 9 structs, {len(_c.ARGUMENTS)} calls: all as the header has them")
+    print(f"{len(statuses)} statuses, each answered by the library; 18 structs, {len(_c.ARGUMENTS)} calls: all as the header has them")
 
 
 if __name__ == "__main__":

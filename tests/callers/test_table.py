@@ -415,7 +415,7 @@ class TableTest(unittest.TestCase):
         self.table.close()
         self.assertEqual(repr(keys), "<sandpipercot.KeyCursor of session 7, closed>")
         self.assertEqual(repr(self.table), "<sandpipercot.Table, closed>")
-        self.assertEqual(sp.__version__, "0.3")
+        self.assertEqual(sp.__version__, "0.4")
 
     def test_an_error_names_its_argument(self) -> None:
         table = self.table

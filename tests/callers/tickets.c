@@ -1,18 +1,20 @@
 /* One thread reads pages by tickets while another writes: tickets [locked]. The writer moves 1 from a row to another in each transaction, so
  * that every view has the same sum. The reader takes a ticket of each page under the lock, and reads and closes them without it; with the
- * word locked it closes them under it, since a checker of races that looks for locks alone sees no order otherwise. At the end a view that
- * was taken first is read again, after all updates, a vacuum and the close of the table. */
+ * word locked it closes them under it, since a checker of races that looks for locks alone sees no order otherwise. Each view is of another
+ * state: the reader waits until the writer has moved something since, so the order of threads decides nothing. At the end a view that was
+ * taken first is read again, after all updates, a vacuum and the close of the table. */
 #include "checks.h"
 
 #include <pthread.h>
-#include <sched.h>
 #include <stdbool.h>
 
 enum { ROWS = 900, MOST_PAGES = 64, ROUNDS = 60, EACH = 5 };
 
 static struct sandpiper table;
 static pthread_mutex_t latch = PTHREAD_MUTEX_INITIALIZER;
-static bool is_closed_locked, is_read; /* is_read is under the lock */
+static pthread_cond_t has_moved = PTHREAD_COND_INITIALIZER;
+static uint64_t moves; /* under the lock, as is_read is */
+static bool is_closed_locked, is_read;
 
 struct view {
     uint32_t pages;
@@ -21,16 +23,13 @@ struct view {
 
 static void lock(void) { CHECK(pthread_mutex_lock(&latch) == 0); }
 
-/* Lets go, and lets another thread go first. */
-static void unlock(void) {
-    CHECK(pthread_mutex_unlock(&latch) == 0);
-    sched_yield();
-}
+static void unlock(void) { CHECK(pthread_mutex_unlock(&latch) == 0); }
 
-/* A ticket of each page, all at one state. */
-static void take(struct view *view) {
+/* A ticket of each page, all at one state, with so many moves at least before it. */
+static void take(struct view *view, uint64_t before) {
     struct sandpiper_state state;
     lock();
+    while (moves < before) CHECK(pthread_cond_wait(&has_moved, &latch) == 0);
     CHECK(sandpiper_begin(&table, 1) == SANDPIPER_DONE && sandpiper_state_of(&table, &state) == SANDPIPER_DONE);
     CHECK(state.pages <= MOST_PAGES);
     view->pages = state.pages;
@@ -66,7 +65,7 @@ static void close_all(struct view *view) {
 static void *read_views(void *rows) {
     static struct view view;
     for (int round = 0; round < ROUNDS; round++) {
-        take(&view);
+        take(&view, (round + 1) * EACH);
         check(&view, rows), check(&view, rows);
         close_all(&view);
     }
@@ -91,17 +90,16 @@ static void clean(void) {
     CHECK(status == SANDPIPER_ENDED);
 }
 
-/* Writes for as long as the other reads. Answers how many transactions there were. */
-static uint64_t write_on(struct sandpiper_row *row) {
-    uint64_t moves = 0;
+/* Writes for as long as the other reads. */
+static void write_on(struct sandpiper_row *row) {
     for (bool done = false; !done;) {
         lock();
         done = is_read;
         for (int i = 0; i < EACH; i++, moves++) move(moves * 37 % ROWS, (moves * 37 + 400) % ROWS, row);
         if (moves % (100 * EACH) == 0) clean();
+        CHECK(pthread_cond_signal(&has_moved) == 0);
         unlock();
     }
-    return moves;
 }
 
 /* Each of these is asked of a table whose page 0 session 1 may take. */
@@ -135,16 +133,15 @@ int main(int argc, char **argv) {
     for (uint64_t key = 0; key < ROWS; key++) CHECK(sandpiper_insert(&table, 0, set_row(row, key, 1, "ticket")) == SANDPIPER_DONE);
     CHECK(sandpiper_commit(&table, 0) == SANDPIPER_COMMITTED);
     check_refusals(rows);
-    take(&first);
+    take(&first, 0);
     CHECK(pthread_create(&reader, NULL, read_views, rows) == 0);
-    uint64_t moves = write_on(row);
+    write_on(row);
     CHECK(pthread_join(reader, NULL) == 0);
     clean();
     CHECK(sandpiper_close(&table) == SANDPIPER_DONE);
     check(&first, rows);
     close_all(&first);
-    /* (each view takes the lock twice, and the writer has it between) */
-    CHECK(moves >= ROUNDS && first.pages > 1);
+    CHECK(moves >= ROUNDS * EACH && first.pages > 1);
     printf("%d views of %u pages and more were read beside %s transactions\n", ROUNDS, (unsigned)first.pages, moves > 1000 ? "many" : "some");
     free(row), free(rows);
     return 0;

@@ -48,7 +48,7 @@ def places(rows):
     status = {name: number for name, (_, number, _) in rows.items()}
     yield "crates/script_text/src/answer.rt", r'b"(?P<number>\d+) (?P<name>[A-Z]\w+) ?"', script
     yield "crates/script_text/specs/Answers.antt", r'codes "(?P<number>\d+) (?P<name>[A-Z]\w+)"', script
-    code, logic = "crates/sandpiper_c/src/status.rt", "crates/sandpiper_c/specs/CallStatus.antt"
+    code, logic = "crates/c_handles/src/status.rt", "crates/c_handles/specs/CallStatus.antt"
     yield code, r"Refusal::(?P<name>\w+)(?:\(\w+\))? => (?P<number>\d+)", status
     yield logic, r"number_of_refusal \(?refusal\.(?P<name>\w+)(?: \w+\))? = (?P<number>\d+)", status
     other = pairs(code, r"CallStatus::(?P<name>\w+) => (?P<number>\d+)")

@@ -9,7 +9,7 @@ use Rattle.tuple_header.specs.Version.{Version}
 use Rattle.commit_status.specs.Window.{Window}
 use Rattle.snapshot.specs.Snap.{Snap}
 use Rattle.hot_chain.specs.Chain.{has_aborted, IsChain}
-use Rattle.index_nodes.specs.declared.entry.Entry.{Entry}
+use Rattle.index_entries.specs.declared.entry.Entry.{Entry}
 use Rattle.index_lookup.specs.Looking.{IsNextOf}
 use Rattle.visibility.specs.declared.reader.Reader.{Reader}
 use Rattle.reasons.specs.Reasons.{IsVerdictIn}

@@ -2,7 +2,7 @@
 
 ghost use Rattle.std.specs.Prelude.{◌≡◌, pos, IfSome, MatchOption};
 ghost use Rattle.std.specs.Option.{option_map};
-ghost use Rattle.index_nodes.specs.Sets.{IsOf};
+ghost use Rattle.index_entries.specs.Sets.{IsOf};
 ghost use Rattle.index_lookup.specs.Looking.{IsNextOf};
 ghost use Rattle.explanations.specs.Shown.{entry_to, IsNextPlace};
 

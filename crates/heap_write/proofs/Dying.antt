@@ -32,11 +32,10 @@ use Rattle.tuple_writes.proofs.Altered.{normal-added}
 use Rattle.hot_chain.proofs.Chains.{contains-any, any-contains}
 use Rattle.freeze.specs.Freezing.{Freezes}
 use Rattle.freeze.proofs.Frozen.{SameDeleter, IsFrozenFrom, was-version}
-use Rattle.heap_write.specs.Heap.{SameIds}
+use Rattle.write_ids.specs.Ids.{SameIds, GivesUnder}
 use Rattle.heap_write.specs.Cleaning.{FreesSlots}
-use Rattle.heap_write.specs.Writes.{GivesUnder}
-use Rattle.heap_write.proofs.IdLemmas.{same-status}
-use Rattle.heap_write.proofs.GivenIds.{given-first, given-longer, given-earlier, given-status}
+use Rattle.write_ids.proofs.IdLemmas.{same-status}
+use Rattle.write_ids.proofs.GivenIds.{given-first, given-longer, given-earlier, given-status}
 
 -- Nothing is dead while the horizon isn't after the turn.
 

@@ -20,10 +20,10 @@ use Rattle.space_maps.specs.Hints.{PageHint, nothing_known, hint_on, lowered, Ad
 use Rattle.heap_pages.specs.View.{PagesView}
 use Rattle.prune.specs.Deaths.{NothingDiesBefore}
 use Rattle.prune.specs.Glances.{AreDoubts}
-use Rattle.heap_write.specs.Heap.{HeapView, unused_page, SameIds, PutsPage}
+use Rattle.heap_write.specs.Heap.{HeapView, unused_page, PutsPage}
+use Rattle.write_ids.specs.Ids.{SameIds, TakesIds}
 use Rattle.heap_write.specs.Heap.PutsPage.{in_use, after_all}
 use Rattle.heap_write.specs.Growth.{page_in, SamePages, PutsVersion}
-use Rattle.heap_write.specs.Writes.{TakesIds}
 use Rattle.heap_write.specs.Steps.{HasNoneDead}
 use Rattle.heap_write.specs.Hints.{AreTrueHints, IsLowered, AreDoubtedBy, AreStillDoubts, ExpectsRoot, ExpectsWrite}
 use Rattle.heap_write.proofs.Dying.{AgesOn, dies-on, ages-given, ages-finished, ages-same, none-dead, dies-earlier, dies-root, dies-replaced, dies-updated}

@@ -8,11 +8,12 @@ use Rattle.page_slots.specs.Slots.{IsNormalAt}
 use Rattle.commit_status.specs.Window.{Window}
 use Rattle.visibility.specs.Visible.{IsDead}
 use Rattle.sound_page.specs.Dead.{HasDead}
-use Rattle.heap_write.specs.Heap.{HeapView, SameIds, Keeps}
+use Rattle.heap_write.specs.Heap.{HeapView, Keeps}
+use Rattle.write_ids.specs.Ids.{SameIds}
 use Rattle.heap_write.specs.Refusals.{VersionIsThere}
 use Rattle.heap_write.specs.Steps.{HasNoneDead}
 use Rattle.heap_write.proofs.PageLemmas.{page-at}
-use Rattle.heap_write.proofs.IdLemmas.{same-status}
+use Rattle.write_ids.proofs.IdLemmas.{same-status}
 use Rattle.heap_write.proofs.Updating.{kept-slots}
 
 pub dead-back : (w v : Window) (horizon : ℕ) (h : Header) → SameIds w v → IsDead v horizon h → IsDead w horizon h

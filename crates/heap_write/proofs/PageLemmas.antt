@@ -10,7 +10,8 @@ use Rattle.page_slots.specs.Slots.{IsNormalAt, row_at, room_of}
 use Rattle.table_indexes.specs.Indexes.{SameEntries}
 use Rattle.table_indexes.proofs.Columns.{entries-then}
 use Rattle.table_indexes.proofs.IndexLemmas.{same-entries}
-use Rattle.heap_write.specs.Heap.{HeapView, unused_page, slots_of, SameIds, Keeps}
+use Rattle.heap_write.specs.Heap.{HeapView, unused_page, slots_of, Keeps}
+use Rattle.write_ids.specs.Ids.{SameIds}
 use Rattle.tuple_header.specs.declared.version.Row.{Row}
 use Rattle.heap_write.specs.Writes.{KeepsValues}
 use Rattle.heap_write.specs.Refusals.{VersionIsThere}

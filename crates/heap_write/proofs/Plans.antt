@@ -29,7 +29,8 @@ use Rattle.prune.proofs.Listing.{applied-slot, applied-flag}
 use Rattle.prune.proofs.Planned.{plan-pruned}
 use Rattle.prune.proofs.Removing.{pruned-removes}
 use Rattle.table_indexes.specs.Indexes.{NeedsEntry}
-use Rattle.heap_write.specs.Heap.{HeapView, unused_page, page_on, SameIds, Keeps}
+use Rattle.heap_write.specs.Heap.{HeapView, unused_page, page_on, Keeps}
+use Rattle.write_ids.specs.Ids.{SameIds}
 use Rattle.snapshot.specs.Own.{Own}
 use Rattle.heap_write.specs.Writes.{KeepsValues, Prunes, PrunesIfFull, WouldGo}
 use Rattle.heap_write.specs.Writes.PrunesIfFull.{is_pruned, is_left}

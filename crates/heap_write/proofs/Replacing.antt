@@ -8,7 +8,8 @@ use Rattle.snapshot.specs.Own.{Own}
 use Rattle.prune_actions.specs.declared.Action.{Action}
 use Rattle.prune.specs.Actions.{applied}
 use Rattle.heap_write.specs.Heap.{HeapView, page_on, Keeps}
-use Rattle.heap_write.specs.Writes.{NeedsFreeze, NewestIsGiven, SameOwn, PrunesIfFull}
+use Rattle.heap_write.specs.Writes.{PrunesIfFull}
+use Rattle.write_ids.specs.Ids.{NeedsFreeze, NewestIsGiven, SameOwn}
 use Rattle.heap_write.specs.Refusals.{VersionIsThere}
 use Rattle.heap_write.specs.Steps.{IsReplaceable, IsPlanOn, IsPlanAround, with_applied}
 use Rattle.heap_write.proofs.PageLemmas.{there-within}

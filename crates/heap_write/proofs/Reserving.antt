@@ -18,7 +18,8 @@ use Rattle.heap_write.specs.declared.target.Target.TheVariants.{Page, New}
 use Rattle.heap_write.specs.Heap.{HeapView, unused_page, page_on}
 use Rattle.heap_write.specs.declared.heap.WriteFault.{WriteFault}
 use Rattle.heap_write.specs.declared.heap.WriteFault.TheVariants.{NoMemory}
-use Rattle.heap_write.specs.Writes.{NeedsFreeze, TableIsFull}
+use Rattle.heap_write.specs.Writes.{TableIsFull}
+use Rattle.write_ids.specs.Ids.{NeedsFreeze}
 use Rattle.heap_write.specs.Refusals.{NeedsIds, RootNeedsMemory, LacksForInsert}
 use Rattle.heap_write.specs.Growth.{page_in, SamePages, place_of_target, IsReserved}
 use Rattle.heap_write.specs.Steps.{IsChosen}

@@ -14,7 +14,8 @@ use Rattle.snapshot.specs.Own.{Own, unassigned_levels}
 use Rattle.heap_write.specs.declared.heap.WriteFault.{WriteFault}
 use Rattle.heap_write.specs.declared.heap.WriteFault.TheVariants.{NeedsFreeze as needs_freeze, NoRoom, NoMemory}
 use Rattle.heap_write.specs.Heap.{HeapView, page_on, Keeps}
-use Rattle.heap_write.specs.Writes.{NeedsFreeze, TakesIds, SameOwn, TableIsFull, KeepsValues, PrunesIfFull, UpdatesOnPage, Replaces}
+use Rattle.heap_write.specs.Writes.{TableIsFull, KeepsValues, PrunesIfFull, UpdatesOnPage, Replaces}
+use Rattle.write_ids.specs.Ids.{NeedsFreeze, TakesIds, SameOwn}
 use Rattle.heap_write.specs.Writes.PrunesIfFull.{has_room}
 use Rattle.heap_write.specs.Writes.Replaces.{on_page}
 use Rattle.table_indexes.specs.Indexes.{NeedsEntry}
@@ -22,7 +23,7 @@ use Rattle.heap_write.specs.Growth.{page_in}
 use Rattle.heap_write.specs.Refusals.{NeedsIds, VersionIsThere, UpdateNeedsMemory, FailsUpdate, AnswersUpdate}
 use Rattle.heap_write.specs.Steps.{IsDoneUnder}
 use Rattle.heap_write.proofs.PageLemmas.{keeps-all}
-use Rattle.heap_write.proofs.IdLemmas.{takes-grown}
+use Rattle.write_ids.proofs.IdLemmas.{takes-grown}
 
 pub some-weaker : {A : Type 0} (o : Option A) (P Q : A → Type 0) → ((a : A) → P a → Q a) → IfSome o P → IfSome o Q
 some-weaker (Some a) P Q f h = f a h

@@ -20,7 +20,8 @@ use Rattle.heap_write.specs.declared.target.Target.{Target}
 use Rattle.heap_write.specs.declared.target.Target.TheVariants.{Page, New}
 use Rattle.heap_write.specs.Heap.{HeapView, unused_page, page_on, PutsPage}
 use Rattle.heap_write.specs.Heap.PutsPage.{in_use, after_all}
-use Rattle.heap_write.specs.Writes.{NeedsFreeze, TakesIds, GoesTo, PutsRoot, SetsXmax, HotUpdates, ColdUpdates, KeepsValues, UpdatesOnPage, Inserts, Deletes, Replaces}
+use Rattle.heap_write.specs.Writes.{GoesTo, PutsRoot, SetsXmax, HotUpdates, ColdUpdates, KeepsValues, UpdatesOnPage, Inserts, Deletes, Replaces}
+use Rattle.write_ids.specs.Ids.{NeedsFreeze, TakesIds}
 use Rattle.heap_write.specs.Writes.UpdatesOnPage.{heap_only, as_root}
 use Rattle.heap_write.specs.Writes.Replaces.{elsewhere}
 use Rattle.heap_write.specs.Refusals.{VersionIsThere}

@@ -15,7 +15,7 @@ use Rattle.space_maps.specs.View.{says_visible}
 use Rattle.freeze.specs.Freezing.{FreezesPage}
 use Rattle.freeze.specs.AllVisible.{IsPageMark}
 use Rattle.freeze.specs.DeadSlots.{ListsDead}
-use Rattle.index_nodes.specs.declared.entry.Entry.{Entry}
+use Rattle.index_entries.specs.declared.entry.Entry.{Entry}
 use Rattle.root_index.specs.declared.progress.Progress.{Progress}
 use Rattle.root_index.specs.Pieces.{RemovesPiece}
 use Rattle.table_indexes.specs.Indexes.{entries_at, since_at, since_after, entries_in, IsInUse}

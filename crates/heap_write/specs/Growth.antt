@@ -3,8 +3,6 @@ use Rattle.std.specs.Prelude.{◌≡◌, ℕ, ◌<◌, ◌≤◌, Bool, false, L
 use Rattle.tuple_header.specs.declared.version.Row.{Row}
 use Rattle.page_slots.specs.View.{PageView}
 use Rattle.page_slots.specs.Slots.{room_of, free_number, next_change}
-use Rattle.commit_status.specs.Window.{Window}
-use Rattle.snapshot.specs.Own.{Own, unassigned_levels}
 use Rattle.tuple_writes.specs.Writes.{with_root}
 use Rattle.heap_pages.specs.View.{PagesView}
 use Rattle.heap_pages.specs.declared.pages.Placement.{Placement}
@@ -14,13 +12,6 @@ use Rattle.heap_write.specs.declared.target.Target.TheVariants.{Page, New}
 use Rattle.heap_write.specs.Heap.{unused_page, PutsPage}
 use Rattle.heap_pages.specs.declared.pages.TheConstants.{MOST_PAGES}
 use Rattle.tuple_header.specs.declared.version.TheConstants.{MOST_SLOTS}
-
--- Ids.
-
--- the table and the session's own list can note the ids that its levels lack
-pub record HasIds (w : Window) (own : Own) : Type 0 where
-  pub in_table : unassigned_levels own.ids own.saved ≤ w.spare
-  pub in_own : unassigned_levels own.ids own.saved ≤ own.spare
 
 -- Pages.
 

@@ -8,6 +8,7 @@ use Rattle.commit_status.specs.Window.{Window}
 use Rattle.heap_pages.specs.View.{PagesView}
 use Rattle.index_lookup.specs.Pages as lists
 use Rattle.table_indexes.specs.Indexes.{IndexesView, SameEntries}
+use Rattle.write_ids.specs.Ids.{SameIds}
 
 pub record HeapView : Type 0 where
   pub pages : PagesView
@@ -32,12 +33,6 @@ abbrev pub page_on : HeapView → ℕ → PageView
 page_on h n = slice_index_or h.pages.pages n unused_page
 
 -- Changes.
-
--- the ids are as they were, though there may be more memory
-pub record SameIds (w w' : Window) : Type 0 where
-  pub first : w'.first ≡ w.first
-  pub stop_age : w'.stop_age ≡ w.stop_age
-  pub entries : w'.entries ≡ w.entries
 
 -- all is as it was, though there may be more memory
 pub record Keeps (h h' : HeapView) : Type 0 where

@@ -6,5 +6,3 @@ pub mod Steps
 pub mod Cleaning
 pub mod Hints
 pub mod Making
-pub mod Listing
-pub mod Filling

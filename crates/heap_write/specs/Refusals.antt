@@ -21,7 +21,8 @@ use Rattle.heap_write.specs.declared.pruning.PruneFault.TheVariants as prune_fau
 use Rattle.heap_write.specs.declared.heap.WriteFault.{WriteFault}
 use Rattle.heap_write.specs.declared.heap.WriteFault.TheVariants as fault
 use Rattle.heap_write.specs.Heap.{HeapView, page_on, Keeps}
-use Rattle.heap_write.specs.Writes.{NeedsFreeze, SameOwn, TableIsFull, PrunesIfFull, KeepsValues, Updates}
+use Rattle.heap_write.specs.Writes.{TableIsFull, PrunesIfFull, KeepsValues, Updates}
+use Rattle.write_ids.specs.Ids.{NeedsFreeze, SameOwn}
 
 -- the new ids take memory: the table of ids has to grow for them, or the session's own list
 abbrev pub NeedsIds : HeapView → Own → Type 0

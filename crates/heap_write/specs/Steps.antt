@@ -13,7 +13,8 @@ use Rattle.page_slots.specs.Slots.{IsNormalAt}
 use Rattle.heap_pages.specs.View.{with_page}
 use Rattle.heap_write.specs.Heap.{HeapView, page_on}
 use Rattle.heap_write.specs.Growth.{place_of_target}
-use Rattle.heap_write.specs.Writes.{NeedsFreeze, NewestIsGiven, TakesIds, WouldGo}
+use Rattle.heap_write.specs.Writes.{WouldGo}
+use Rattle.write_ids.specs.Ids.{NeedsFreeze, NewestIsGiven, TakesIds}
 use Rattle.heap_write.specs.Refusals.{VersionIsThere}
 use Rattle.xid_circle.specs.Circle.{IsNormal}
 use Rattle.commit_status.specs.Window.{IsWindow}

@@ -1,16 +1,14 @@
 -- What a write does to a table. (README.HOT: an update that stays on the page, and changes no indexed column, makes a heap-only
 -- version and no index entry; any other makes a root of its own, with an entry in each index. PostgreSQL, heap_insert, heap_update and
 -- heap_delete in src/backend/access/heap/heapam.c.)
-use Rattle.std.specs.Prelude.{◌≡◌, ◌≢◌, ℕ, ◌<◌, ◌≤◌, Bool, true, false, List, [], ◌∷◌, ◌++◌, length, slice_set, slice_get, Option, Some, None}
+use Rattle.std.specs.Prelude.{◌≡◌, ◌≢◌, ℕ, ◌<◌, ◌≤◌, Bool, true, false, List, length, slice_set, slice_get, Option, Some, None}
 use Rattle.xid_circle.specs.Numbers.{Id, Count}
 use Rattle.xid_circle.specs.declared.Tid.{Tid}
 use Rattle.tuple_header.specs.declared.version.Row.{Row}
 use Rattle.tuple_header.specs.Version.{rounded_size_of}
 use Rattle.page_slots.specs.View.{PageView}
 use Rattle.page_slots.specs.Slots.{room_of, free_number, next_change, row_at, IsNormalAt}
-use Rattle.commit_status.specs.Window.{Window, IsGiven, next_id}
-use Rattle.commit_status.specs.Changes.{Gives, CanGive}
-use Rattle.snapshot.specs.Own.{Own, unassigned_levels, current_xid, saved_with_each}
+use Rattle.snapshot.specs.Own.{Own}
 use Rattle.prune_actions.specs.declared.Action.{Action}
 use Rattle.prune.specs.Actions.{applied}
 use Rattle.prune.specs.Checks.{Checks}
@@ -23,39 +21,7 @@ use Rattle.heap_pages.specs.declared.pages.Placement.TheVariants.{Page, NewPage,
 use Rattle.table_indexes.specs.Indexes.{SameValues, SameEntries, Enters}
 use Rattle.heap_write.specs.Heap.{HeapView, page_on, Keeps, PutsPage}
 use Rattle.tuple_header.specs.declared.version.TheConstants.{MOST_SLOTS}
-
--- Ids.
-
--- A session writes under the id of its newest level. Each of its levels that has none is given one before, the lowest
--- first and each under the one below it, all or none. (The manual's "Subtransactions"; AssignTransactionId in
--- src/backend/access/transam/xact.c.)
-
--- the newest id of the session, if it has one, was given
-abbrev pub NewestIsGiven : Window → Own → Type 0
-NewestIsGiven w own = (x : ℕ) → current_xid own.ids own.saved ≡ Some x → IsGiven w x
-
--- the levels need more ids than can be given
-abbrev pub NeedsFreeze : Window → Own → Type 0
-NeedsFreeze w own = ¬ CanGive w (unassigned_levels own.ids own.saved)
-
--- the ids are given one after another, the first under this parent, and each other under the one before it
-abbrev pub GivesUnder : Window → Option ℕ → List ℕ → Window → Type 0
-GivesUnder w parent [] w' = w' ≡ w
-GivesUnder w parent (x ∷ xs) w' = (between : Window) × (x ≡ next_id w) × Gives w between parent × GivesUnder between (Some x) xs w'
-
--- each level that lacked an id has one now, and x is the newest level's
-pub record TakesIds (w w' : Window) (own own' : Own) (x : ℕ) : Type 0 where
-  pub given : List ℕ
-  pub count : length given ≡ unassigned_levels own.ids own.saved
-  pub gives : GivesUnder w (current_xid own.ids own.saved) given w'
-  pub ids : own'.ids ≡ own.ids ++ given
-  pub saved : own'.saved ≡ saved_with_each given own.saved
-  pub newest : current_xid own'.ids own'.saved ≡ Some x
-
--- the session's ids are as they were, though there may be more memory
-pub record SameOwn (own own' : Own) : Type 0 where
-  pub ids : own'.ids ≡ own.ids
-  pub saved : own'.saved ≡ own.saved
+use Rattle.write_ids.specs.Ids.{NeedsFreeze, TakesIds}
 
 -- Places.
 

@@ -3,14 +3,15 @@
 ghost use Rattle.std.specs.Prelude.{IfErr, IfOk, OnErr};
 ghost use Rattle.xid_circle.specs.Circle.{IsNormal};
 ghost use Rattle.commit_status.specs.Window.{IsWindow};
-ghost use Rattle.heap_write.specs.Writes.{NewestIsGiven, SameOwn, Deletes};
+ghost use Rattle.heap_write.specs.Writes.{Deletes};
+ghost use Rattle.write_ids.specs.Ids.{NewestIsGiven, SameOwn};
 ghost use Rattle.heap_write.specs.Refusals.{FailsDelete, VersionIsThere};
 
 use crate::heap::{Answer, HeapState, WriteFault};
 use crate::hints::expect_write;
-use crate::ids::{needs_freeze, reserve_ids, take_ids};
 use snapshot::OwnIds;
 use tuple_writes::delete_version;
+use write_ids::{needs_freeze, reserve_ids, take_ids};
 use xid_circle::{Tid, Xid};
 
 impl HeapState {

@@ -3,7 +3,7 @@
 //! The page's plan says, before anything changes, what pruning takes from it and how much room that makes; so memory is made
 //! ready for one place alone, on the page or elsewhere, before the plan is applied.
 
-ghost use Rattle.std.specs.Prelude.{◌≡◌, ℕ, ◌≤◌, ◌<◌, IfErr, IfOk, IfSome, IsSome, IsTrue, OnErr, OnOk, ◌↔◌};
+ghost use Rattle.std.specs.Prelude.{◌≡◌, ℕ, ◌≤◌, ◌<◌, IfErr, IfOk, IfSome, OnErr, OnOk};
 ghost use Rattle.commit_status.specs.Window.{IsWindow};
 ghost use Rattle.snapshot.specs.Own.{unassigned_levels};
 ghost use Rattle.page_slots.specs.Slots.{room_of};
@@ -11,18 +11,19 @@ ghost use Rattle.tuple_header.specs.Version.{rounded_size_of};
 ghost use Rattle.prune.specs.Actions.{applied};
 ghost use Rattle.table_indexes.specs.Indexes.{HasEntries};
 ghost use Rattle.heap_write.specs.Heap.{page_on, Keeps};
-ghost use Rattle.heap_write.specs.Writes.{NewestIsGiven, SameOwn, Replaces, TableIsFull};
+ghost use Rattle.heap_write.specs.Writes.{Replaces, TableIsFull};
+ghost use Rattle.write_ids.specs.Ids.{NewestIsGiven, SameOwn, HasIds};
 ghost use Rattle.heap_write.specs.Refusals.{RootNeedsMemory, VersionIsThere, AnswersUpdate};
-ghost use Rattle.heap_write.specs.Growth.{HasIds, IsReserved};
+ghost use Rattle.heap_write.specs.Growth.{IsReserved};
 ghost use Rattle.heap_write.specs.Steps.{IsChosen, IsPlanOn, IsPlanAround, IsLeftAlone, IsReplaceable, IsDoneUnder};
 
 use crate::heap::{Answer, HeapState, WriteFault};
-use crate::ids::{needs_freeze, reserve_ids};
 use crate::target::{Target, reserve_place};
 use prune::{PrunePlan, room_after};
 use snapshot::OwnIds;
 use std::alloc::AllocError;
 use tuple_header::{Row, row_size};
+use write_ids::{needs_freeze, reserve_ids};
 use xid_circle::{Tid, Xid};
 
 impl HeapState {

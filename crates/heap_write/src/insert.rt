@@ -7,17 +7,18 @@ ghost use Rattle.tuple_header.specs.Version.{rounded_size_of};
 ghost use Rattle.commit_status.specs.Window.{IsWindow};
 ghost use Rattle.table_indexes.specs.Indexes.{HasEntries, NeedsEntry};
 ghost use Rattle.heap_write.specs.Heap.{page_on, Keeps};
-ghost use Rattle.heap_write.specs.Writes.{NeedsFreeze, NewestIsGiven, TakesIds, SameOwn, PutsRoot, Inserts};
+ghost use Rattle.heap_write.specs.Writes.{PutsRoot, Inserts};
+ghost use Rattle.write_ids.specs.Ids.{NeedsFreeze, NewestIsGiven, TakesIds, SameOwn};
 ghost use Rattle.heap_write.specs.Refusals.{LacksForInsert, NeedsIds};
 ghost use Rattle.heap_write.specs.Growth.{IsReserved, target_number};
 ghost use Rattle.tuple_header.specs.declared.version.TheConstants.{MOST_SLOTS};
 
 use crate::heap::{Answer, HeapState, WriteFault};
 use crate::hints::expect_root;
-use crate::ids::{needs_freeze, reserve_ids, take_ids};
 use crate::target::{Target, put_version, reserve_place};
 use snapshot::OwnIds;
 use tuple_header::{Row, row_size};
+use write_ids::{needs_freeze, reserve_ids, take_ids};
 use xid_circle::{Tid, Xid};
 
 impl HeapState {

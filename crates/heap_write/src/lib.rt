@@ -23,11 +23,9 @@
 mod applying;
 mod cleaning;
 mod delete;
-mod filling;
 mod full_page;
 mod heap;
 mod hints;
-mod ids;
 mod insert;
 mod lookup;
 mod making;

@@ -6,20 +6,21 @@ ghost use Rattle.page_slots.specs.Slots.{room_of, row_at};
 ghost use Rattle.tuple_header.specs.Version.{rounded_size_of};
 ghost use Rattle.table_indexes.specs.Indexes.{HasEntries, NeedsEntry, SameValues};
 ghost use Rattle.heap_write.specs.Heap.{page_on, Keeps};
-ghost use Rattle.heap_write.specs.Writes.{NewestIsGiven, SameOwn, KeepsValues, HotUpdates, ColdUpdates, UpdatesOnPage};
+ghost use Rattle.heap_write.specs.Writes.{KeepsValues, HotUpdates, ColdUpdates, UpdatesOnPage};
+ghost use Rattle.write_ids.specs.Ids.{NewestIsGiven, SameOwn, HasIds};
 ghost use Rattle.heap_write.specs.Refusals.{VersionIsThere, NeedsIds, AnswersUpdate};
-ghost use Rattle.heap_write.specs.Growth.{HasIds, IsReserved, target_number};
+ghost use Rattle.heap_write.specs.Growth.{IsReserved, target_number};
 ghost use Rattle.heap_write.specs.Steps.{IsReplaceable, IsDoneUnder};
 
 use crate::heap::{Answer, HeapState, WriteFault};
 use crate::hints::expect_write;
-use crate::ids::{needs_freeze, reserve_ids, take_ids};
 use crate::target::Target;
 use page_slots::Page;
 use snapshot::OwnIds;
 use std::alloc::AllocError;
 use tuple_header::{Row, row_size};
 use tuple_writes::{hot_update, mark_cold_updated};
+use write_ids::{needs_freeze, reserve_ids, take_ids};
 use xid_circle::{Tid, Xid};
 
 impl HeapState {

@@ -1,3 +1,4 @@
 pub mod Places
 pub mod HistoryLemmas
 pub mod RunLemmas
+pub mod FewLemmas

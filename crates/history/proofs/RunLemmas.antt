@@ -9,8 +9,8 @@ use Rattle.std.proofs.lemmas.List.Elements.{Contains-push_cases, Contains-append
 use Rattle.tuple_header.specs.declared.version.Row.{Row}
 use Rattle.history.specs.History.{Write, Transaction, written, reading, IsLate}
 use Rattle.history.specs.World.{World, Isolation, by_snapshot, by_statement, OpenSession, beginning, joined, own_write, start_by, start_now, view, Holds, MayIndex, MayWrite}
-use Rattle.history.specs.Moves.{put, change, free_to_scan, new_session, is_repeatable_read, is_open_by_snapshot, with_made_index, with_index_on, add_write, with_write, as_failed, with_savepoint, empty_newest, to_savepoint, without_savepoint, without_cursor, aborted, transaction_of, appended, committed_by}
-use Rattle.history.specs.Events.{Happens, passes, begins, begins_by_statement, inserts, updates, deletes, conflicts, waits, deadlocks, saves, rolls_back_to, releases, commits, aborts, opens_index, opens_heap, opens_keys, takes, takes_keys, closes, StepsReach, stays, goes_on, makes_index}
+use Rattle.history.specs.Moves.{put, change, free_to_scan, new_session, is_repeatable_read, is_open_by_snapshot, with_made_index, with_index_on, with_vacuum, add_write, with_write, as_failed, with_savepoint, empty_newest, to_savepoint, without_savepoint, without_cursor, aborted, transaction_of, appended, committed_by}
+use Rattle.history.specs.Events.{Happens, passes, begins, begins_by_statement, inserts, updates, deletes, conflicts, waits, deadlocks, saves, rolls_back_to, releases, commits, aborts, opens_index, opens_heap, opens_keys, takes, takes_keys, closes, StepsReach, stays, goes_on, makes_index, begins_vacuum, ends_vacuum}
 use Rattle.history.specs.Laws.{FirstCommitterWins, HeldInTime, HeldOnce, Grows, IsBySnapshot, KeepsView, NeverLate, NeverTooNew, KeepsIndexes}
 use Rattle.history.proofs.Places.{slice_get-push_cases}
 use Rattle.history.proofs.HistoryLemmas.{at_same, at_other, joined-add_write, joined-join_newest, IsLate-push_cases, IsLate-now, reading-append_history, among-written, written-among, fewer-written}
@@ -256,16 +256,27 @@ Lawful-made_index w index h = record {
   ];
 }
 
+-- a vacuum begins or ends
+Lawful-vacuum : (w : World) (runs : Bool) → Lawful w → Lawful (with_vacuum runs w)
+Lawful-vacuum w runs h = record { began = h.began; in_time = h.in_time; once = h.once; first = h.first; scans = h.scans }
+
 -- every run keeps them
 pub Lawful-run : {from after : World} → StepsReach from after → Lawful from → Lawful after
 Lawful-run stays h = h
 Lawful-run (goes_on before after s run step) h = Lawful-step step (Lawful-run run h)
 Lawful-run (makes_index before index run absent none) h = Lawful-made_index before index (Lawful-run run h)
+Lawful-run (begins_vacuum before run none) h = Lawful-vacuum before true (Lawful-run run h)
+Lawful-run (ends_vacuum before run runs) h = Lawful-vacuum before false (Lawful-run run h)
 
 -- no session's step changes which indexes there are
 pub indexes-step : {w : World} {s : ℕ} {after : World} → Happens w s after → after.has_index ≡ w.has_index
 indexes-step passes = refl
 indexes-step {w} _ = refl
+
+-- nor whether a vacuum runs
+pub vacuum-step : {w : World} {s : ℕ} {after : World} → Happens w s after → after.has_vacuum ≡ w.has_vacuum
+vacuum-step passes = refl
+vacuum-step {w} _ = refl
 
 -- nor makes one too new
 pub scans-step : {w : World} {s : ℕ} {after : World} → Happens w s after → (t index : ℕ) → w.too_new t index ≡ false → after.too_new t index ≡ false
@@ -285,6 +296,8 @@ pub indexes-run : {from after : World} → StepsReach from after → KeepsIndexe
 indexes-run stays index has = has
 indexes-run (goes_on before after s run step) index has = ap (λ (there : ℕ → Bool). there index) (indexes-step step) ∙ indexes-run run index has
 indexes-run (makes_index before made run absent none) index has = KeepsIndexes-made before made index (indexes-run run index has)
+indexes-run (begins_vacuum before run none) index has = indexes-run run index has
+indexes-run (ends_vacuum before run runs) index has = indexes-run run index has
 
 -- a run goes on by the making of a column's index
 pub makes_on : (from w : World) (c : ℕ) → StepsReach from w → MayIndex w c → StepsReach from (with_index_on w c)
@@ -305,6 +318,8 @@ Grows-run {from} (goes_on before after s run step) =
     let first = Grows-run run in let then_ = Grows-step step in
     (first.0 ++ then_.0, then_.1 ∙ (ap (λ ts. ts ++ then_.0) first.1 ∙ append_assoc from.history first.0 then_.0))
 Grows-run (makes_index before index run absent none) = Grows-run run
+Grows-run (begins_vacuum before run none) = Grows-run run
+Grows-run (ends_vacuum before run runs) = Grows-run run
 
 -- a step of another leaves the session as it is
 pub same_session : {w : World} {o : ℕ} {after : World} (s : ℕ) → Happens w o after → s ≢ o → after.session s ≡ w.session s

@@ -1,7 +1,8 @@
 -- Laws of every run.
-use Rattle.std.specs.Prelude.{◌≡◌, ℕ, ◌<◌, List, ◌++◌, Some, true, false, slice_get, Contains, ◌⊎◌}
+use Rattle.std.specs.Prelude.{◌≡◌, ℕ, ◌<◌, ◌≤◌, List, length, ◌++◌, Some, None, true, false, slice_get, Contains, ◌⊎◌}
 use Rattle.history.specs.History.{Write, Transaction, IsLate}
 use Rattle.history.specs.World.{World, by_snapshot, by_statement, OpenSession, joined, start_now, view, Holds}
+use Rattle.calls.specs.declared.step.TheConstants.{MOST_SESSIONS}
 
 -- the transaction at this place of the history has the write
 abbrev pub Wrote : List Transaction → ℕ → Write → Type 0
@@ -46,3 +47,11 @@ NeverTooNew w = (s index : ℕ) (m : OpenSession) → w.session s ≡ Some m →
 -- an index that is there stays
 abbrev pub KeepsIndexes : World → World → Type 0
 KeepsIndexes before after = (index : ℕ) → before.has_index index ≡ true → after.has_index index ≡ true
+
+-- no session is open under a number that is no session's
+abbrev pub HasFew : World → Type 0
+HasFew w = (s : ℕ) → MOST_SESSIONS ≤ s → w.session s ≡ None
+
+-- none has more than 32 savepoints, and so 33 levels
+abbrev pub HasFewLevels : World → Type 0
+HasFewLevels w = (s : ℕ) (m : OpenSession) → w.session s ≡ Some m → length m.levels ≤ 33

@@ -20,7 +20,8 @@ put w s m = record (stepped w s) { session = λ t. if t == s then m else w.sessi
 abbrev pub change : World → ℕ → (OpenSession → OpenSession) → World
 change w s f = put w s (option_map f (w.session s))
 
--- nobody waits for the session any more: it gave back the keys of a level, or of all
+-- nobody waits for the session any more: it gave back the keys of a level, or of all. Nor for a key that it
+-- holds still, at a lower level: whoever does waits again once he asks again
 abbrev pub awaited_no_more : World → ℕ → World
 awaited_no_more w s = record w { waits_for = λ t. kept_where (λ o. not (o == s)) (w.waits_for t) }
 
@@ -60,6 +61,10 @@ with_made_index w index = record w {
 -- that of the column is, unless it is there
 abbrev pub with_index_on : World → (column : ℕ) → World
 with_index_on w c = if w.has_index (suc c) then w else with_made_index w (suc c)
+
+-- a vacuum runs from now on, or none does
+abbrev pub with_vacuum : Bool → World → World
+with_vacuum runs w = record w { has_vacuum = runs }
 
 -- a write joins the newest level
 abbrev pub add_write : Write → List (List Write) → List (List Write)

@@ -35,13 +35,15 @@ pub record OpenSession : Type 0 where
 
 -- all that has committed, the sessions that are open, for whom each waits, which indexes there are, and which of them are too new
 -- for a session: it was open by snapshot when the index was made. An index leads to the rows that were current when it was made, and
--- not to older ones, which such a session may read still (indcheckxmin in the source)
+-- not to older ones, which such a session may read still (indcheckxmin in the source). And whether a vacuum runs, which changes nothing
+-- of all this
 pub record World : Type 0 where
   pub history : List Transaction
   pub session : ℕ → Option OpenSession
   pub waits_for : ℕ → Option ℕ
   pub has_index : ℕ → Bool
   pub too_new : (session index : ℕ) → Bool
+  pub has_vacuum : Bool
 
 -- the sessions, as far as what bars one from a step looks at them
 abbrev pub world_sessions : World → SessionLooks OpenSession Cursor
@@ -51,9 +53,9 @@ world_sessions w = record { session = w.session; failed = λ m. m.failed; cursor
 abbrev pub is_indexed : List Bool → ℕ → Bool
 is_indexed columns index = slice_index_or (true ∷ columns) index false
 
--- nothing has committed, no session is open, and these columns are indexed
+-- nothing has committed, no session is open, these columns are indexed, and no vacuum runs
 abbrev pub beginning : List Bool → World
-beginning columns = record { history = []; session = λ _. None; waits_for = λ _. None; has_index = is_indexed columns; too_new = λ _ _. false }
+beginning columns = record { history = []; session = λ _. None; waits_for = λ _. None; has_index = is_indexed columns; too_new = λ _ _. false; has_vacuum = false }
 
 -- what the levels say together, the oldest write first
 abbrev pub joined : List (List Write) → List Write
@@ -84,6 +86,10 @@ Holds w s key = (m : OpenSession) × (w.session s ≡ Some m) × IsSome (own_wri
 -- nobody does: what was written has committed, or was taken back
 abbrev pub NoKeyIsHeld : World → Type 0
 NoKeyIsHeld w = (s key : ℕ) → ¬ Holds w s key
+
+-- somebody is open
+abbrev pub IsSomeoneOpen : World → Type 0
+IsSomeoneOpen w = (s : ℕ) × (m : OpenSession) × (w.session s ≡ Some m)
 
 -- there is no index of the column, and may be one
 abbrev pub LacksIndex : World → (column : ℕ) → Type 0

@@ -4,7 +4,7 @@
 ghost use Rattle.std.specs.Prelude.{ℕ, ◌≢◌, List, Bool};
 ghost use Rattle.history.specs.World.{World, beginning};
 ghost use Rattle.history.specs.Events.{Happens, StepsReach};
-ghost use Rattle.history.specs.Laws.{FirstCommitterWins, Grows, HeldInTime, HeldOnce, KeepsIndexes, KeepsView, NeverLate, NeverTooNew};
+ghost use Rattle.history.specs.Laws.{FirstCommitterWins, Grows, HasFew, HasFewLevels, HeldInTime, HeldOnce, KeepsIndexes, KeepsView, NeverLate, NeverTooNew};
 
 /// The first committer wins: of two transactions that wrote one key, the second to commit wrote it by a snapshot that was taken
 /// after the first had committed (Berenson et al. 1995, snapshot isolation).
@@ -51,4 +51,15 @@ pub fn indexes_stay()
 /// No index is ever too new for a session that reads by statement.
 pub fn no_index_is_too_new_by_statement()
     ensures { (columns : List Bool) (w : World) → StepsReach (beginning columns) w → NeverTooNew w }
+{}
+
+/// No session is open under a number from 64 on.
+pub fn few_sessions_are_open()
+    ensures { (columns : List Bool) (w : World) → StepsReach (beginning columns) w → HasFew w }
+{}
+
+/// No session has more than 32 savepoints.
+pub fn few_savepoints_are_kept()
+    ensures { (columns : List Bool) (w : World) → StepsReach (beginning columns) w
+        → HasFewLevels w }
 {}

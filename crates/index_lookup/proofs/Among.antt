@@ -18,8 +18,8 @@ use Rattle.visibility.specs.Visible.{IsFrozen}
 use Rattle.visibility.specs.Seeing.{Touches}
 use Rattle.hot_chain.specs.Chain.{has_aborted, IsChain}
 use Rattle.hot_chain.proofs.Chains.{chain-one}
-use Rattle.index_nodes.specs.declared.entry.Entry.{Entry}
-use Rattle.index_nodes.specs.Sets.{IsOf}
+use Rattle.index_entries.specs.declared.entry.Entry.{Entry}
+use Rattle.index_entries.specs.Sets.{IsOf}
 use Rattle.index_lookup.specs.Looking.{SomeAmong, SomeAt, SomeOf, IsIdAmong, IsIdAt}
 use Rattle.index_lookup.proofs.PageLists.{slots-there, slots-none}
 

@@ -11,7 +11,7 @@ use Rattle.page_slots.specs.Slots.{version_at, row_at}
 use Rattle.page_slots.specs.View.{PageView}
 use Rattle.commit_status.specs.Window.{Window}
 use Rattle.hot_chain.specs.Chain.{has_aborted, first_of, IsChain, NoneSeen, Fetched, IsSeenIn}
-use Rattle.index_nodes.specs.declared.entry.Entry.{Entry}
+use Rattle.index_entries.specs.declared.entry.Entry.{Entry}
 use Rattle.index_lookup.specs.Pages.{slots_on, version_in}
 use Rattle.index_lookup.specs.Looking.{IsNextOf, FetchedAt, FirstFound, IsSeenAt, IsFirstPlace, FirstPlace}
 use Rattle.index_lookup.proofs.PageLists.{slots-there, slots-none}

@@ -2,8 +2,8 @@
 use Rattle.std.proofs.Common.{inl, inr, ⊎_elim, ℕ, ℤ, List, Some, None, subst, Contains}
 use Rattle.tuple_header.specs.declared.version.Header.{Header}
 use Rattle.commit_status.specs.Window.{Window}
-use Rattle.index_nodes.specs.declared.entry.Entry.{Entry}
-use Rattle.index_nodes.specs.Sets.{IsLeast, IsOf}
+use Rattle.index_entries.specs.declared.entry.Entry.{Entry}
+use Rattle.index_entries.specs.Sets.{IsLeast, IsOf}
 use Rattle.heap_pages.specs.View.{PagesView}
 use Rattle.index_lookup.specs.declared.index_scan.IndexPosition.{IndexPosition}
 use Rattle.index_lookup.specs.declared.index_scan.IndexRange.{IndexRange}

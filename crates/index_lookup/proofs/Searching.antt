@@ -10,9 +10,9 @@ use Rattle.page_slots.specs.declared.slot.Slot.{Slot}
 use Rattle.page_slots.specs.View.{PageView}
 use Rattle.commit_status.specs.Window.{Window}
 use Rattle.hot_chain.specs.Chain.{has_aborted, IsChain, IsSeenIn}
-use Rattle.index_nodes.specs.declared.entry.Entry.{Entry}
-use Rattle.index_nodes.specs.Order.{EntryPrecedes, IsAscending}
-use Rattle.index_nodes.specs.Sets.{IsOf}
+use Rattle.index_entries.specs.declared.entry.Entry.{Entry}
+use Rattle.index_entries.specs.Order.{EntryPrecedes, IsAscending}
+use Rattle.index_entries.specs.Sets.{IsOf}
 use Rattle.index_lookup.specs.Looking.{IsKept, IsPlaceAmong, IsNextOf, FetchedAt, IsSeenAt, SeenAt, IsFirstPlace, FirstPlace, SomeAt, SomeOf, IsIdAt, IsIdOf}
 use Rattle.index_lookup.specs.declared.write_check.WriteCheck.{WriteCheck}
 use Rattle.index_lookup.proofs.Among.{none-of}

@@ -8,12 +8,12 @@ use Rattle.std.specs.declared.cmp.Ordering.{Ordering}
 use Rattle.std.specs.declared.cmp.Ordering.TheVariants.{Less, Equal, Greater}
 use Rattle.std.proofs.lemmas.Bool.{cases_lt}
 use Rattle.std.proofs.lemmas.Option.{slice_get_within, none-some, same_Some}
-use Rattle.index_nodes.specs.declared.entry.Entry.{Entry}
-use Rattle.index_nodes.specs.Order.{comparison, EntryPrecedes, IsAscending}
-use Rattle.index_nodes.specs.Sets.{IsLeast, IsAfter, IsBelow, IsOf, IsLastOf}
-use Rattle.index_nodes.proofs.OrderLemmas.{comparison_total, same-from_tied}
-use Rattle.index_nodes.proofs.SetLemmas.{place_of, start_after}
-use Rattle.index_nodes.proofs.LookUpLemmas as look
+use Rattle.index_entries.specs.declared.entry.Entry.{Entry}
+use Rattle.index_entries.specs.Order.{comparison, EntryPrecedes, IsAscending}
+use Rattle.index_entries.specs.Sets.{IsLeast, IsAfter, IsBelow, IsOf, IsLastOf}
+use Rattle.index_entries.proofs.OrderLemmas.{comparison_total, same-from_tied}
+use Rattle.index_entries.proofs.SetLemmas.{place_of, start_after}
+use Rattle.index_entries.proofs.LookUpLemmas as look
 use Rattle.index_lookup.specs.Looking.{IsNextOf}
 
 -- Of what a look-up finds, only that which is of this value and this key.

@@ -7,10 +7,10 @@ use Rattle.tuple_header.specs.declared.version.Header.{Header}
 use Rattle.tuple_header.specs.declared.version.Row.{Row}
 use Rattle.page_slots.specs.declared.slot.Slot.{Slot}
 use Rattle.commit_status.specs.Window.{Window}
-use Rattle.index_nodes.specs.declared.entry.Entry.{Entry}
-use Rattle.index_nodes.specs.Order.{IsAscending}
-use Rattle.index_nodes.specs.Sets.{IsLeast}
-use Rattle.index_nodes.proofs.SetLemmas.{place_of, start_after}
+use Rattle.index_entries.specs.declared.entry.Entry.{Entry}
+use Rattle.index_entries.specs.Order.{IsAscending}
+use Rattle.index_entries.specs.Sets.{IsLeast}
+use Rattle.index_entries.proofs.SetLemmas.{place_of, start_after}
 use Rattle.index_lookup.specs.Looking.{FirstFound}
 use Rattle.index_lookup.specs.declared.index_scan.IndexPosition.{IndexPosition}
 use Rattle.index_lookup.specs.declared.index_scan.IndexRange.{IndexRange}

@@ -9,9 +9,9 @@ use Rattle.page_slots.specs.declared.slot.Slot.{Slot}
 use Rattle.page_slots.specs.Slots.{version_at}
 use Rattle.commit_status.specs.Window.{Window}
 use Rattle.hot_chain.specs.Chain.{has_aborted, IsChain, NoneSeen, IsSeenIn, Fetched}
-use Rattle.index_nodes.specs.declared.entry.Entry.{Entry}
-use Rattle.index_nodes.specs.Order.{EntryPrecedes}
-use Rattle.index_nodes.specs.Sets.{IsLeast, IsAfter, IsOf}
+use Rattle.index_entries.specs.declared.entry.Entry.{Entry}
+use Rattle.index_entries.specs.Order.{EntryPrecedes}
+use Rattle.index_entries.specs.Sets.{IsLeast, IsAfter, IsOf}
 use Rattle.index_lookup.specs.Pages.{slots_on}
 
 -- the first entry of this value and this key that comes after another one, or the first of all

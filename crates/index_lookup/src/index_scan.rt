@@ -3,7 +3,7 @@
 ghost use Rattle.std.specs.Prelude.{◌≡◌, ◌↔◌, ◌≤◌, ◌≤ℤ◌, IsTrue, FitsSigned};
 ghost use Rattle.std.specs.Int.{w128};
 ghost use Rattle.std.specs.Option.{option_map};
-ghost use Rattle.index_nodes.specs.Sets.{IsLeast, IsBelow, IsOf};
+ghost use Rattle.index_entries.specs.Sets.{IsLeast, IsBelow, IsOf};
 ghost use Rattle.index_lookup.specs.Pages.{page_slots_of};
 ghost use Rattle.visibility.specs.Reading.{IsSeenBy};
 ghost use Rattle.index_lookup.specs.Walking.{ComesAfter, last_at, StartsIn, LiesIn, NextRow};

@@ -4,7 +4,7 @@ ghost use Rattle.std.specs.Prelude.{◌≡◌, None, Some, FitsSigned};
 ghost use Rattle.std.specs.Int.{w128};
 ghost use Rattle.std.specs.Option.{option_map};
 ghost use Rattle.tuple_header.specs.Faults.{header_fault};
-ghost use Rattle.index_nodes.specs.Sets.{IsOf};
+ghost use Rattle.index_entries.specs.Sets.{IsOf};
 ghost use Rattle.index_lookup.specs.Pages.{version_in, page_slots_of};
 ghost use Rattle.visibility.specs.Reading.{IsSeenBy};
 ghost use Rattle.index_lookup.specs.Looking.{IsNextOf, IsFirstOf, FirstFound, SeenAt, FirstPlace, IsPlaceIn, IsPlaceAlong};

@@ -2,7 +2,7 @@
 
 ghost use Rattle.std.specs.Prelude.{◌≡◌, IfSome, IsTrue, MatchOption, None, Some};
 ghost use Rattle.std.specs.Option.{option_map};
-ghost use Rattle.index_nodes.specs.Sets.{IsOf, IsLastOf};
+ghost use Rattle.index_entries.specs.Sets.{IsOf, IsLastOf};
 ghost use Rattle.index_lookup.specs.Looking.{IsNextOf};
 
 use root_index::{Entry, PositionHint, RootIndex};

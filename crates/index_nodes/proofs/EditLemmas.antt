@@ -3,8 +3,8 @@ use Rattle.std.proofs.Common.{◌≡◌, ◌∙◌, ℕ, zero, suc, ◌+◌, ◌
 use Rattle.std.specs.List.{insert}
 use Rattle.std.proofs.lemmas.List.{length-append}
 use Rattle.std.proofs.lemmas.List.Edits.{insert-append_left, insert-append_right}
-use Rattle.index_nodes.specs.declared.entry.Entry.{Entry}
-use Rattle.index_nodes.specs.Lists.{concatenated, list_of}
+use Rattle.index_entries.specs.declared.entry.Entry.{Entry}
+use Rattle.index_entries.specs.Lists.{concatenated, list_of}
 use Rattle.index_nodes.proofs.JoinedLemmas.{start}
 
 -- An entry that is put into a list.

@@ -1,16 +1,16 @@
 -- The last entry of a value and a key: it is known by the next one, which is of another value or another key.
 use Rattle.std.proofs.Common.{◌≡◌, ◌∙◌, ℕ, ◌+◌, ◌<◌, ◌≤◌, inl, inr, List, length, Option, Some, None, slice_get, IsSomeAnd, sym, ap, refl, subst, arith}
 use Rattle.std.proofs.lemmas.Bool.{cases_lt}
-use Rattle.index_nodes.specs.declared.entry.Entry.{Entry}
+use Rattle.index_entries.specs.declared.entry.Entry.{Entry}
 use Rattle.index_nodes.specs.declared.nodes.TreePosition.{TreePosition}
-use Rattle.index_nodes.specs.Order.{EntryPrecedes, IsAscending}
-use Rattle.index_nodes.specs.Sets.{IsOf, IsEndAt, IsLastOf}
-use Rattle.index_nodes.specs.Lists.{concatenated, rank, EntryPlace}
+use Rattle.index_entries.specs.Order.{EntryPrecedes, IsAscending}
+use Rattle.index_entries.specs.Sets.{IsOf, IsEndAt, IsLastOf}
+use Rattle.index_entries.specs.Lists.{concatenated, rank, EntryPlace}
 use Rattle.index_nodes.specs.Nodes.{all, list_place, rank_in, IsPositionIn}
 use Rattle.index_nodes.specs.Rows.{inner_is}
-use Rattle.index_nodes.proofs.OrderLemmas.{not_before_itself, Precedes-not_back}
-use Rattle.index_nodes.proofs.SetLemmas.{place_of, same_place, ascending-at}
-use Rattle.index_nodes.proofs.LookUpLemmas.{between_alike}
+use Rattle.index_entries.proofs.OrderLemmas.{not_before_itself, Precedes-not_back}
+use Rattle.index_entries.proofs.SetLemmas.{place_of, same_place, ascending-at}
+use Rattle.index_entries.proofs.LookUpLemmas.{between_alike}
 use Rattle.index_nodes.proofs.JoinedLemmas.{IsPlaceIn, start, entry_in_list, behind_list}
 use Rattle.index_nodes.proofs.RowLemmas.{list_at, place_in}
 

@@ -1,6 +1,6 @@
 -- Where memory is refused some node is full, and so there are many entries.
-use Rattle.std.proofs.Common.{◌≡◌, ◌∙◌, ℕ, ◌<◌, ◌≤◌, ◌⊎◌, inl, inr, List, Option, Some, IfSome, length, slice_get, Result, Ok, Err, OnErr, sym, ap, subst, arith}
-use Rattle.index_nodes.specs.declared.entry.Entry.{Entry}
+use Rattle.std.proofs.Common.{◌≡◌, ◌∙◌, ℕ, ◌<◌, ◌≤◌, ◌⊎◌, inl, inr, List, Option, Some, IfSome, length, slice_get, sym, ap, subst, arith}
+use Rattle.index_entries.specs.declared.entry.Entry.{Entry}
 use Rattle.index_nodes.specs.Nodes.{all, AreNeat}
 use Rattle.index_nodes.proofs.RowLemmas.{all_at, count_fits}
 
@@ -17,10 +17,6 @@ module _ {N : Type 0} (entries : N → List Entry) (IsNeat : N → Type 0) (size
   pub full_below : (size n ≡ 0) ⊎ (128 ≤ length (entries n)) → 128 ≤ length (all entries nodes)
   full_below (inl none) = let prefix = all_at (λ n. IsNeat n × (0 < size n)) nodes i n neat at in absurd (omega (arith, none, prefix.1))
   full_below (inr many) = let fits = count_fits entries nodes i n at in omega arith
-
-pub on_err : {T E : Type 0} (r : Result T E) (P : Type 0) → P → OnErr r P
-on_err (Ok t) P h = tt
-on_err (Err e) P h = h
 
 -- it is full also when its list has grown in memory alone
 pub full_there : {N : Type 0} (size : N → ℕ) (nodes new : List N) (i : ℕ) (n : N) → slice_get nodes i ≡ Some n → new ≡ nodes → size n ≡ 128 → IfSome (slice_get new i) (λ n. size n ≡ 128)

@@ -2,44 +2,17 @@
 use Rattle.std.proofs.Common.{◌≡◌, ◌∙◌, ℕ, ◌+◌, ◌-◌, ◌<◌, inl, inr, Bool, IsTrue, List, length, map, get_or, Some, None, slice_get, sym, subst, arith}
 use Rattle.std.proofs.lemmas.Bool.{cases_lt}
 use Rattle.std.proofs.lemmas.Option.{slice_get-get_or, slice_get_within}
-use Rattle.index_nodes.specs.declared.entry.Entry.{Entry}
+use Rattle.index_entries.specs.declared.entry.Entry.{Entry}
 use Rattle.index_nodes.specs.declared.nodes.TreePosition.{TreePosition}
-use Rattle.index_nodes.specs.Order.{EntryPrecedes, IsAscending}
-use Rattle.index_nodes.specs.Sets.{IsGapFor, GoesBehind, GoesBefore}
-use Rattle.index_nodes.specs.Lists.{concatenated, list_of}
+use Rattle.index_entries.specs.Order.{EntryPrecedes, IsAscending}
+use Rattle.index_entries.specs.Sets.{IsGapFor, GoesBehind, GoesBefore}
+use Rattle.index_entries.specs.Lists.{concatenated, list_of}
 use Rattle.index_nodes.specs.Nodes.{all, inner_rank, rank_in}
 use Rattle.index_nodes.specs.Rows.{inner_is}
-use Rattle.index_nodes.proofs.OrderLemmas.{Precedes-trans}
-use Rattle.index_nodes.proofs.SetLemmas.{same_place, ascending-at}
-use Rattle.index_nodes.proofs.JoinedLemmas.{start, start_end, start_next, start_within, joined_get, in_list, none_there}
+use Rattle.index_entries.proofs.OrderLemmas.{Precedes-trans}
+use Rattle.index_entries.proofs.SetLemmas.{same_place, ascending-at, none_there}
+use Rattle.index_nodes.proofs.JoinedLemmas.{start, start_end, start_next, start_within, joined_get, in_list}
 use Rattle.index_nodes.proofs.RowLemmas.{list_is, list_within, length-lists}
-
--- Beside one entry.
-
-pub behind_one : (xs : List Entry) (x b : Entry) (i : ℕ) → IsAscending xs → 0 < i → slice_get xs (i - 1) ≡ Some b → EntryPrecedes b x → GoesBehind xs x i
-behind_one xs x b i up some at less = record {
-  some = some;
-  in_range = omega (arith, some, slice_get_within xs (i - 1) b at);
-  before = λ k e lt at_k. elim (cases_lt k (i - 1)) [
-    | inl below ↦ Precedes-trans e b x (ascending-at xs k (i - 1) e b up below at_k at) less
-    | inr le ↦ subst (λ y. EntryPrecedes y x) (same_place xs (i - 1) k b e (omega arith) at at_k) less
-  ];
-}
-
-pub before_one : (xs : List Entry) (x b : Entry) (is_last : Bool) (i : ℕ) → IsAscending xs → slice_get xs i ≡ Some b → EntryPrecedes x b → GoesBefore xs x is_last i
-before_one xs x b is_last i up at less = record {
-  after = λ k e le at_k. elim (cases_lt i k) [
-    | inl above ↦ Precedes-trans x b e less (ascending-at xs i k b e up above at at_k)
-    | inr same ↦ subst (EntryPrecedes x) (same_place xs i k b e (omega arith) at at_k) less
-  ];
-  more = inl (slice_get_within xs i b at);
-}
-
-pub before_none : (xs : List Entry) (x : Entry) (is_last : Bool) (i : ℕ) → slice_get xs i ≡ None → IsTrue is_last → GoesBefore xs x is_last i
-before_none xs x is_last i none last = record {
-  after = λ k e le at_k. absurd (omega (arith, le, none_there xs i none, slice_get_within xs k e at_k));
-  more = inr last;
-}
 
 pub gap_between : (xs : List Entry) (x : Entry) (is_last : Bool) (i : ℕ) → GoesBehind xs x i → GoesBefore xs x is_last i → IsGapFor xs x i
 gap_between xs x is_last i behind before = record { in_range = behind.in_range; before = behind.before; after = before.after }

@@ -8,13 +8,13 @@ use Rattle.std.proofs.lemmas.List.{get_or_default, take_more, take_all, length-a
 use Rattle.std.proofs.lemmas.List.Concat.{flat_map-append, get_or-flat_map}
 use Rattle.std.proofs.lemmas.List.Folds.{length-flat_map-take}
 use Rattle.std.proofs.lemmas.Option.{slice_get-get_or, slice_get_within, slice_get_past, get_or_from_slice_get}
-use Rattle.index_nodes.specs.declared.entry.Entry.{Entry}
-use Rattle.index_nodes.specs.Order.{comparison, EntryPrecedes, IsAscending}
-use Rattle.index_nodes.specs.Sets.{IsAt, IsGapFor}
-use Rattle.index_nodes.specs.Lists.{concatenated, list_of, rank, begins_after, EntryPlace, IsLastBetween}
+use Rattle.index_entries.specs.declared.entry.Entry.{Entry}
+use Rattle.index_entries.specs.Order.{comparison, EntryPrecedes, IsAscending}
+use Rattle.index_entries.specs.Sets.{IsAt, IsGapFor}
+use Rattle.index_entries.specs.Lists.{concatenated, list_of, rank, begins_after, EntryPlace, IsLastBetween}
 use Rattle.dead_places.proofs.PlaceLemmas.{less_from_test}
-use Rattle.index_nodes.proofs.OrderLemmas.{comparison_total, Precedes-trans, same-from_tied}
-use Rattle.index_nodes.proofs.SetLemmas.{ascending-at, lowest, same_place}
+use Rattle.index_entries.proofs.OrderLemmas.{comparison_total, Precedes-trans, same-from_tied}
+use Rattle.index_entries.proofs.SetLemmas.{ascending-at, lowest, same_place, none_there}
 
 -- How lists stand, and places in them.
 
@@ -159,11 +159,6 @@ pub entry_in_list : (ls : List (List Entry)) (p : EntryPlace) (l : List Entry) (
 entry_in_list ls p l e at in_l =
     let there : slice_get (list_of ls p.list) p.entry ≡ Some e = ap (λ m. slice_get m p.entry) (list_is ls p.list l at) ∙ in_l in
     joined_get ls p.list p.entry (slice_get_within ls p.list l at) (slice_get_within (list_of ls p.list) p.entry e there) ∙ there
-
-pub none_there : {X : Type 0} (xs : List X) (i : ℕ) → slice_get xs i ≡ None → length xs ≤ i
-none_there [] i none = omega arith
-none_there (x ∷ xs) zero none = absurd (cc none)
-none_there (x ∷ xs) (suc i) none = let rest = none_there xs i none in omega arith
 
 pub behind_list : (ls : List (List Entry)) (p : EntryPlace) (l : List Entry) → IsPlaceIn ls p → slice_get ls p.list ≡ Some l → slice_get l p.entry ≡ None
     → rank ls p ≡ start ls (p.list + 1)

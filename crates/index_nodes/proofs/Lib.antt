@@ -1,16 +1,10 @@
-pub mod ApartLemmas
-pub mod BoundLemmas
-pub mod BracketLemmas
 pub mod EditLemmas
 pub mod EndLemmas
 pub mod FullLemmas
 pub mod GapLemmas
 pub mod JoinedLemmas
-pub mod LookUpLemmas
 pub mod NodeLemmas
-pub mod OrderLemmas
 pub mod RowEditLemmas
 pub mod RowGrowthLemmas
 pub mod RowLemmas
-pub mod SetLemmas
 pub mod SweepLemmas

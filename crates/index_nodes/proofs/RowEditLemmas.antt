@@ -3,12 +3,12 @@ use Rattle.std.proofs.Common.{◌≡◌, ◌∙◌, ℕ, zero, suc, ◌+◌, ◌
 use Rattle.std.specs.List.{All}
 use Rattle.std.proofs.lemmas.List.{length-append, take-append-le, map-append}
 use Rattle.std.proofs.lemmas.List.Elements.{All-tail}
-use Rattle.index_nodes.specs.declared.entry.Entry.{Entry}
-use Rattle.index_nodes.specs.declared.node.Half.{Half}
-use Rattle.index_nodes.specs.declared.node.Half.TheVariants.{Lower, Upper}
+use Rattle.index_entries.specs.declared.entry.Entry.{Entry}
+use Rattle.index_entries.specs.declared.node.Half.{Half}
+use Rattle.index_entries.specs.declared.node.Half.TheVariants.{Lower, Upper}
 use Rattle.index_nodes.specs.declared.nodes.TreePosition.{TreePosition}
-use Rattle.index_nodes.specs.Halves.{IsHalf, rank_half}
-use Rattle.index_nodes.specs.Lists.{concatenated}
+use Rattle.index_entries.specs.Halves.{IsHalf, rank_half}
+use Rattle.index_entries.specs.Lists.{concatenated}
 use Rattle.index_nodes.specs.Nodes.{all, inner_rank, rank_in, IsPositionIn}
 use Rattle.index_nodes.proofs.JoinedLemmas.{start}
 use Rattle.index_nodes.proofs.RowLemmas.{length-lists}

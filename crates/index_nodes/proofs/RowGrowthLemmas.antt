@@ -4,9 +4,9 @@ use Rattle.std.specs.List.{insert, All}
 use Rattle.std.proofs.lemmas.List.{length-append, append_assoc, map-set}
 use Rattle.std.proofs.lemmas.List.Elements.{All-cons, All-head, All-tail}
 use Rattle.std.proofs.lemmas.Option.{slice_get_within}
-use Rattle.index_nodes.specs.declared.entry.Entry.{Entry}
+use Rattle.index_entries.specs.declared.entry.Entry.{Entry}
 use Rattle.index_nodes.specs.declared.nodes.TreePosition.{TreePosition}
-use Rattle.index_nodes.specs.Lists.{concatenated, list_of}
+use Rattle.index_entries.specs.Lists.{concatenated, list_of}
 use Rattle.index_nodes.specs.Nodes.{all, inner_rank, rank_in, IsOpened}
 use Rattle.index_nodes.specs.Rows.{inner_is}
 use Rattle.index_nodes.proofs.JoinedLemmas.{start}

@@ -3,11 +3,11 @@ use Rattle.std.proofs.Common.{◌≡◌, ◌∙◌, ℕ, zero, suc, ◌+◌, ◌
 use Rattle.std.specs.List.{All}
 use Rattle.std.proofs.lemmas.List.{length-map}
 use Rattle.std.proofs.lemmas.Option.{slice_get-map, slice_get-get_or, slice_get_within, get_or_from_slice_get}
-use Rattle.index_nodes.specs.declared.entry.Entry.{Entry}
+use Rattle.index_entries.specs.declared.entry.Entry.{Entry}
 use Rattle.index_nodes.specs.declared.nodes.TreePosition.{TreePosition}
-use Rattle.index_nodes.specs.Order.{IsAscending}
-use Rattle.index_nodes.specs.Sets.{IsAt, IsGapFor}
-use Rattle.index_nodes.specs.Lists.{list_of, IsLastBetween}
+use Rattle.index_entries.specs.Order.{IsAscending}
+use Rattle.index_entries.specs.Sets.{IsAt, IsGapFor}
+use Rattle.index_entries.specs.Lists.{list_of, IsLastBetween}
 use Rattle.index_nodes.specs.Nodes.{all, AreNeat, list_place, rank_in, inner_rank, IsPositionIn}
 use Rattle.index_nodes.specs.Rows.{inner_is}
 use Rattle.index_nodes.proofs.JoinedLemmas.{IsFilled, IsPlaceIn, start, start_next, start_within, joined_get, found_joined, absent_joined, entry_in_list, entry_in_next, none_behind, ascending_list}

@@ -1,4 +1,4 @@
--- What a sweep does in a leaf, and in a node among others.
+-- What a sweep does in a node among others.
 use Rattle.std.proofs.Common.{◌≡◌, ◌∙◌, ℕ, zero, suc, ◌+◌, ◌-◌, ◌<◌, ◌≤◌, ◌⊎◌, inl, inr, ⊎_elim, ◌↔◌, List, [], ◌∷◌, ◌++◌, length, take, drop, map, get_or, Bool, true, false, Option, Some, None, slice_get, slice_set, IfSome, IfNone, ◌≢◌, sym, ap, refl, subst, arith}
 use Rattle.std.specs.List.{filter, remove}
 use Rattle.std.proofs.lemmas.Bool.{cases_lt, cases_eq}
@@ -6,13 +6,13 @@ use Rattle.std.proofs.lemmas.List.{append_assoc, append-nil, length-append, leng
 use Rattle.std.proofs.lemmas.List.Edits.{length-remove, get_or-remove_below, get_or-remove_above}
 use Rattle.std.proofs.lemmas.Option.{slice_get-get_or, slice_get_within, slice_get_past, get_or_from_slice_get}
 use Rattle.xid_circle.specs.declared.Tid.{Tid}
-use Rattle.index_nodes.specs.declared.entry.Entry.{Entry}
-use Rattle.index_nodes.specs.declared.node.Swept.{Swept}
+use Rattle.index_entries.specs.declared.entry.Entry.{Entry}
+use Rattle.index_entries.specs.declared.node.Swept.{Swept}
 use Rattle.index_nodes.specs.declared.nodes.TreePosition.{TreePosition}
-use Rattle.index_nodes.specs.Lists.{concatenated, stays}
+use Rattle.index_entries.specs.Lists.{concatenated, stays}
 use Rattle.index_nodes.specs.Nodes.{all, rank_in, before_node, AreNeat, AreNeatBut, IsPositionIn, IsBehindIn}
 use Rattle.index_nodes.specs.Rows.{inner_is, some_with}
-use Rattle.index_nodes.specs.Sweeps.{IsSwept}
+use Rattle.index_entries.specs.Sweeps.{IsSwept}
 use Rattle.index_nodes.proofs.RowLemmas.{count_next, length-lists}
 
 -- A node among others.
@@ -189,30 +189,3 @@ module _ {N : Type 0} (IsNeat : N → Type 0) (size : N → ℕ) (nodes : List N
         (here.0, subst (λ n. 0 < size n) is some)
     | inr apart ↦ other k d inside apart
   ]
-
--- In a leaf.
-
--- the rest of a leaf
-pub swept_leaf : {S : Type 0} (xs new : List Entry) (from : ℕ) (dead : List Tid) (swept : Swept S) → from < length xs → new ≡ take from xs ++ filter (stays dead) (drop from xs)
-    → slice_get xs (length xs - 1) ≡ Some swept.last → swept.removed + length new ≡ length xs → swept.more ≡ false → IsSwept xs new from dead swept
-swept_leaf xs new from dead swept within is last removed more =
-    let long = length-drop from xs in
-    let end : from + (length (drop from xs) - 1) ≡ length xs - 1 = omega arith in
-    let short = length-take-le from xs (omega arith) in
-    let made : length new ≡ length (take from xs) + length (filter (stays dead) (drop from xs)) = ap length is ∙ length-append (take from xs) (filter (stays dead) (drop from xs)) in
-    record {
-      prefix = take from xs;
-      piece = drop from xs;
-      back = [];
-      was = sym (take-append-drop from xs) ∙ ap (λ ys. take from xs ++ ys) (sym (append-nil (drop from xs)));
-      is = is ∙ ap (λ ys. take from xs ++ ys) (sym (append-nil (filter (stays dead) (drop from xs))));
-      begins = short;
-      last = get_drop xs from (length (drop from xs) - 1) ∙ ap (slice_get xs) end ∙ last;
-      removed = omega arith;
-      more = (λ h. absurd (cc (h, more)), λ h. absurd (omega (arith, h)));
-    }
-  where
-    get_drop : (xs : List Entry) (n k : ℕ) → slice_get (drop n xs) k ≡ slice_get xs (n + k)
-    get_drop xs zero k = let is : k ≡ 0 + k = omega arith in ap (slice_get xs) is
-    get_drop [] (suc n) k = sym (slice_get_past [] (suc n + k) (omega arith)) ∙ refl
-    get_drop (x ∷ xs) (suc n) k = let is : suc (n + k) ≡ suc n + k = omega arith in get_drop xs n k ∙ ap (slice_get (x ∷ xs)) is

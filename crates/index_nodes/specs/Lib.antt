@@ -1,9 +1,3 @@
-pub mod Bounds
-pub mod Halves
 pub mod Keeps
-pub mod Lists
 pub mod Nodes
-pub mod Order
 pub mod Rows
-pub mod Sets
-pub mod Sweeps

@@ -2,11 +2,11 @@
 use Rattle.std.specs.Prelude.{◌≡◌, ◌≢◌, ◌<◌, ◌≤◌, ◌+◌, ◌^◌, ℕ, List, Option, Some, None, map, length, take, slice_get, IfSome, IsSomeAnd}
 use Rattle.std.specs.List.{All}
 use Rattle.xid_circle.specs.Numbers.{Count}
-use Rattle.index_nodes.specs.declared.entry.Entry.{Entry}
+use Rattle.index_entries.specs.declared.entry.Entry.{Entry}
 use Rattle.index_nodes.specs.declared.nodes.TreePosition.{TreePosition}
-use Rattle.index_nodes.specs.Sets.{IsStart}
-use Rattle.index_nodes.specs.Lists.{concatenated, rank, EntryPlace}
-use Rattle.index_nodes.specs.declared.node.TheConstants.{MOST_PARTS}
+use Rattle.index_entries.specs.Sets.{IsStart}
+use Rattle.index_entries.specs.Lists.{concatenated, rank, EntryPlace}
+use Rattle.index_entries.specs.declared.node.TheConstants.{MOST_PARTS}
 
 -- the entries of the nodes, one node after another
 abbrev pub all : {N : Type 0} → (N → List Entry) → List N → List Entry

@@ -3,9 +3,9 @@ use Rattle.std.proofs.Common.{◌≡◌, ℕ, zero, suc, ◌+◌, ◌<◌, ◌�
 use Rattle.std.proofs.lemmas.List.{length-append}
 use Rattle.std.proofs.lemmas.List.Elements.{All-tail}
 use Rattle.std.proofs.lemmas.Option.{slice_get_within}
-use Rattle.index_nodes.specs.declared.entry.Entry.{Entry}
+use Rattle.index_entries.specs.declared.entry.Entry.{Entry}
 use Rattle.index_nodes.specs.declared.nodes.TreePosition.{TreePosition}
-use Rattle.index_nodes.specs.Lists.{concatenated}
+use Rattle.index_entries.specs.Lists.{concatenated}
 use Rattle.index_nodes.specs.Nodes.{all, AreNeat, inner_rank, rank_in, IsPositionIn, IsEntryIn}
 
 pub none_without : {N : Type 0} (entries : N → List Entry) (nodes : List N) → length nodes ≡ 0 → all entries nodes ≡ []

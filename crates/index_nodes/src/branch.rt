@@ -5,10 +5,9 @@ ghost use Rattle.std.proofs.Common.{arith};
 ghost use Rattle.index_nodes.specs.Rows.{none_without, some_with, many_with, rank_within, rank_inside, entry_is_position};
 ghost use Rattle.index_nodes.specs.Nodes.{all, rank_in, AreNeat, IsPositionIn, IsEntryIn, AreLeft, HavePlaces};
 
-use crate::entry::Entry;
-use crate::node::{HALF, Half, MOST_PARTS, Node, Swept};
 use crate::nodes::{self, Spares, TreePosition};
 use dead_places::DeadSet;
+use index_entries::{Entry, HALF, Half, MOST_PARTS, Node, Swept};
 use std::alloc::{AllocError, Global};
 use std::marker::Model;
 

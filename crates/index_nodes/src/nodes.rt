@@ -4,15 +4,14 @@ ghost use Rattle.std.specs.Prelude.{◌≡◌, ◌<◌, ◌≤◌, ◌+◌, ◌-
 ghost use Rattle.std.specs.Bool.{OnTrue};
 ghost use Rattle.std.specs.List.{insert};
 ghost use Rattle.std.specs.Option.{option_map};
-ghost use Rattle.index_nodes.specs.Order.{IsAscending};
-ghost use Rattle.index_nodes.specs.Sets.{IsAt, IsEndAt, IsGapFor, GoesBehind, GoesBefore};
-ghost use Rattle.index_nodes.specs.Lists.{IsLastBetween};
+ghost use Rattle.index_entries.specs.Order.{IsAscending};
+ghost use Rattle.index_entries.specs.Sets.{IsAt, IsEndAt, IsGapFor, GoesBehind, GoesBefore};
+ghost use Rattle.index_entries.specs.Lists.{IsLastBetween};
 ghost use Rattle.index_nodes.specs.Nodes.{all, rank_in, before_node, AreNeat, AreNeatBut, IsPositionIn, IsEntryIn, IsBehindIn, IsOpened, IsUnspent, AreKept, AreLeft, HavePlaces, KeepsSpares};
-ghost use Rattle.index_nodes.specs.Sweeps.{IsSwept};
+ghost use Rattle.index_entries.specs.Sweeps.{IsSwept};
 
-use crate::entry::Entry;
-use crate::node::{Half, MOST_PARTS, Node, Swept};
 use dead_places::DeadSet;
+use index_entries::{Entry, Half, MOST_PARTS, Node, Swept};
 use std::alloc::AllocError;
 
 /// A place among nodes.

@@ -14,7 +14,7 @@ use Rattle.one_answer.proofs.Ones.{reached_has_one}
 use Rattle.one_answer.proofs.Opens.{where_done}
 use Rattle.judge.specs.Rulings.{IsFreelyRefused, IsReached, IsFree}
 
-same_as_due : (w : World) (step : Step) (a b : Reply) → IsDue a → TellTheSame a b → AllowsReply w step a → AllowsReply w step b
+pub same_as_due : (w : World) (step : Step) (a b : Reply) → IsDue a → TellTheSame a b → AllowsReply w step a → AllowsReply w step b
 same_as_due w step (reply.Rows r) b due same is = absurd due
 same_as_due w step (reply.Keys k) b due same is = absurd due
 same_as_due w step a b due same is = subst (λ (a : Reply). AllowsReply w step a) same is
@@ -25,12 +25,12 @@ by_due w step due a b reached is says = (
   λ allows. says.1 ((reached_has_one reached.0 w reached.1 step).due due a is.0 allows is.1),
 )
 
-done_is_told : (w : World) (step : Step) → IsLeftOpen w step reply.Done → ⊥
+pub done_is_told : (w : World) (step : Step) → IsLeftOpen w step reply.Done → ⊥
 done_is_told w step.VacuumStep open_ = open_
 done_is_told w _ open_ = open_
 
 -- what is left open at these steps is a refusal
-free_of : (w : World) (step : Step) (a : Reply) → IsFreelyRefused step → IsLeftOpen w step a → IsFree w step a
+pub free_of : (w : World) (step : Step) (a : Reply) → IsFreelyRefused step → IsLeftOpen w step a → IsFree w step a
 free_of w step (reply.Refused r) judged open_ = open_
 free_of w (step.Begin s) _ judged open_ = absurd open_
 free_of w (step.BeginReadCommitted s) _ judged open_ = absurd open_
@@ -57,7 +57,7 @@ makes_none : (step : Step) → IsFreelyRefused step → MakesNone step
 makes_none (step.CreateIndex c) judged = judged
 makes_none _ judged = tt
 
-free_allowed : (w : World) (step : Step) (a : Reply) → IsFreelyRefused step → AllowsReply w step reply.Done → IsFree w step a → AllowsReply w step a
+pub free_allowed : (w : World) (step : Step) (a : Reply) → IsFreelyRefused step → AllowsReply w step reply.Done → IsFree w step a → AllowsReply w step a
 free_allowed w step reply.Done judged done free = done
 free_allowed w step (reply.Refused r) judged done free = where_done w step r (makes_none step judged) done free
 free_allowed w step _ judged done free = absurd free

@@ -1,5 +1,6 @@
-pub mod Due
+pub mod DueLemmas
 pub mod Allowing
 pub mod After
 pub mod Rows
 pub mod RunsLemmas
+pub mod Reasoning

@@ -6,6 +6,8 @@ use Rattle.std.proofs.lemmas.Option.{none-some, same_Some, slice_get_within}
 use Rattle.tuple_header.specs.declared.version.Row.{Row}
 use Rattle.history.specs.World.{World, OpenSession, Cursor, view, IsReady, world_sessions}
 use Rattle.history.specs.Cursors.{AreOf, ArePart, AreNext, IsOver, HandsOutPart, HandsOutKeys, keys_of}
+use Rattle.history.specs.Laws.{HasFew}
+use Rattle.history.proofs.FewLemmas.{few-run}
 use Rattle.calls.specs.declared.step.Step.TheVariants as step
 use Rattle.calls.specs.declared.reply.Reply.{Reply}
 use Rattle.calls.specs.declared.reply.Reply.TheVariants as reply
@@ -19,11 +21,10 @@ use Rattle.plain_cursor.specs.declared.order.PlainOrder.TheVariants as order
 use Rattle.plain_cursor.specs.Order.{KeptCursor, row_of_key, index_of, IsInOrder}
 use Rattle.plain_cursor.specs.Hands.{plain_order_of, cursor_of}
 use Rattle.plain_cursor.proofs.Ordered.{next_rows, row_in-head}
-use Rattle.one_answer.proofs.Few.{HasFew, few-run}
 use Rattle.one_answer.proofs.Fronts.{one_next}
 use Rattle.judge.specs.Rulings.{IsReached}
 use Rattle.judge.specs.Handing.{MayHand, MayShow, HaveTheirOwnKeys, StandsBefore}
-use Rattle.judge.proofs.Due.{IsDueAt}
+use Rattle.judge.proofs.DueLemmas.{IsDueAt}
 
 -- Of an index the next rows are the first that are left.
 
@@ -109,7 +110,7 @@ handed w s n m c (reply.Refused refusal.Deadlock) few ready at is = absurd is.3
 handed w s n m c (reply.Refused r) few ready at is = not_with_cursor w s m c r few ready at is
 handed w s n m c _ few ready at is = absurd is
 
-hands : (w : World) (s n : ℕ) (m : OpenSession) (c : Cursor) (a : Reply) → IsReady w s m → m.cursor ≡ Some c → MayHand c n a → AllowsReply w (step.Next s n) a
+pub hands : (w : World) (s n : ℕ) (m : OpenSession) (c : Cursor) (a : Reply) → IsReady w s m → m.cursor ≡ Some c → MayHand c n a → AllowsReply w (step.Next s n) a
 hands w s n m c (reply.Rows r) ready at is = (m, c, ready, at, is)
 hands w s n m c (reply.Keys k) ready at is = (m, c, ready, at, is)
 hands w s n m c reply.End ready at is = (m, c, ready, at, is)

@@ -2,3 +2,5 @@ pub mod Rulings
 pub mod Following
 pub mod Handing
 pub mod Runs
+pub mod Reasons
+pub mod Laws

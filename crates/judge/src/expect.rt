@@ -1,14 +1,14 @@
 //! What may be answered.
 
-ghost use Rattle.std.specs.Prelude.{◌≡◌, ◌↔◌, ◌<◌, IsTrue, length};
+ghost use Rattle.std.specs.Prelude.{◌≡◌, ◌↔◌, ◌<◌, IsTrue, false, length};
 ghost use Rattle.refinement.specs.Allowed.{AllowsReply};
-ghost use Rattle.one_answer.specs.OneAnswer.{IsDue, IsLeftOpen};
+ghost use Rattle.one_answer.specs.OneAnswer.{IsDue, IsLeftOpen, IsOpenByStatement};
 ghost use Rattle.plain_history.specs.Plain.{world_of};
-ghost use Rattle.history.specs.World.{World, MayIndex, LacksIndex};
-ghost use Rattle.judge.specs.Rulings.{IsFreelyRefused, IsReached, Expects, refusal_of};
+ghost use Rattle.history.specs.World.{LacksIndex};
+ghost use Rattle.judge.specs.Rulings.{IsFreelyRefused, Expects, refusal_of};
 ghost use Rattle.tuple_header.specs.declared.version.TheConstants.{MOST_BODY};
 
-use calls::{Refusal, Reply, RowIn, Step};
+use calls::{Mode, Refusal, Reply, RowIn, Step};
 use plain_history::{PlainHistory, Refused};
 use tuple_header::MOST_BODY;
 
@@ -121,7 +121,6 @@ fn of_abort(plain: &PlainHistory, s: u8) -> Expected
 }
 
 fn of_savepoint(plain: &PlainHistory, s: u8) -> Expected
-    requires { IsReached (world_of plain.now) }
     ensures { Expects (world_of plain.now) (Step.Savepoint s) result }
 {
     match plain.check_save(s) {
@@ -184,10 +183,29 @@ fn of_close(plain: &PlainHistory, s: u8) -> Expected
     }
 }
 
+fn of_vacuum_begin(plain: &PlainHistory, mode: Mode) -> Expected
+    ensures { Expects (world_of plain.now) (Step.VacuumBegin mode) result }
+{
+    if plain.has_vacuum() {
+        Expected::Due(Reply::Refused(Refusal::VacuumRunning))
+    } else {
+        Expected::Free
+    }
+}
+
+fn of_vacuum_cancel(plain: &PlainHistory) -> Expected
+    ensures { Expects (world_of plain.now) Step.VacuumCancel result }
+{
+    if plain.has_vacuum() {
+        Expected::Free
+    } else {
+        Expected::Due(Reply::Refused(Refusal::NoVacuum))
+    }
+}
+
 /// What may be answered to the step.
 pub(crate) fn expect_for(plain: &PlainHistory, step: &Step) -> Expected
-    requires judged { IsFreelyRefused step.now }
-    requires reached { IsReached (world_of plain.now) }
+    requires { IsFreelyRefused step.now }
     ensures { Expects (world_of plain.now) step.now result }
 {
     match step {
@@ -206,14 +224,36 @@ pub(crate) fn expect_for(plain: &PlainHistory, step: &Step) -> Expected
         Step::OpenHeap(s) => of_open_heap(plain, *s),
         Step::OpenKeys(s, low, high) => of_open_keys(plain, *s, *low, *high),
         Step::Close(s) => of_close(plain, *s),
+        Step::VacuumBegin(mode) => of_vacuum_begin(plain, *mode),
+        Step::VacuumCancel => of_vacuum_cancel(plain),
         _ => Expected::Free,
     }
 }
 
+// Is there no memory for the snapshot that a cursor of the session keeps?
+fn may_lack_memory(plain: &PlainHistory, s: u8, refusal: Refusal) -> bool
+    ensures { IsTrue result
+        ↔ ((refusal ≡ Refusal.NoMemory) × IsOpenByStatement (world_of plain.now) s) }
+{
+    matches!(refusal, Refusal::NoMemory) && plain.reads_by_statement(s)
+}
+
+// Is it left open where an index would be made?
+fn is_left_open_to_making(plain: &PlainHistory, column: u8, refusal: Refusal) -> bool
+    ensures { IsTrue result
+        ↔ IsLeftOpen (world_of plain.now) (Step.CreateIndex column) (Reply.Refused refusal) }
+{
+    match refusal {
+        Refusal::IndexBusy => plain.is_anyone_open(),
+        Refusal::NoMemory => true,
+        _ => false,
+    }
+}
+
 /// Is the refusal left open at the step?
-pub(crate) fn is_left_open(step: &Step, refusal: Refusal) -> bool
-    requires { IsFreelyRefused step.now }
-    ensures { (w : World) → IsTrue result ↔ IsLeftOpen w step.now (Reply.Refused refusal) }
+pub(crate) fn is_left_open(plain: &PlainHistory, step: &Step, refusal: Refusal) -> bool
+    ensures { IsTrue result
+        ↔ IsLeftOpen (world_of plain.now) step.now (Reply.Refused refusal) }
 {
     match step {
         Step::Begin(_) => matches!(refusal, Refusal::NoMemory),
@@ -225,14 +265,18 @@ pub(crate) fn is_left_open(step: &Step, refusal: Refusal) -> bool
         }
         Step::Delete(_, _) => matches!(refusal, Refusal::NeedsFreeze | Refusal::NoMemory),
         Step::Savepoint(_) => matches!(refusal, Refusal::NoMemory),
-        Step::OpenIndex(_, _, _, _) => matches!(refusal, Refusal::NoMemory),
-        Step::OpenHeap(_) => matches!(refusal, Refusal::NoMemory),
-        Step::OpenKeys(_, _, _) => matches!(refusal, Refusal::NoMemory),
-        Step::Prune(_) => matches!(refusal, Refusal::NoSuchPage | Refusal::NoMemory),
+        Step::OpenIndex(s, _, _, _) => may_lack_memory(plain, *s, refusal),
+        Step::OpenHeap(s) => may_lack_memory(plain, *s, refusal),
+        Step::OpenKeys(s, _, _) => may_lack_memory(plain, *s, refusal),
+        Step::Next(_, _) => matches!(refusal, Refusal::NoMemory),
+        Step::TakePage(_, _) => matches!(refusal, Refusal::NoSuchPage | Refusal::NoMemory),
+        Step::Prune(_) => matches!(refusal, Refusal::NoSuchPage),
         Step::ApplyPlan(_, _) => matches!(refusal, Refusal::NoSuchPage | Refusal::Stale),
-        Step::VacuumBegin(_) => matches!(refusal, Refusal::VacuumRunning | Refusal::NoMemory),
-        Step::VacuumCancel => matches!(refusal, Refusal::NoVacuum),
-        _ => false,
+        Step::CreateIndex(column) => is_left_open_to_making(plain, *column, refusal),
+        Step::BeginReadCommitted(_) | Step::Commit(_) | Step::Abort(_) => false,
+        Step::RollbackTo(_) | Step::Release(_) => false,
+        Step::Get(_, _) | Step::Close(_) => false,
+        Step::VacuumBegin(_) | Step::VacuumStep | Step::VacuumCancel => false,
     }
 }
 
@@ -243,20 +287,29 @@ pub(crate) fn may_answer_making(plain: &PlainHistory, column: u8, reply: &Reply)
     match reply {
         Reply::Done => may_make(plain, column),
         Reply::Refused(Refusal::NoSuchIndex) => column > 3,
-        Reply::Refused(Refusal::VacuumRunning | Refusal::IndexBusy | Refusal::NoMemory) => {
-            lacks_index(plain, column)
-        }
+        Reply::Refused(Refusal::VacuumRunning) => lacks_index(plain, column) && plain.has_vacuum(),
+        Reply::Refused(Refusal::IndexBusy) => may_lack(plain, column) && plain.is_anyone_open(),
+        Reply::Refused(Refusal::NoMemory) => may_lack(plain, column),
         _ => false,
     }
 }
 
-fn may_make(plain: &PlainHistory, column: u8) -> bool
-    ensures { IsTrue result ↔ MayIndex (world_of plain.now) column }
+pub(crate) fn may_make(plain: &PlainHistory, column: u8) -> bool
+    ensures { IsTrue result
+        ↔ AllowsReply (world_of plain.now) (Step.CreateIndex column) Reply.Done }
 {
     match plain.check_make(column) {
-        Ok(()) => true,
+        Ok(()) => plain.has_index(column + 1) || !plain.has_vacuum(),
         Err(_) => false,
     }
+}
+
+// May the index be lacking after the step too, since no vacuum runs that bars it?
+fn may_lack(plain: &PlainHistory, column: u8) -> bool
+    ensures { IsTrue result
+        ↔ (LacksIndex (world_of plain.now) column × ((world_of plain.now).has_vacuum ≡ false)) }
+{
+    lacks_index(plain, column) && !plain.has_vacuum()
 }
 
 fn lacks_index(plain: &PlainHistory, column: u8) -> bool
@@ -266,13 +319,13 @@ fn lacks_index(plain: &PlainHistory, column: u8) -> bool
 }
 
 /// Whether that may be answered to a step of the vacuum.
-pub(crate) fn may_answer_vacuum_step(reply: &Reply) -> bool
-    ensures { (w : World) → IsTrue result ↔ AllowsReply w Step.VacuumStep reply.now }
+pub(crate) fn may_answer_vacuum_step(plain: &PlainHistory, reply: &Reply) -> bool
+    ensures { IsTrue result ↔ AllowsReply (world_of plain.now) Step.VacuumStep reply.now }
 {
     match reply {
-        Reply::Worked(_) => true,
-        Reply::Ended(_) => true,
-        Reply::Refused(Refusal::NoVacuum | Refusal::NoMemory) => true,
+        Reply::Worked(_) => plain.has_vacuum(),
+        Reply::Ended(_) => plain.has_vacuum(),
+        Reply::Refused(Refusal::NoVacuum) => !plain.has_vacuum(),
         _ => false,
     }
 }

@@ -11,7 +11,7 @@ ghost use Rattle.judge.specs.Following.{after_refused, with_wait};
 
 use crate::judge::NoMemory;
 use arrayvec::ArrayVec;
-use calls::{Refusal, Reply, RowIn, Step, fill_row};
+use calls::{Mode, Refusal, Reply, RowIn, Step, fill_row};
 use plain_cursor::{Bounds, PlainOrder};
 use plain_history::{PlainHistory, Refused};
 use tuple_header::Row;
@@ -390,6 +390,37 @@ fn on_create_index(plain: &mut PlainHistory, column: u8, reply: &Reply)
     }
 }
 
+fn on_vacuum_begin(plain: &mut PlainHistory, mode: Mode, reply: &Reply)
+    requires { AllowsReply (world_of plain.old) (Step.VacuumBegin mode) reply.now }
+    ensures { world_of plain.new
+        ≡ after_reply (world_of plain.old) (Step.VacuumBegin mode) reply.now }
+{
+    match reply {
+        Reply::Done => plain.set_vacuum(true),
+        _ => {}
+    }
+}
+
+fn on_vacuum_step(plain: &mut PlainHistory, reply: &Reply)
+    requires { AllowsReply (world_of plain.old) Step.VacuumStep reply.now }
+    ensures { world_of plain.new ≡ after_reply (world_of plain.old) Step.VacuumStep reply.now }
+{
+    match reply {
+        Reply::Ended(_) => plain.set_vacuum(false),
+        _ => {}
+    }
+}
+
+fn on_vacuum_cancel(plain: &mut PlainHistory, reply: &Reply)
+    requires { AllowsReply (world_of plain.old) Step.VacuumCancel reply.now }
+    ensures { world_of plain.new ≡ after_reply (world_of plain.old) Step.VacuumCancel reply.now }
+{
+    match reply {
+        Reply::Done => plain.set_vacuum(false),
+        _ => {}
+    }
+}
+
 /// Memory may be refused where something is written, and to a commit. Then all is as it was.
 pub(crate) fn follow(plain: &mut PlainHistory, step: &Step, reply: &Reply) -> Result<(), NoMemory>
     requires { AllowsReply (world_of plain.old) step.now reply.now }
@@ -432,6 +463,9 @@ fn follow_freely(plain: &mut PlainHistory, step: &Step, reply: &Reply)
         Step::Abort(s) => on_abort(plain, *s, reply),
         Step::Close(s) => on_close(plain, *s, reply),
         Step::TakePage(s, page) => on_take_page(plain, *s, *page, reply),
+        Step::VacuumBegin(mode) => on_vacuum_begin(plain, *mode, reply),
+        Step::VacuumStep => on_vacuum_step(plain, reply),
+        Step::VacuumCancel => on_vacuum_cancel(plain, reply),
         Step::CreateIndex(column) => on_create_index(plain, *column, reply),
         _ => {}
     }

@@ -72,19 +72,23 @@ fn is_part(rest: &[Row], rows: &[Row]) -> bool
     !rows.is_empty() && are_all_of(rest, rows) && are_apart(rows)
 }
 
+/// The next n of the rest, or all that are left. Asking for none counts as one.
+pub(crate) fn next_of(rest: &[Row], n: u16) -> &[Row]
+    ensures { result.now ≡ take (max 1 n) rest.now }
+{
+    let count = if n == 0 { 1 } else { n as usize };
+    if count < rest.len() {
+        &rest[..count]
+    } else {
+        rest
+    }
+}
+
 // Are these the next n, or all that are left?
 fn is_next(rest: &[Row], n: u16, rows: &[Row]) -> bool
     ensures { IsTrue result ↔ ((0 < length rest.now) × (rows.now ≡ take (max 1 n) rest.now)) }
 {
-    if rest.is_empty() {
-        return false;
-    }
-    let count = if n == 0 { 1 } else { n as usize };
-    if count < rest.len() {
-        same_rows(rows, &rest[..count])
-    } else {
-        same_rows(rows, rest)
-    }
+    !rest.is_empty() && same_rows(rows, next_of(rest, n))
 }
 
 fn are_keys_of(keys: &[u64], rows: &[Row]) -> bool
@@ -106,15 +110,7 @@ fn are_next_keys(rest: &[Row], n: u16, keys: &[u64]) -> bool
     ensures { IsTrue result
         ↔ ((0 < length rest.now) × (keys.now ≡ keys_of (take (max 1 n) rest.now))) }
 {
-    if rest.is_empty() {
-        return false;
-    }
-    let count = if n == 0 { 1 } else { n as usize };
-    if count < rest.len() {
-        are_keys_of(keys, &rest[..count])
-    } else {
-        are_keys_of(keys, rest)
-    }
+    !rest.is_empty() && are_keys_of(keys, next_of(rest, n))
 }
 
 fn may_hand_rows(cursor: &PlainCursor, n: u16, rows: &[Row]) -> bool
@@ -144,7 +140,7 @@ fn is_none(rest: &[Row]) -> bool
     rest.is_empty()
 }
 
-fn is_over(cursor: &PlainCursor) -> bool
+pub(crate) fn is_over(cursor: &PlainCursor) -> bool
     ensures { IsTrue result ↔ IsOver (cursor_of cursor.now).rest }
 {
     is_none(cursor.rest())

@@ -1,18 +1,22 @@
 //! The judge.
 
 ghost use Rattle.std.specs.Prelude.{◌≡◌, ◌↔◌, IsTrue, IfOk, OnErr};
-ghost use Rattle.history.specs.World.{World, beginning};
+ghost use Rattle.history.specs.World.{beginning};
 ghost use Rattle.refinement.specs.Allowed.{AllowsReply};
+ghost use Rattle.one_answer.specs.OneAnswer.{IsLeftOpen};
 ghost use Rattle.plain_history.specs.Plain.{world_of};
 ghost use Rattle.judge.specs.Rulings.{IsReached, Judges, IsFree, IsFreelyRefused, TakesNoMemory};
+ghost use Rattle.judge.specs.Reasons.{Breaks, TellsDue};
 
 use crate::compare::same_reply;
+use crate::due::answer_to;
 use crate::expect::{
     Expected, expect_for, is_left_open, may_answer_making, may_answer_vacuum_step,
 };
 use crate::follow::follow;
 use crate::handing::{may_answer_next, may_answer_page};
-use calls::{Reply, Step};
+use crate::why::{Why, why_not};
+use calls::{Refusal, Reply, Step};
 use plain_history::PlainHistory;
 use std::alloc::Global;
 use std::marker::Model;
@@ -54,7 +58,7 @@ fn is_allowed(plain: &PlainHistory, step: &Step, reply: &Reply) -> bool
 {
     match step {
         Step::CreateIndex(column) => may_answer_making(plain, *column, reply),
-        Step::VacuumStep => may_answer_vacuum_step(reply),
+        Step::VacuumStep => may_answer_vacuum_step(plain, reply),
         Step::Next(s, n) => may_answer_next(plain, *s, *n, reply),
         Step::TakePage(s, page) => may_answer_page(plain, *s, *page, reply),
         _ => is_plainly_allowed(plain, step, reply),
@@ -69,18 +73,18 @@ fn is_plainly_allowed(plain: &PlainHistory, step: &Step, reply: &Reply) -> bool
 {
     match expect_for(plain, step) {
         Expected::Due(due) => same_reply(&due, reply),
-        Expected::Free => is_free(step, reply),
+        Expected::Free => is_free(plain, step, reply),
     }
 }
 
 // Is it Done, or left open in its place?
-fn is_free(step: &Step, reply: &Reply) -> bool
+fn is_free(plain: &PlainHistory, step: &Step, reply: &Reply) -> bool
     requires { IsFreelyRefused step.now }
-    ensures { (w : World) → IsTrue result ↔ IsFree w step.now reply.now }
+    ensures { IsTrue result ↔ IsFree (world_of plain.now) step.now reply.now }
 {
     match reply {
         Reply::Done => true,
-        Reply::Refused(refusal) => is_left_open(step, *refusal),
+        Reply::Refused(refusal) => is_left_open(plain, step, *refusal),
         _ => false,
     }
 }
@@ -108,6 +112,33 @@ impl Judge {
         ensures { IsTrue result ↔ AllowsReply (world_of self.now) step.now reply.now }
     {
         is_allowed(&self.plain, step, reply)
+    }
+
+    /// An answer to the step that is allowed: there is always one. It wants no memory, so where rows would have to be named it is that
+    /// there is none.
+    pub fn answer(&self, step: &Step) -> Reply
+        ensures { AllowsReply (world_of self.now) step.now result }
+    {
+        answer_to(&self.plain, step)
+    }
+
+    /// Whether the history leaves the refusal open at the step. Who counts these, where the judge allows them, knows how often an engine
+    /// was let off.
+    pub fn leaves_open(&self, step: &Step, refusal: Refusal) -> bool
+        ensures { IsTrue result
+            ↔ IsLeftOpen (world_of self.now) step.now (Reply.Refused refusal) }
+    {
+        is_left_open(&self.plain, step, refusal)
+    }
+
+    /// Which rule an answer breaks that is not allowed, and what is due; nothing is changed.
+    pub fn why(&self, alloc: Global, step: &Step, reply: &Reply) -> Result<Why, NoMemory>
+        requires { ¬ AllowsReply (world_of self.now) step.now reply.now }
+        ensures rule { IfOk result
+            (λ why. Breaks why.rule (world_of self.now) step.now reply.now) }
+        ensures due { IfOk result (λ why. TellsDue (world_of self.now) step.now why.due) }
+    {
+        why_not(alloc, &self.plain, step, reply)
     }
 
     /// Whether the answer to the step is allowed. Then the history goes on by it; else it is as it was.

@@ -3,10 +3,15 @@
 
 mod all;
 mod compare;
+mod due;
 mod expect;
 mod follow;
 mod handing;
 mod judge;
+pub mod laws;
+mod why;
 
 pub use all::judge_all;
+pub use due::Due;
 pub use judge::{Judge, NoMemory, Ruling};
+pub use why::{Rule, Why};

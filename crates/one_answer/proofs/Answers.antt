@@ -6,7 +6,7 @@ use Rattle.tuple_header.specs.declared.version.Row.{Row}
 use Rattle.tuple_header.specs.declared.version.TheConstants.{MOST_BODY}
 use Rattle.history.specs.History.{IsLate}
 use Rattle.history.specs.World.{World, OpenSession, start_now, view, Holds, ClosesRing}
-use Rattle.history.specs.Laws.{HeldOnce}
+use Rattle.history.specs.Laws.{HasFew, HeldOnce}
 use Rattle.calls.specs.declared.step.Step.{Step}
 use Rattle.calls.specs.declared.step.Step.TheVariants as step
 use Rattle.calls.specs.declared.reply.Reply.{Reply}
@@ -17,7 +17,6 @@ use Rattle.calls.specs.Words.{RowToWrite, FitsRow}
 use Rattle.calls.specs.Writes.{WriteStep, inserts, updates, deletes, key_of, IsPut, Asks}
 use Rattle.refinement.specs.Allowed.{Suits, AllowsHindered, AllowsWrite, AllowsReply}
 use Rattle.one_answer.specs.OneAnswer.{IsLeftOpen}
-use Rattle.one_answer.proofs.Few.{HasFew}
 use Rattle.one_answer.proofs.Tests.{Agrees, same_of, not_both, Or, agree-or, Last, agree-last, AsFree, agree-free, barred_free, past_free}
 
 -- Writes.

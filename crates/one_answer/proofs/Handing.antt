@@ -1,11 +1,12 @@
 -- What a cursor hands out, and the steps that clean and name more than a number.
-use Rattle.std.proofs.Common.{◌≡◌, ℕ, zero, ◌<◌, List, [], ◌∷◌, length, Option, Some, refl, sym, ap, ◌∙◌, subst, arith, ◌⊎◌, inl, inr}
+use Rattle.std.proofs.Common.{◌≡◌, ℕ, zero, ◌<◌, List, [], ◌∷◌, length, Option, Some, true, false, refl, sym, ap, ◌∙◌, subst, arith, ◌⊎◌, inl, inr}
 use Rattle.std.specs.Prelude.{IsSome}
 use Rattle.std.specs.Global.{Vec}
 use Rattle.std.proofs.lemmas.Option.{none-some, same_Some}
 use Rattle.tuple_header.specs.declared.version.Row.{Row}
 use Rattle.history.specs.World.{World, OpenSession, Cursor, Order, by_index, by_heap, by_keys}
 use Rattle.history.specs.Cursors.{IsOver, ArePart, HandsOutPart, HandsOutKeys, keys_of}
+use Rattle.history.specs.Laws.{HasFew}
 use Rattle.calls.specs.declared.step.Step.TheVariants as step
 use Rattle.calls.specs.declared.vacuum.Mode.{Mode}
 use Rattle.calls.specs.Words.{PlanToApply}
@@ -14,10 +15,9 @@ use Rattle.calls.specs.declared.reply.Reply.TheVariants as reply
 use Rattle.calls.specs.declared.reply.Refusal.TheVariants as refusal
 use Rattle.refinement.specs.Allowed.{Allows, AllowsReply}
 use Rattle.one_answer.specs.OneAnswer.{TellTheSame, IsLeftOpen}
-use Rattle.one_answer.proofs.Few.{HasFew}
 use Rattle.one_answer.proofs.Fronts.{one_next}
-use Rattle.one_answer.proofs.Tests.{IsTaken, Agrees, same_of, left_taken, Last, WithCursor, agree-with_cursor, barred_with_cursor, past_with_cursor}
-use Rattle.one_answer.proofs.Others.{by_tests, done}
+use Rattle.one_answer.proofs.Tests.{IsTaken, Agrees, same_of, left_taken, Or, agree-or, Last, Only, agree-only, WithCursor, agree-with_cursor, barred_with_cursor, past_with_cursor}
+use Rattle.one_answer.proofs.Others.{by_tests, done, not_both_runs}
 
 rows_once : (order : Order) (n : ℕ) (rest : ℕ → Option Row) (r q : List Row) → HandsOutPart order n rest r → HandsOutPart order n rest q → (r ≡ q) ⊎ (order ≡ by_heap)
 rows_once (by_index index) n rest r q hands hands' = inl (one_next index n rest r q hands hands')
@@ -115,10 +115,14 @@ agree-apply_plan w p plan = by_tests w (step.ApplyPlan p plan) (Last w (step.App
     answers _ is = absurd is
 
 pub agree-vacuum_begin : (w : World) (mode : Mode) → Agrees w (step.VacuumBegin mode) (AllowsReply w (step.VacuumBegin mode))
-agree-vacuum_begin w mode = by_tests w (step.VacuumBegin mode) (Last w (step.VacuumBegin mode) reply.Done) tt (done w (step.VacuumBegin mode)) answers
+agree-vacuum_begin w mode = by_tests w (step.VacuumBegin mode) tests tt
+    (agree-or w (step.VacuumBegin mode) (w.has_vacuum ≡ true) (w.has_vacuum ≡ false) (reply.Refused refusal.VacuumRunning) (Only reply.Done) (λ runs idle. not_both_runs w.has_vacuum idle runs)
+    (agree-only w (step.VacuumBegin mode) reply.Done)) answers
   where
-    answers : (a : Reply) → Allows w (step.VacuumBegin mode) a → Last w (step.VacuumBegin mode) reply.Done a
-    answers reply.Done is = inl refl
-    answers (reply.Refused refusal.VacuumRunning) is = inr tt
-    answers (reply.Refused refusal.NoMemory) is = inr tt
+    tests : Reply → Type 0
+    tests a = Or (w.has_vacuum ≡ true) (w.has_vacuum ≡ false) (reply.Refused refusal.VacuumRunning) (Only reply.Done) a
+
+    answers : (a : Reply) → Allows w (step.VacuumBegin mode) a → tests a
+    answers reply.Done is = inr (is, refl)
+    answers (reply.Refused refusal.VacuumRunning) is = inl (is, refl)
     answers _ is = absurd is

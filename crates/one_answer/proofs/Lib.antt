@@ -1,4 +1,3 @@
-pub mod Few
 pub mod Tests
 pub mod Answers
 pub mod Others

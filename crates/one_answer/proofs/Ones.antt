@@ -1,16 +1,16 @@
 -- Each step has one answer, but for what is left open.
 use Rattle.std.proofs.Common.{List, Bool, refl, inl, inr}
 use Rattle.history.specs.World.{World, beginning}
-use Rattle.history.specs.Laws.{HeldOnce}
+use Rattle.history.specs.Laws.{HasFew, HeldOnce}
 use Rattle.history.specs.Events.{StepsReach, stays}
 use Rattle.history.proofs.RunLemmas.{Lawful-run, Lawful-beginning}
+use Rattle.history.proofs.FewLemmas.{few-run}
 use Rattle.calls.specs.declared.step.Step.{Step}
 use Rattle.calls.specs.declared.step.Step.TheVariants as step
 use Rattle.calls.specs.declared.reply.Reply.{Reply}
 use Rattle.refinement.specs.Allowed.{AllowsReply, IsRun, after}
 use Rattle.refinement.proofs.Runs.{leads}
 use Rattle.one_answer.specs.OneAnswer.{TellTheSame, IsDue, IsLeftOpen, HasOneAnswer}
-use Rattle.one_answer.proofs.Few.{HasFew, few-run}
 use Rattle.one_answer.proofs.Tests.{Agree, Agrees, not_due}
 use Rattle.one_answer.proofs.Answers.{agree-insert, agree-update, agree-delete}
 use Rattle.one_answer.proofs.Others.{agree-begin, agree-begin_read_committed, agree-get, agree-savepoint, agree-rollback_to, agree-release, agree-commit, agree-abort, agree-open_index, agree-open_heap, agree-open_keys, agree-close, agree-take_page, agree-prune, agree-vacuum_step, agree-vacuum_cancel, agree-create_index}

@@ -1,10 +1,11 @@
 -- The same of the steps that write no key.
-use Rattle.std.proofs.Common.{◌≡◌, ℕ, ◌<◌, ◌≤◌, Option, None, true, false, refl, sym, ap, ◌∙◌, subst, arith, inl, inr}
+use Rattle.std.proofs.Common.{◌≡◌, ℕ, suc, ◌<◌, ◌≤◌, Option, None, Bool, true, false, refl, sym, ap, ◌∙◌, subst, arith, inl, inr}
 use Rattle.std.specs.Prelude.{IsSome, ℤ, ◌<ℤ◌, ◌≤ℤ◌}
 use Rattle.std.proofs.lemmas.Int.{ints}
 use Rattle.tuple_header.specs.declared.version.Row.{Row}
 use Rattle.snapshot.specs.declared.own.TheConstants.{MOST_SAVEPOINTS}
 use Rattle.history.specs.World.{World, OpenSession, view}
+use Rattle.history.specs.Laws.{HasFew}
 use Rattle.calls.specs.declared.step.Step.{Step}
 use Rattle.calls.specs.declared.step.Step.TheVariants as step
 use Rattle.calls.specs.declared.step.TheConstants.{MOST_SESSIONS}
@@ -13,7 +14,6 @@ use Rattle.calls.specs.declared.reply.Reply.TheVariants as reply
 use Rattle.calls.specs.declared.reply.Refusal.TheVariants as refusal
 use Rattle.refinement.specs.Allowed.{savepoints, Allows, AllowsReply}
 use Rattle.one_answer.specs.OneAnswer.{IsLeftOpen}
-use Rattle.one_answer.proofs.Few.{HasFew}
 use Rattle.one_answer.proofs.Tests.{Agrees, left_taken, not_both, Or, agree-or, Last, agree-last, Only, agree-only, Opened, opened, agree-opened, bare, agree-bare, AsReady, AsFree, WithCursor, agree-ready, agree-free, agree-with_cursor, barred_open, barred_ready, barred_free, barred_with_cursor, past_ready, past_free, past_with_cursor}
 
 -- It writes no key, so it is never Busy, and waits play no part.
@@ -94,11 +94,11 @@ agree-get w s k few = by_tests w (step.Get s k) (AsReady w s rest) tt (agree-rea
 
 pub agree-savepoint : (w : World) (s : ℕ) → HasFew w → Agrees w (step.Savepoint s) (AllowsReply w (step.Savepoint s))
 agree-savepoint w s few = by_tests w (step.Savepoint s) (AsFree w s rest) tt (agree-free w (step.Savepoint s) s rest few (λ m at.
-    agree-or w (step.Savepoint s) (savepoints m ≡ MOST_SAVEPOINTS) (savepoints m < MOST_SAVEPOINTS) (reply.Refused refusal.TooDeep) (Last w (step.Savepoint s) reply.Done)
+    agree-or w (step.Savepoint s) (MOST_SAVEPOINTS ≤ savepoints m) (savepoints m < MOST_SAVEPOINTS) (reply.Refused refusal.TooDeep) (Last w (step.Savepoint s) reply.Done)
     (λ full room. omega arith) (done w (step.Savepoint s)))) answers
   where
     rest : OpenSession → Reply → Type 0
-    rest m a = Or (savepoints m ≡ MOST_SAVEPOINTS) (savepoints m < MOST_SAVEPOINTS) (reply.Refused refusal.TooDeep) (Last w (step.Savepoint s) reply.Done) a
+    rest m a = Or (MOST_SAVEPOINTS ≤ savepoints m) (savepoints m < MOST_SAVEPOINTS) (reply.Refused refusal.TooDeep) (Last w (step.Savepoint s) reply.Done) a
 
     answers : (a : Reply) → Allows w (step.Savepoint s) a → AsFree w s rest a
     answers reply.Done is = past_free w s rest is.0 reply.Done is.1 (inr (is.2, inl refl))
@@ -189,7 +189,7 @@ agree-open_index w s index low high few = by_tests w it (AsFree w s rest) tt (ag
     answers (reply.Refused refusal.NoSuchIndex) is = past_free w s rest is.0 (reply.Refused refusal.NoSuchIndex) is.1 (inl (is.2, refl))
     answers (reply.Refused refusal.IndexTooNew) is = past_free w s rest is.0 (reply.Refused refusal.IndexTooNew) is.1 (inr (is.2, inl (is.3, refl)))
     answers (reply.Refused refusal.BadBounds) is = past_free w s rest is.0 (reply.Refused refusal.BadBounds) is.1 (inr (is.2.0, inr (is.2.1, inl (is.3, refl))))
-    answers (reply.Refused refusal.NoMemory) is = past_free w s rest is.0 (reply.Refused refusal.NoMemory) is.1 (inr (is.2.0, inr (is.2.1, inr (is.3, inr tt))))
+    answers (reply.Refused refusal.NoMemory) is = past_free w s rest is.0 (reply.Refused refusal.NoMemory) is.1 (inr (is.2.0, inr (is.2.1, inr (is.3, inr (is.0, is.1.ready.there, is.4)))))
     answers (reply.Refused r) is = barred_free w s rest r is
     answers _ is = absurd is
 
@@ -201,7 +201,7 @@ agree-open_heap w s few = by_tests w (step.OpenHeap s) (AsFree w s rest) tt (agr
 
     answers : (a : Reply) → Allows w (step.OpenHeap s) a → AsFree w s rest a
     answers reply.Done is = past_free w s rest is.0 reply.Done is.1 (inl refl)
-    answers (reply.Refused refusal.NoMemory) is = past_free w s rest is.0 (reply.Refused refusal.NoMemory) is.1 (inr tt)
+    answers (reply.Refused refusal.NoMemory) is = past_free w s rest is.0 (reply.Refused refusal.NoMemory) is.1 (inr (is.0, is.1.ready.there, is.2))
     answers (reply.Refused r) is = barred_free w s rest r is
     answers _ is = absurd is
 
@@ -218,7 +218,7 @@ agree-open_keys w s low high few = by_tests w it (AsFree w s rest) tt (agree-fre
     answers : (a : Reply) → Allows w it a → AsFree w s rest a
     answers reply.Done is = past_free w s rest is.0 reply.Done is.1 (inr (is.2, inl refl))
     answers (reply.Refused refusal.BadBounds) is = past_free w s rest is.0 (reply.Refused refusal.BadBounds) is.1 (inl (is.2, refl))
-    answers (reply.Refused refusal.NoMemory) is = past_free w s rest is.0 (reply.Refused refusal.NoMemory) is.1 (inr (is.2, inr tt))
+    answers (reply.Refused refusal.NoMemory) is = past_free w s rest is.0 (reply.Refused refusal.NoMemory) is.1 (inr (is.2, inr (is.0, is.1.ready.there, is.3)))
     answers (reply.Refused r) is = barred_free w s rest r is
     answers _ is = absurd is
 
@@ -256,38 +256,54 @@ agree-prune w p = by_tests w (step.Prune p) (Last w (step.Prune p) reply.Done) t
     answers : (a : Reply) → Allows w (step.Prune p) a → Last w (step.Prune p) reply.Done a
     answers reply.Done is = inl refl
     answers (reply.Refused refusal.NoSuchPage) is = inr tt
-    answers (reply.Refused refusal.NoMemory) is = inr tt
     answers _ is = absurd is
 
+-- whether a vacuum runs
+abbrev pub Idles : World → (Reply → Type 0) → Reply → Type 0
+Idles w rest a = Or (w.has_vacuum ≡ false) (w.has_vacuum ≡ true) (reply.Refused refusal.NoVacuum) rest a
+
+pub not_both_runs : (runs : Bool) → runs ≡ false → runs ≡ true → ⊥
+not_both_runs runs idle is = let never : false ≡ true = sym idle ∙ is in absurd (cc)
+
+agree-idles : (w : World) (step : Step) (rest : Reply → Type 0) → Agrees w step rest → Agrees w step (Idles w rest)
+agree-idles w step rest agree = agree-or w step (w.has_vacuum ≡ false) (w.has_vacuum ≡ true) (reply.Refused refusal.NoVacuum) rest (not_both_runs w.has_vacuum) agree
+
 pub agree-vacuum_step : (w : World) → Agrees w step.VacuumStep (AllowsReply w step.VacuumStep)
-agree-vacuum_step w = by_tests w step.VacuumStep (IsLeftOpen w step.VacuumStep) tt (agree-left w step.VacuumStep) answers
+agree-vacuum_step w = by_tests w step.VacuumStep (Idles w (IsLeftOpen w step.VacuumStep)) tt (agree-idles w step.VacuumStep (IsLeftOpen w step.VacuumStep) (agree-left w step.VacuumStep)) answers
   where
-    answers : (a : Reply) → Allows w step.VacuumStep a → IsLeftOpen w step.VacuumStep a
-    answers (reply.Worked piece) is = tt
-    answers (reply.Ended first) is = tt
-    answers (reply.Refused refusal.NoVacuum) is = tt
-    answers (reply.Refused refusal.NoMemory) is = tt
+    answers : (a : Reply) → Allows w step.VacuumStep a → Idles w (IsLeftOpen w step.VacuumStep) a
+    answers (reply.Worked piece) is = inr (is, tt)
+    answers (reply.Ended first) is = inr (is, tt)
+    answers (reply.Refused refusal.NoVacuum) is = inl (is, refl)
     answers _ is = absurd is
 
 pub agree-vacuum_cancel : (w : World) → Agrees w step.VacuumCancel (AllowsReply w step.VacuumCancel)
-agree-vacuum_cancel w = by_tests w step.VacuumCancel (Last w step.VacuumCancel reply.Done) tt (done w step.VacuumCancel) answers
+agree-vacuum_cancel w = by_tests w step.VacuumCancel (Idles w (Only reply.Done)) tt (agree-idles w step.VacuumCancel (Only reply.Done) (agree-only w step.VacuumCancel reply.Done)) answers
   where
-    answers : (a : Reply) → Allows w step.VacuumCancel a → Last w step.VacuumCancel reply.Done a
-    answers reply.Done is = inl refl
-    answers (reply.Refused refusal.NoVacuum) is = inr tt
+    answers : (a : Reply) → Allows w step.VacuumCancel a → Idles w (Only reply.Done) a
+    answers reply.Done is = inr (is, refl)
+    answers (reply.Refused refusal.NoVacuum) is = inl (is, refl)
     answers _ is = absurd is
 
 pub agree-create_index : (w : World) (c : ℕ) → Agrees w (step.CreateIndex c) (AllowsReply w (step.CreateIndex c))
 agree-create_index w c = by_tests w (step.CreateIndex c) tests tt
-    (agree-or w (step.CreateIndex c) (3 < c) (c < 4) (reply.Refused refusal.NoSuchIndex) (Last w (step.CreateIndex c) reply.Done) (λ far near. omega arith) (done w (step.CreateIndex c))) answers
+    (agree-or w (step.CreateIndex c) (3 < c) (c < 4) (reply.Refused refusal.NoSuchIndex) (Or IsBarred (¬ IsBarred) (reply.Refused refusal.VacuumRunning) (Last w (step.CreateIndex c) reply.Done)) (λ far near. omega arith)
+    (agree-or w (step.CreateIndex c) IsBarred (¬ IsBarred) (reply.Refused refusal.VacuumRunning) (Last w (step.CreateIndex c) reply.Done) (λ barred isnt. isnt barred) (done w (step.CreateIndex c)))) answers
   where
+    -- the index would be made, and a vacuum runs
+    IsBarred : Type 0
+    IsBarred = (w.has_index (suc c) ≡ false) × (w.has_vacuum ≡ true)
+
     tests : Reply → Type 0
-    tests a = Or (3 < c) (c < 4) (reply.Refused refusal.NoSuchIndex) (Last w (step.CreateIndex c) reply.Done) a
+    tests a = Or (3 < c) (c < 4) (reply.Refused refusal.NoSuchIndex) (Or IsBarred (¬ IsBarred) (reply.Refused refusal.VacuumRunning) (Last w (step.CreateIndex c) reply.Done)) a
+
+    not_barred : w.has_vacuum ≡ false → ¬ IsBarred
+    not_barred idle barred = not_both_runs w.has_vacuum idle barred.1
 
     answers : (a : Reply) → Allows w (step.CreateIndex c) a → tests a
-    answers reply.Done is = inr (is.0, inl refl)
+    answers reply.Done is = inr (is.0.0, inr (λ barred. not_both_runs w.has_vacuum (is.1 barred.0) barred.1, inl refl))
     answers (reply.Refused refusal.NoSuchIndex) is = inl (is, refl)
-    answers (reply.Refused refusal.VacuumRunning) is = inr (is.0, inr tt)
-    answers (reply.Refused refusal.IndexBusy) is = inr (is.0, inr tt)
-    answers (reply.Refused refusal.NoMemory) is = inr (is.0, inr tt)
+    answers (reply.Refused refusal.VacuumRunning) is = inr (is.0.0, inl ((is.0.1, is.1), refl))
+    answers (reply.Refused refusal.IndexBusy) is = inr (is.0.0, inr (not_barred is.1, inr is.2))
+    answers (reply.Refused refusal.NoMemory) is = inr (is.0.0, inr (not_barred is.1, inr tt))
     answers _ is = absurd is

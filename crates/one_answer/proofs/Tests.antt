@@ -3,6 +3,7 @@ use Rattle.std.proofs.Common.{◌≡◌, ℕ, ◌<◌, ◌≤◌, Option, Some, 
 use Rattle.std.specs.Prelude.{IsSome}
 use Rattle.std.proofs.lemmas.Option.{none-some, same_Some}
 use Rattle.history.specs.World.{World, OpenSession, IsReady, IsWriter, world_sessions}
+use Rattle.history.specs.Laws.{HasFew}
 use Rattle.calls.specs.declared.step.Step.{Step}
 use Rattle.calls.specs.declared.step.Step.TheVariants as step
 use Rattle.calls.specs.declared.step.TheConstants.{MOST_SESSIONS}
@@ -12,7 +13,6 @@ use Rattle.calls.specs.declared.reply.Refusal.{Refusal}
 use Rattle.calls.specs.declared.reply.Refusal.TheVariants as refusal
 use Rattle.calls.specs.Bars.{BarsOpen, BarsReady, BarsFree, BarsWithCursor}
 use Rattle.one_answer.specs.OneAnswer.{TellTheSame, IsOfTheEngine, IsDue, IsLeftOpen}
-use Rattle.one_answer.proofs.Few.{HasFew}
 
 -- something may be left open beside it
 abbrev pub IsTaken : Reply → Type 0
@@ -67,17 +67,10 @@ left_taken w (step.TakePage s p) (reply.Rows rows) is = tt
 left_taken w (step.TakePage s p) (reply.Refused refusal.NoSuchPage) is = tt
 left_taken w (step.TakePage s p) (reply.Refused refusal.NoMemory) is = tt
 left_taken w (step.Prune p) (reply.Refused refusal.NoSuchPage) is = tt
-left_taken w (step.Prune p) (reply.Refused refusal.NoMemory) is = tt
 left_taken w (step.ApplyPlan p plan) (reply.Refused refusal.NoSuchPage) is = tt
 left_taken w (step.ApplyPlan p plan) (reply.Refused refusal.Stale) is = tt
-left_taken w (step.VacuumBegin mode) (reply.Refused refusal.VacuumRunning) is = tt
-left_taken w (step.VacuumBegin mode) (reply.Refused refusal.NoMemory) is = tt
 left_taken w step.VacuumStep (reply.Worked piece) is = tt
 left_taken w step.VacuumStep (reply.Ended first) is = tt
-left_taken w step.VacuumStep (reply.Refused refusal.NoVacuum) is = tt
-left_taken w step.VacuumStep (reply.Refused refusal.NoMemory) is = tt
-left_taken w step.VacuumCancel (reply.Refused refusal.NoVacuum) is = tt
-left_taken w (step.CreateIndex c) (reply.Refused refusal.VacuumRunning) is = tt
 left_taken w (step.CreateIndex c) (reply.Refused refusal.IndexBusy) is = tt
 left_taken w (step.CreateIndex c) (reply.Refused refusal.NoMemory) is = tt
 left_taken w _ _ is = absurd is

@@ -1,6 +1,6 @@
 -- What is allowed at a step is one answer, but for what the history leaves open.
-use Rattle.std.specs.Prelude.{◌≡◌, ℕ, List, Bool, Some}
-use Rattle.history.specs.World.{World, OpenSession, Cursor, by_heap, beginning, LacksIndex}
+use Rattle.std.specs.Prelude.{◌≡◌, ℕ, List, Bool, false, Some}
+use Rattle.history.specs.World.{World, OpenSession, Cursor, by_heap, by_statement, beginning, IsSomeoneOpen, LacksIndex}
 use Rattle.calls.specs.declared.step.Step.{Step}
 use Rattle.calls.specs.declared.step.Step.TheVariants as step
 use Rattle.calls.specs.declared.reply.Reply.{Reply}
@@ -19,9 +19,13 @@ TellTheSame a b = a ≡ b
 abbrev pub HasHeapCursor : World → ℕ → Type 0
 HasHeapCursor w s = (m : OpenSession) × (c : Cursor) × (w.session s ≡ Some m) × (m.cursor ≡ Some c) × (c.order ≡ by_heap)
 
+-- the session reads by statement: each cursor of it keeps a snapshot of its own
+abbrev pub IsOpenByStatement : World → ℕ → Type 0
+IsOpenByStatement w s = (m : OpenSession) × (w.session s ≡ Some m) × (m.isolation ≡ by_statement)
+
 -- What the history leaves open, for it does not know of it: memory, ids, room, which pages there are and which rows are on one,
--- which of its rows a heap cursor hands out next, what a vacuum does and whether one runs, and which sessions have an id. At the
--- steps that are not named nothing is
+-- which of its rows a heap cursor hands out next, what a vacuum does and when it ends, and which of the open sessions have an id. At
+-- the steps that are not named nothing is
 abbrev pub IsLeftOpen : World → Step → Reply → Type 0
 IsLeftOpen w (step.Begin s) (reply.Refused refusal.NoMemory) = Unit {0}
 IsLeftOpen w (step.Insert s row) (reply.Refused refusal.NeedsFreeze) = Unit {0}
@@ -33,27 +37,20 @@ IsLeftOpen w (step.Update s row) (reply.Refused refusal.NoMemory) = Unit {0}
 IsLeftOpen w (step.Delete s k) (reply.Refused refusal.NeedsFreeze) = Unit {0}
 IsLeftOpen w (step.Delete s k) (reply.Refused refusal.NoMemory) = Unit {0}
 IsLeftOpen w (step.Savepoint s) (reply.Refused refusal.NoMemory) = Unit {0}
-IsLeftOpen w (step.OpenIndex s index low high) (reply.Refused refusal.NoMemory) = Unit {0}
-IsLeftOpen w (step.OpenHeap s) (reply.Refused refusal.NoMemory) = Unit {0}
-IsLeftOpen w (step.OpenKeys s low high) (reply.Refused refusal.NoMemory) = Unit {0}
+IsLeftOpen w (step.OpenIndex s index low high) (reply.Refused refusal.NoMemory) = IsOpenByStatement w s
+IsLeftOpen w (step.OpenHeap s) (reply.Refused refusal.NoMemory) = IsOpenByStatement w s
+IsLeftOpen w (step.OpenKeys s low high) (reply.Refused refusal.NoMemory) = IsOpenByStatement w s
 IsLeftOpen w (step.Next s n) (reply.Rows rows) = HasHeapCursor w s
 IsLeftOpen w (step.Next s n) (reply.Refused refusal.NoMemory) = Unit {0}
 IsLeftOpen w (step.TakePage s p) (reply.Rows rows) = Unit {0}
 IsLeftOpen w (step.TakePage s p) (reply.Refused refusal.NoSuchPage) = Unit {0}
 IsLeftOpen w (step.TakePage s p) (reply.Refused refusal.NoMemory) = Unit {0}
 IsLeftOpen w (step.Prune p) (reply.Refused refusal.NoSuchPage) = Unit {0}
-IsLeftOpen w (step.Prune p) (reply.Refused refusal.NoMemory) = Unit {0}
 IsLeftOpen w (step.ApplyPlan p plan) (reply.Refused refusal.NoSuchPage) = Unit {0}
 IsLeftOpen w (step.ApplyPlan p plan) (reply.Refused refusal.Stale) = Unit {0}
-IsLeftOpen w (step.VacuumBegin mode) (reply.Refused refusal.VacuumRunning) = Unit {0}
-IsLeftOpen w (step.VacuumBegin mode) (reply.Refused refusal.NoMemory) = Unit {0}
 IsLeftOpen w step.VacuumStep (reply.Worked piece) = Unit {0}
 IsLeftOpen w step.VacuumStep (reply.Ended first) = Unit {0}
-IsLeftOpen w step.VacuumStep (reply.Refused refusal.NoVacuum) = Unit {0}
-IsLeftOpen w step.VacuumStep (reply.Refused refusal.NoMemory) = Unit {0}
-IsLeftOpen w step.VacuumCancel (reply.Refused refusal.NoVacuum) = Unit {0}
-IsLeftOpen w (step.CreateIndex c) (reply.Refused refusal.VacuumRunning) = Unit {0}
-IsLeftOpen w (step.CreateIndex c) (reply.Refused refusal.IndexBusy) = Unit {0}
+IsLeftOpen w (step.CreateIndex c) (reply.Refused refusal.IndexBusy) = IsSomeoneOpen w
 IsLeftOpen w (step.CreateIndex c) (reply.Refused refusal.NoMemory) = Unit {0}
 IsLeftOpen w step reply = ⊥
 
@@ -64,8 +61,6 @@ IsOfTheEngine refusal.NoRoom = Unit {0}
 IsOfTheEngine refusal.NoMemory = Unit {0}
 IsOfTheEngine refusal.NoSuchPage = Unit {0}
 IsOfTheEngine refusal.Stale = Unit {0}
-IsOfTheEngine refusal.VacuumRunning = Unit {0}
-IsOfTheEngine refusal.NoVacuum = Unit {0}
 IsOfTheEngine refusal.IndexBusy = Unit {0}
 IsOfTheEngine refusal = ⊥
 
@@ -94,6 +89,7 @@ MakesNone (step.CreateIndex c) = ⊥
 MakesNone step = Unit {0}
 
 -- It is open indeed. Where a step may be done, each refusal that is left open may be answered; and so it may where an index is lacking
+-- and no vacuum runs
 pub record IsOpenIndeed (w : World) : Type 0 where
   pub done : (step : Step) (r : Refusal) → MakesNone step → AllowsReply w step reply.Done → IsLeftOpen w step (reply.Refused r) → AllowsReply w step (reply.Refused r)
-  pub lacking : (c : ℕ) (r : Refusal) → LacksIndex w c → IsLeftOpen w (step.CreateIndex c) (reply.Refused r) → AllowsReply w (step.CreateIndex c) (reply.Refused r)
+  pub lacking : (c : ℕ) (r : Refusal) → LacksIndex w c → w.has_vacuum ≡ false → IsLeftOpen w (step.CreateIndex c) (reply.Refused r) → AllowsReply w (step.CreateIndex c) (reply.Refused r)

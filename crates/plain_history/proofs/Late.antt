@@ -1,10 +1,11 @@
 -- Looking for a late transaction.
-use Rattle.std.proofs.Common.{◌≡◌, ℕ, ◌+◌, ◌<◌, ◌≤◌, List, length, get_or, slice_get, Option, Some, Bool, true, false, refl, sym, ap, ◌∙◌, subst, arith, inl, inr}
+use Rattle.std.proofs.Common.{◌≡◌, ℕ, zero, ◌+◌, ◌-◌, ◌<◌, ◌≤◌, List, length, get_or, slice_get, Option, Some, Bool, true, false, refl, sym, ap, ◌∙◌, subst, arith, inl, inr}
 use Rattle.std.specs.Prelude.{IsSome, IsTrue, ◌↔◌}
 use Rattle.std.specs.Option.{is_some}
-use Rattle.std.proofs.lemmas.Bool.{cases_eq}
+use Rattle.std.proofs.lemmas.Bool.{cases_eq, cases_lt}
 use Rattle.std.proofs.lemmas.Option.{slice_get_read, slice_get_within, same_Some}
 use Rattle.history.specs.History.{Transaction, written, IsLate}
+use Rattle.history.proofs.HistoryLemmas.{IsLate-now}
 use Rattle.plain_history.proofs.Sessions.{wrote_some, less}
 
 -- the test of an option that equals another
@@ -45,3 +46,26 @@ pub late_here : (history : List Transaction) (start key n : ℕ) (x : Transactio
     → IsTrue true ↔ IsLate history start key
 late_here history start key n x within is le wrote =
     (λ yes. (n, x, le, slice_get_read history (length history) n x refl within is, wrote), λ late. refl)
+
+-- The last that wrote the key, looked for from the end on.
+
+pub none_after : (history : List Transaction) (key later : ℕ) (x : Transaction) (answer : Bool) → later < length history → x ≡ get_or history (length history - later - 1) x → answer ≡ false
+    → (IsSome (written x key) → IsTrue answer) → ¬ IsLate history (length history - later) key → ¬ IsLate history (length history - (later + 1)) key
+none_after history key later x answer within is isnt says none (n, t, le, at, wrote) = elim (cases_lt n (length history - later)) [
+  | inl lt ↦ (let here : length history - later - 1 ≡ n = omega (arith, lt, le, within) in
+      none_here history zero key n x answer (omega (arith, lt)) (subst (λ i. x ≡ get_or history i x) here is) isnt says t at (omega arith) wrote)
+  | inr ge ↦ none (n, t, ge, at, wrote)
+]
+
+pub last_here : (history : List Transaction) (key later : ℕ) (x : Transaction) → later < length history → x ≡ get_or history (length history - later - 1) x → IsSome (written x key)
+    → ¬ IsLate history (length history - later) key → IsLate history (length history - later - 1) key × (¬ IsLate history (length history - later - 1 + 1) key)
+last_here history key later x within is wrote none = (
+  (length history - later - 1, x, omega arith, slice_get_read history (length history) (length history - later - 1) x refl (omega (arith, within)) is, wrote),
+  λ late. none (subst (λ i. IsLate history i key) (omega (arith, within)) late),
+)
+
+pub none_beyond : (history : List Transaction) (key : ℕ) → ¬ IsLate history (length history - 0) key
+none_beyond history key late = IsLate-now history key (subst (λ i. IsLate history i key) (omega arith) late)
+
+pub none_wrote : (history : List Transaction) (key later : ℕ) → length history ≤ later → ¬ IsLate history (length history - later) key → ¬ IsLate history 0 key
+none_wrote history key later all none late = none (subst (λ i. IsLate history i key) (omega (arith, all)) late)

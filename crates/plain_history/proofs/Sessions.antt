@@ -6,7 +6,7 @@ use Rattle.std.proofs.lemmas.Bool.{cases_eq, cases_lt}
 use Rattle.std.proofs.lemmas.Option.{slice_get_read, slice_get_past, same_Some, none-some}
 use Rattle.plain_history.specs.declared.plain.PlainSession.{PlainSession}
 use Rattle.tuple_header.specs.declared.version.Row.{Row}
-use Rattle.history.specs.World.{OpenSession, own_write}
+use Rattle.history.specs.World.{World, OpenSession, own_write, by_statement, IsSomeoneOpen}
 use Rattle.plain_history.specs.Plain.{open_of, session_in}
 
 pub session_in-read : (sessions : List (Option PlainSession)) (o : ℕ) (x : Option PlainSession) → o < length sessions → x ≡ get_or sessions o x
@@ -62,3 +62,29 @@ pub holder_not : (sessions : List (Option PlainSession)) (key o : ℕ) (x : Opti
     → (m : OpenSession) → session_in sessions o ≡ Some m → IsSome (own_write m key) → ⊥
 holder_not sessions key o x result within is isnt says m at wrote =
     let yes : result ≡ true = says (m, sym (session_in-read sessions o x within is) ∙ at, wrote) in absurd (let never : false ≡ true = sym isnt ∙ yes in cc)
+
+-- whether the open session reads by statement
+pub by_statement_says : (o : Option OpenSession) (m : OpenSession) (answer : Bool) → o ≡ Some m → (IsTrue answer ↔ (m.isolation ≡ by_statement))
+    → IsTrue answer ↔ ((n : OpenSession) × (o ≡ Some n) × (n.isolation ≡ by_statement))
+by_statement_says o m answer at says = (
+  λ yes. (m, at, says.0 yes),
+  λ (n, at', by). says.1 (subst (λ (k : OpenSession). k.isolation ≡ by_statement) (same_Some n m (sym at' ∙ at)) by),
+)
+
+pub nobody_says : (o : Option OpenSession) → o ≡ None → IsTrue false ↔ ((n : OpenSession) × (o ≡ Some n) × (n.isolation ≡ by_statement))
+nobody_says o idle = (λ yes. absurd (cc), λ (n, at, by). absurd (none-some n (sym idle ∙ at)))
+
+-- somebody is open
+some_open : (o : Option OpenSession) → is_some o ≡ true → (m : OpenSession) × (o ≡ Some m)
+some_open None is = absurd (cc)
+some_open (Some m) is = (m, refl)
+
+open_some : (o : Option OpenSession) (m : OpenSession) → o ≡ Some m → is_some o ≡ true
+open_some o m at = ap is_some at
+
+pub someone_says : (w : World) (sessions : List (Option PlainSession)) (answer : Bool) → session_in sessions ≡ w.session → (IsTrue answer ↔ ((s : ℕ) × (is_some (session_in sessions s) ≡ true)))
+    → IsTrue answer ↔ IsSomeoneOpen w
+someone_says w sessions answer same says = (
+  λ yes. (let found = says.0 yes in let open_ = some_open (w.session found.0) (subst (λ (f : ℕ → Option OpenSession). is_some (f found.0) ≡ true) same found.1) in (found.0, open_.0, open_.1)),
+  λ (s, m, at). says.1 (s, subst (λ (f : ℕ → Option OpenSession). is_some (f s) ≡ true) (sym same) (open_some (w.session s) m at)),
+)

@@ -18,7 +18,7 @@ use Rattle.plain_history.proofs.Sessions.{session_in-read}
 use Rattle.history.proofs.HistoryLemmas.{at_same, at_other}
 
 abbrev world : Plain → (ℕ → Option OpenSession) → (ℕ → Option ℕ) → World
-world p session waits = record { history = p.history; session = session; waits_for = waits; has_index = is_indexed p.indexed; too_new = too_new_in p.too_new }
+world p session waits = record { history = p.history; session = session; waits_for = waits; has_index = is_indexed p.indexed; too_new = too_new_in p.too_new; has_vacuum = p.has_vacuum }
 
 same_world : (p : Plain) (sessions sessions' : ℕ → Option OpenSession) (waits waits' : ℕ → Option ℕ) → ((s : ℕ) → sessions s ≡ sessions' s) → ((s : ℕ) → waits s ≡ waits' s)
     → world p sessions waits ≡ world p sessions' waits'

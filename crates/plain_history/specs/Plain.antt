@@ -16,6 +16,7 @@ pub record Plain : Type 0 where
   pub waits : List (Option ℕ)
   pub indexed : List Bool
   pub too_new : List (List Bool)
+  pub has_vacuum : Bool
 
 -- there are so many places: one for each number of a u8, be it a session's or not
 pub record HasAllPlaces (sessions waits marks : ℕ) : Type 0 where
@@ -66,4 +67,5 @@ world_of p = record {
   waits_for = wait_in p.waits;
   has_index = is_indexed p.indexed;
   too_new = too_new_in p.too_new;
+  has_vacuum = p.has_vacuum;
 }

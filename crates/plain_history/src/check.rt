@@ -1,13 +1,13 @@
 //! The tests of a step, in their order.
 
-ghost use Rattle.std.specs.Prelude.{◌≡◌, ◌<◌, OnOk, IfErr, IfOk, Some, None};
-ghost use Rattle.history.specs.World.{IsReady, IsWriter, MayWrite, world_sessions};
+ghost use Rattle.std.specs.Prelude.{◌≡◌, ◌<◌, ◌↔◌, IsTrue, OnOk, IfErr, IfOk, Some, None};
+ghost use Rattle.history.specs.World.{OpenSession, by_statement, IsReady, IsWriter, MayWrite, world_sessions};
 ghost use Rattle.plain_history.specs.Plain.{open_of, world_of};
 ghost use Rattle.calls.specs.Bars.{BarsOpen, BarsReady, BarsFree};
 ghost use Rattle.calls.specs.declared.step.TheConstants.{MOST_SESSIONS};
 ghost use Rattle.plain_history.specs.Answers.{RefusesInsert, RefusesReplace, MeetsWrite, MayInsert, MayReplace, MayCommit};
 
-use crate::lookup::{holder, is_late};
+use crate::lookup::{holder, is_late, reads_by_statement};
 use crate::plain::{PlainHistory, PlainSession};
 use crate::refusal::Refused;
 use calls::Refusal;
@@ -55,6 +55,15 @@ impl PlainHistory {
             Ok(_) => Ok(()),
             Err(why) => Err(why),
         }
+    }
+
+    /// Whether the session is open, and reads by statement.
+    pub fn reads_by_statement(&self, s: u8) -> bool
+        ensures { IsTrue result
+            ↔ ((m : OpenSession) × ((world_of self.now).session s ≡ Some m)
+            × (m.isolation ≡ by_statement)) }
+    {
+        reads_by_statement(&self.sessions[s as usize])
     }
 
     /// The session, which has no cursor either.

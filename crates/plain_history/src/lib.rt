@@ -11,6 +11,7 @@ mod making;
 mod plain;
 mod refusal;
 mod rows;
+mod shown;
 mod steps;
 
 pub use plain::{PlainHistory, PlainIsolation, PlainLevel, PlainSession, PlainWrite};

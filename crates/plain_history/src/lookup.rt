@@ -2,7 +2,7 @@
 
 ghost use Rattle.std.specs.Prelude.{◌≡◌, ◌≢◌, ℕ, ◌≤◌, ◌<◌, ◌↔◌, IsTrue, IsSome, MatchOption, length, IfOk, IfSome, OnOk, Some, ◌++◌};
 ghost use Rattle.history.specs.History.{said, written, latest, committed, IsLate};
-ghost use Rattle.history.specs.World.{joined, own_write, start_now, view, OpenSession};
+ghost use Rattle.history.specs.World.{joined, own_write, start_now, view, OpenSession, by_statement};
 ghost use Rattle.std.specs.Option.{option_map};
 ghost use Rattle.plain_history.specs.Plain.{IsRowOf, open_of, session_in};
 
@@ -52,7 +52,7 @@ impl PlainLevel {
         last_written(&self.writes, key)
     }
 
-    fn wrote(&self, key: u64) -> bool
+    pub(crate) fn wrote(&self, key: u64) -> bool
         ensures { IsTrue result ↔ IsSome (written self.now key) }
     {
         self.last_write(key).is_some()
@@ -141,6 +141,15 @@ impl PlainSession {
         Ok(all)
     }
 
+    pub(crate) fn is_by_statement(&self) -> bool
+        ensures { IsTrue result ↔ ((open_of self.now).isolation ≡ by_statement) }
+    {
+        match self.isolation {
+            PlainIsolation::BySnapshot(_) => false,
+            PlainIsolation::ByStatement => true,
+        }
+    }
+
     /// How many transactions had committed when the snapshot was taken by which a statement of the session reads now.
     pub(crate) fn start_now(&self, history: &[PlainLevel]) -> usize
         ensures { result ≡ start_now history.now (open_of self.now) }
@@ -217,8 +226,20 @@ pub(crate) fn holder(sessions: &[Option<PlainSession>], s: u8, key: u64) -> Opti
     None
 }
 
+/// Is the session open, and reads by statement?
+pub(crate) fn reads_by_statement(session: &Option<PlainSession>) -> bool
+    ensures { IsTrue result
+        ↔ ((m : OpenSession) × (option_map open_of session.now ≡ Some m)
+        × (m.isolation ≡ by_statement)) }
+{
+    match session {
+        Some(session) => session.is_by_statement(),
+        None => false,
+    }
+}
+
 /// Is the session open, with the key in its levels?
-fn holds(session: &Option<PlainSession>, key: u64) -> bool
+pub(crate) fn holds(session: &Option<PlainSession>, key: u64) -> bool
     ensures { IsTrue result
         ↔
         ((m : OpenSession) × (option_map open_of session.now ≡ Some m) × IsSome (own_write m key)) }

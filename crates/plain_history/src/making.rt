@@ -1,9 +1,9 @@
-//! An index is made in use.
+//! An index is made in use, and a vacuum begins and ends.
 
-ghost use Rattle.std.specs.Prelude.{◌≡◌, ◌<◌, ◌+◌, ℕ, ◌↔◌, ◌==◌, IsTrue, if◌then◌else◌, length, get_or, false, true, OnOk, IfErr};
+ghost use Rattle.std.specs.Prelude.{◌≡◌, ◌<◌, ◌+◌, ℕ, ◌↔◌, ◌==◌, IsTrue, is_some, if◌then◌else◌, length, get_or, false, true, OnOk, IfErr};
 ghost use Rattle.std.specs.Option.{option_map};
-ghost use Rattle.history.specs.World.{MayIndex};
-ghost use Rattle.history.specs.Moves.{is_open_by_snapshot, with_index_on, with_made_index};
+ghost use Rattle.history.specs.World.{IsSomeoneOpen, MayIndex};
+ghost use Rattle.history.specs.Moves.{is_open_by_snapshot, with_index_on, with_made_index, with_vacuum};
 ghost use Rattle.plain_history.specs.Plain.{has_written, holds_any_key, open_of, session_in, too_new_in, world_of};
 ghost use Rattle.plain_history.specs.Answers.{RefusesMaking};
 
@@ -43,6 +43,26 @@ fn is_any_held(sessions: &[Option<PlainSession>]) -> bool
 {
     for s in 0..sessions.len() {
         if holds_any_key(&sessions[s]) {
+            return true;
+        }
+    }
+    false
+}
+
+fn is_open(session: &Option<PlainSession>) -> bool
+    ensures { result ≡ is_some (option_map open_of session.now) }
+{
+    match session {
+        Some(_) => true,
+        None => false,
+    }
+}
+
+fn is_any_open(sessions: &[Option<PlainSession>]) -> bool
+    ensures { IsTrue result ↔ ((s : ℕ) × (is_some (session_in sessions.now s) ≡ true)) }
+{
+    for s in 0..sessions.len() {
+        if is_open(&sessions[s]) {
             return true;
         }
     }
@@ -116,5 +136,26 @@ impl PlainHistory {
         } else {
             Ok(())
         }
+    }
+
+    /// Whether somebody is open.
+    pub fn is_anyone_open(&self) -> bool
+        ensures { IsTrue result ↔ IsSomeoneOpen (world_of self.now) }
+    {
+        is_any_open(&self.sessions)
+    }
+
+    /// Whether a vacuum runs.
+    pub fn has_vacuum(&self) -> bool
+        ensures { result ≡ (world_of self.now).has_vacuum }
+    {
+        self.vacuuming
+    }
+
+    /// A vacuum runs from now on, or none does.
+    pub fn set_vacuum(&mut self, runs: bool)
+        ensures { world_of self.new ≡ with_vacuum runs (world_of self.old) }
+    {
+        self.vacuuming = runs;
     }
 }

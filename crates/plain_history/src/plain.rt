@@ -75,6 +75,8 @@ pub struct PlainHistory {
     pub(crate) indexed: [bool; 4],
     // For each place, by the number of an index, whether it is too new for the session there.
     pub(crate) too_new: Vec<[bool; 5]>,
+    // A vacuum runs.
+    pub(crate) vacuuming: bool,
 }
 
 impl Model for PlainHistory {
@@ -89,6 +91,7 @@ impl Model for PlainHistory {
       waits = p.waits.items;
       indexed = p.indexed;
       too_new = p.too_new.items;
+      has_vacuum = p.vacuuming;
     } };
 
     ghost invariant = { λ p.
@@ -143,7 +146,7 @@ impl PlainSession {
 }
 
 impl PlainHistory {
-    /// Nothing has committed, no session is open, and these columns are indexed. Memory for the sessions' places may be
+    /// Nothing has committed, no session is open, these columns are indexed, and no vacuum runs. Memory for the sessions' places may be
     /// refused.
     pub fn new(alloc: Global, indexed: [bool; 4]) -> Result<PlainHistory, AllocError>
         ensures { IfOk result (λ p. world_of p ≡ beginning indexed) }
@@ -167,6 +170,7 @@ impl PlainHistory {
             waits,
             indexed,
             too_new,
+            vacuuming: false,
         })
     }
 

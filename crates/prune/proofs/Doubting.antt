@@ -46,7 +46,7 @@ noted-all noted numbers upto all are n small there =
 
 -- The slots whose chains begin where a version is not plain.
 
-plain-there : (w : Window) (slots : List Slot) (numbers : List ℕ) (n : ℕ) → ArePlainBut w slots numbers → ¬ Contains numbers n → IsPlainAt w slots n
+pub plain-there : (w : Window) (slots : List Slot) (numbers : List ℕ) (n : ℕ) → ArePlainBut w slots numbers → ¬ Contains numbers n → IsPlainAt w slots n
 plain-there w slots numbers n plain off h at =
     let v = some-version (version_at slots n) h at in
     let is : Some v.0.header ≡ Some h = sym (ap (option_map (λ (t : Version). t.header)) v.1) ∙ at in

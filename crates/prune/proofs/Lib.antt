@@ -27,3 +27,6 @@ pub mod Passed
 pub mod Glancing
 pub mod RoomLemmas
 pub mod Doubting
+pub mod FirstCut
+pub mod OnlyDoubt
+pub mod Redirects

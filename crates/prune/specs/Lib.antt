@@ -7,5 +7,6 @@ pub mod Thinning
 pub mod Laws
 pub mod Marks
 pub mod Glances
+pub mod OneDoubt
 pub mod Named
 pub mod Room

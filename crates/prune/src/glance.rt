@@ -44,7 +44,7 @@ fn is_plain(header: &Header, known: Xid, statuses: &StatusTable) -> bool
 
 /// True only where the version in a slot is plain, or there is none.
 #[inline(never)]
-fn is_plain_at(page: &Page, number: u16, statuses: &StatusTable) -> bool
+pub(crate) fn is_plain_at(page: &Page, number: u16, statuses: &StatusTable) -> bool
     ensures { IsTrue result → IsPlainAt statuses.now page.now.slots number }
 {
     match page.header(number) {

@@ -9,11 +9,12 @@
 //! and when, [`apply`] does what it names and nothing else, and [`prune`] is the first and the last of these. Where no version on
 //! the page is dead there is nothing to do: [`first_death`] tells whether one is, and else when one may be. All of them go over the
 //! headers once (`glance.rt`), and walk only the chains that may hold a dead version (`marks.rt`). Where it is known in which slots
-//! versions may be dead, now or later, [`plan_by_doubts`] looks at these alone. [`room_after`] tells beforehand how much room the
-//! page has once a plan is applied. `specs/Cutting.antt` defines what is cut, by a chain's list on any page and by its links,
-//! `specs/Pruning.antt` what becomes of each slot, `specs/Checks.antt` which plans check; `Sound` and `Readers` of `sound_page`, on
-//! which pages no reader misses anything. Those who see a page as a list of slots use `Removes` (what goes would be cut),
-//! `IsPruned` (the outcome slot by slot) and the laws, which are contracts of functions that do nothing.
+//! versions may be dead, now or later, [`plan_by_doubts`] looks at these alone, and mostly finds one (`one_doubt.rt`).
+//! [`room_after`] tells beforehand how much room the page has once a plan is applied. `specs/Cutting.antt` defines what is cut, by a
+//! chain's list on any page and by its links, `specs/Pruning.antt` what becomes of each slot, `specs/Checks.antt` which plans check;
+//! `Sound` and `Readers` of `sound_page`, on which pages no reader misses anything. Those who see a page as a list of slots use
+//! `Removes` (what goes would be cut), `IsPruned` (the outcome slot by slot) and the laws, which are contracts of functions that do
+//! nothing.
 #![tactic(auto)]
 
 mod action;
@@ -23,6 +24,7 @@ mod dead;
 mod glance;
 pub mod laws;
 mod marks;
+mod one_doubt;
 mod planning;
 mod room;
 

@@ -13,6 +13,7 @@ ghost use Rattle.tuple_header.specs.declared.version.TheConstants.{MOST_SLOT_NUM
 use crate::action::{Actions, PrunePlan};
 use crate::glance::{Numbers, doubts_among, list_by_doubts, list_doubtful};
 use crate::marks::{Marks, PruneVerdict, mark_page};
+use crate::one_doubt::list_by_one_doubt;
 use arrayvec::ArrayVec;
 use commit_status::StatusTable;
 use page_slots::Page;
@@ -100,6 +101,31 @@ pub fn plan(page: &Page, statuses: &StatusTable, horizon: Xid) -> PrunePlan
     plan
 }
 
+/// Lists such changes. If the page's doubts are known, it looks at those slots alone, and else at all. The doubts that it finds replace
+/// the old ones. The list is empty before. It is a function of its own, so that its list of slots is cleared only where it is called.
+#[inline(never)]
+fn list_by_all_doubts(
+    actions: &mut Actions,
+    page: &Page,
+    doubts: &mut Doubts,
+    statuses: &StatusTable,
+    horizon: Xid,
+)
+    requires blank { actions.old.items ≡ [] }
+    requires known { AreDoubts statuses.now page.now.slots doubts.old }
+    ensures known { AreDoubts statuses.now page.now.slots doubts.new }
+    ensures can_apply { CanApply (length page.now.slots) actions.new.items }
+    ensures exact { IsPlan statuses.now horizon.0 page.now.slots actions.new.items }
+{
+    let _limit = page.slots();
+    let mut doubtful: Numbers = ArrayVec::new();
+    list_by_doubts(&mut doubtful, page, doubts, statuses);
+    *doubts = doubts_among(page, doubtful.as_slice(), statuses);
+    if !doubtful.is_empty() {
+        list_actions(actions, doubtful.as_slice(), page, statuses, horizon);
+    }
+}
+
 /// Makes such a plan in the place of an earlier one. If the page's doubts are known, it looks at those slots alone, and else at
 /// all. The doubts that it finds replace the old ones.
 pub fn plan_by_doubts(
@@ -117,19 +143,9 @@ pub fn plan_by_doubts(
     ensures checks { NoSharedSlots (has_aborted statuses.now) page.now.slots
         → Checks statuses.now horizon.0 page.now plan.new.change plan.new.actions.items }
 {
-    let _limit = page.slots();
-    let mut doubtful: Numbers = ArrayVec::new();
-    list_by_doubts(&mut doubtful, page, doubts, statuses);
-    *doubts = doubts_among(page, doubtful.as_slice(), statuses);
     plan.change = page.change();
     plan.actions.clear();
-    if !doubtful.is_empty() {
-        list_actions(
-            &mut plan.actions,
-            doubtful.as_slice(),
-            page,
-            statuses,
-            horizon,
-        );
+    if !list_by_one_doubt(&mut plan.actions, page, doubts, statuses, horizon) {
+        list_by_all_doubts(&mut plan.actions, page, doubts, statuses, horizon);
     }
 }

@@ -79,8 +79,8 @@ Follows-closed_abort h s r is w agrees = (allows_closed h w s r agrees is, Agree
 pub Follows-begin_refused : (h : Heap) (s : ℕ) (r : Refusal) → ((w : World) → HeapAgrees h w → Allows w (step.Begin s) (reply.Refused r)) → HeapFollows h (step.Begin s) (reply.Refused r) h
 Follows-begin_refused h s r allows w agrees = (allows w agrees, Agrees-stepped h w s agrees)
 
-pub Follows-already_open : (h : Heap) (s : ℕ) (e : SeenSession) → h.session s ≡ Some e → HeapFollows h (step.Begin s) (reply.Refused refusal.AlreadyOpen) h
-Follows-already_open h s e at w agrees = (let open_ = agrees.opened s e at in (open_.0, open_.1), Agrees-stepped h w s agrees)
+pub Follows-already_open : (h : Heap) (s : ℕ) (e : SeenSession) → h.session s ≡ Some e → s < 64 → HeapFollows h (step.Begin s) (reply.Refused refusal.AlreadyOpen) h
+Follows-already_open h s e at within w agrees = (let open_ = agrees.opened s e at in (open_.0, open_.1, within), Agrees-stepped h w s agrees)
 
 -- Begin.
 
@@ -99,8 +99,8 @@ Follows-begin_by_statement h s session' only within idle w agrees = ((within, ag
 pub Follows-begin_by_statement_refused : (h : Heap) (s : ℕ) (r : Refusal) → ((w : World) → HeapAgrees h w → Allows w (step.BeginReadCommitted s) (reply.Refused r)) → HeapFollows h (step.BeginReadCommitted s) (reply.Refused r) h
 Follows-begin_by_statement_refused h s r allows w agrees = (allows w agrees, Agrees-stepped h w s agrees)
 
-pub Follows-already_open_by_statement : (h : Heap) (s : ℕ) (e : SeenSession) → h.session s ≡ Some e → HeapFollows h (step.BeginReadCommitted s) (reply.Refused refusal.AlreadyOpen) h
-Follows-already_open_by_statement h s e at w agrees = (let open_ = agrees.opened s e at in (open_.0, open_.1), Agrees-stepped h w s agrees)
+pub Follows-already_open_by_statement : (h : Heap) (s : ℕ) (e : SeenSession) → h.session s ≡ Some e → s < 64 → HeapFollows h (step.BeginReadCommitted s) (reply.Refused refusal.AlreadyOpen) h
+Follows-already_open_by_statement h s e at within w agrees = (let open_ = agrees.opened s e at in (open_.0, open_.1, within), Agrees-stepped h w s agrees)
 
 -- Get.
 

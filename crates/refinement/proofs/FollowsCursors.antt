@@ -168,14 +168,27 @@ Follows-open_heap h s e isolation session' only by at sound bare w agrees = (
       (λ m mine. opens h w e m (in_heap heap_start) (record { order = by_heap; rest = view w.history m }) e.isolation isolation m.isolation (by w agrees) mine.isolation refl (λ seen shows. remains_heap shows) mine) agrees,
 )
 
--- there is no memory for a list of the ids in progress
+-- there is no memory for a list of the ids in progress, which a session by statement keeps with its cursor
 
-pub Follows-open_index_no_memory : (h : Heap) (s : ℕ) (e : SeenSession) (index : ℕ) (low high : ℤ) → h.session s ≡ Some e → e.failed ≡ false → e.cursor ≡ None → low ≤ℤ high
+abbrev pub IsSeenByStatement : SeenIsolation → Type 0
+IsSeenByStatement (seen_by_snapshot snap) = ⊥
+IsSeenByStatement (seen_by_statement kept) = Unit {0}
+
+by_statement_too : (seen : SeenIsolation) (isolation : Isolation) → IsSeenByStatement seen → IsSameIsolation seen isolation → isolation ≡ by_statement
+by_statement_too (seen_by_snapshot snap) isolation by same = absurd by
+by_statement_too (seen_by_statement kept) (by_snapshot start) by same = absurd same
+by_statement_too (seen_by_statement kept) by_statement by same = refl
+
+pub reads_by_statement : (h : Heap) (w : World) (s : ℕ) (e : SeenSession) (at : h.session s ≡ Some e) (agrees : HeapAgrees h w) → IsSeenByStatement e.isolation → (agrees.opened s e at).0.isolation ≡ by_statement
+reads_by_statement h w s e at agrees by = let open_ = agrees.opened s e at in by_statement_too e.isolation open_.0.isolation by open_.2.isolation
+
+pub Follows-open_index_no_memory : (h : Heap) (s : ℕ) (e : SeenSession) (index : ℕ) (low high : ℤ) → h.session s ≡ Some e → e.failed ≡ false → e.cursor ≡ None → low ≤ℤ high → IsSeenByStatement e.isolation
     → FollowsWhere (λ w. MayScan w s index) h (step.OpenIndex s index low high) (reply.Refused refusal.NoMemory) h
-Follows-open_index_no_memory h s e index low high at sound bare order w there agrees = (((agrees.opened s e at).0, writer h w s e at agrees sound bare, there, order), Agrees-stepped h w s agrees)
+Follows-open_index_no_memory h s e index low high at sound bare order by w there agrees =
+    (((agrees.opened s e at).0, writer h w s e at agrees sound bare, there, order, reads_by_statement h w s e at agrees by), Agrees-stepped h w s agrees)
 
-pub Follows-open_heap_no_memory : (h : Heap) (s : ℕ) (e : SeenSession) → h.session s ≡ Some e → e.failed ≡ false → e.cursor ≡ None → HeapFollows h (step.OpenHeap s) (reply.Refused refusal.NoMemory) h
-Follows-open_heap_no_memory h s e at sound bare w agrees = (((agrees.opened s e at).0, writer h w s e at agrees sound bare), Agrees-stepped h w s agrees)
+pub Follows-open_heap_no_memory : (h : Heap) (s : ℕ) (e : SeenSession) → h.session s ≡ Some e → e.failed ≡ false → e.cursor ≡ None → IsSeenByStatement e.isolation → HeapFollows h (step.OpenHeap s) (reply.Refused refusal.NoMemory) h
+Follows-open_heap_no_memory h s e at sound bare by w agrees = (((agrees.opened s e at).0, writer h w s e at agrees sound bare, reads_by_statement h w s e at agrees by), Agrees-stepped h w s agrees)
 
 pub Follows-no_such_index : (h : Heap) (s : ℕ) (e : SeenSession) (index : ℕ) (low high : ℤ) → h.session s ≡ Some e → e.failed ≡ false → e.cursor ≡ None
     → FollowsWhere (λ w. w.has_index index ≡ false) h (step.OpenIndex s index low high) (reply.Refused refusal.NoSuchIndex) h

@@ -1,12 +1,12 @@
 -- A session opens a cursor over keys alone, and is handed keys by it: those of the rows that a cursor along the index by key
 -- would hand out.
-use Rattle.std.proofs.Common.{◌≡◌, ℕ, ◌<◌, ◌≤◌, max, List, length, Option, Some, None, false, refl, sym, ◌∙◌, subst}
+use Rattle.std.proofs.Common.{◌≡◌, ℕ, ◌<◌, ◌≤◌, max, List, length, Option, Some, None, false, refl, sym, subst}
 use Rattle.std.specs.Prelude.{ℤ, ◌<ℤ◌, ◌≤ℤ◌, Vec}
 use Rattle.std.specs.declared.alloc.Global.{Global}
 use Rattle.xid_circle.specs.declared.Tid.{Tid}
 use Rattle.tuple_header.specs.declared.version.Row.{Row}
 use Rattle.tuple_header.specs.Version.{Version}
-use Rattle.history.specs.World.{World, OpenSession, Cursor, Order, by_index, by_keys, view, world_sessions}
+use Rattle.history.specs.World.{World, Cursor, Order, by_index, by_keys, view, world_sessions}
 use Rattle.history.specs.Cursors.{rows_within, keys_of, HandsOutKeys}
 use Rattle.history.specs.Moves.{change, past, with_taken}
 use Rattle.calls.specs.declared.step.Step.TheVariants as step
@@ -24,7 +24,7 @@ use Rattle.refinement.proofs.Handing.{next_met, rest_met}
 use Rattle.refinement.proofs.Steps.{OnlyIs}
 use Rattle.refinement.proofs.Follows.{allows_barred, Agrees-stepped}
 use Rattle.refinement.proofs.Hindrances.{writer}
-use Rattle.refinement.proofs.FollowsCursors.{seen_by, ready, Agrees-cursor, remains_index, OpensBy, with_cursor, opens, model_at, Agrees-taken}
+use Rattle.refinement.proofs.FollowsCursors.{IsSeenByStatement, reads_by_statement, seen_by, ready, Agrees-cursor, remains_index, OpensBy, with_cursor, opens, model_at, Agrees-taken}
 
 module _ {store : Tid → Option Version} {seen : Version → Type 0} {low high : ℤ} {from : Option RowPosition} where
   -- what comes over keys is what comes along the index by key
@@ -65,9 +65,10 @@ Follows-open_keys h s e low high isolation session' only by at sound bare order 
       (λ seen shows. remains_keys low high shows) mine) agrees,
 )
 
-pub Follows-open_keys_no_memory : (h : Heap) (s : ℕ) (e : SeenSession) (low high : ℤ) → h.session s ≡ Some e → e.failed ≡ false → e.cursor ≡ None → low ≤ℤ high
+pub Follows-open_keys_no_memory : (h : Heap) (s : ℕ) (e : SeenSession) (low high : ℤ) → h.session s ≡ Some e → e.failed ≡ false → e.cursor ≡ None → low ≤ℤ high → IsSeenByStatement e.isolation
     → HeapFollows h (step.OpenKeys s low high) (reply.Refused refusal.NoMemory) h
-Follows-open_keys_no_memory h s e low high at sound bare order w agrees = (((agrees.opened s e at).0, writer h w s e at agrees sound bare, order), Agrees-stepped h w s agrees)
+Follows-open_keys_no_memory h s e low high at sound bare order by w agrees =
+    (((agrees.opened s e at).0, writer h w s e at agrees sound bare, order, reads_by_statement h w s e at agrees by), Agrees-stepped h w s agrees)
 
 pub Follows-bad_key_bounds : (h : Heap) (s : ℕ) (e : SeenSession) (low high : ℤ) → h.session s ≡ Some e → e.failed ≡ false → e.cursor ≡ None → high <ℤ low
     → HeapFollows h (step.OpenKeys s low high) (reply.Refused refusal.BadBounds) h

@@ -51,7 +51,7 @@ Follows-savepoint h s e session' only at sound bare room w agrees =
 
 pub Follows-too_deep : (h : Heap) (s : ℕ) (e : SeenSession) → h.session s ≡ Some e → e.failed ≡ false → e.cursor ≡ None → length e.saved ≡ 32 → HeapFollows h (step.Savepoint s) (reply.Refused refusal.TooDeep) h
 Follows-too_deep h s e at sound bare full w agrees =
-    (((agrees.opened s e at).0, writer h w s e at agrees sound bare, as_many h w s e at agrees ∙ full), Agrees-stepped h w s agrees)
+    (((agrees.opened s e at).0, writer h w s e at agrees sound bare, (let many : savepoints (agrees.opened s e at).0 ≡ 32 = as_many h w s e at agrees ∙ full in omega (arith, many))), Agrees-stepped h w s agrees)
 
 pub Follows-savepoint_no_memory : (h : Heap) (s : ℕ) (e : SeenSession) → h.session s ≡ Some e → e.failed ≡ false → e.cursor ≡ None → length e.saved < 32 → HeapFollows h (step.Savepoint s) (reply.Refused refusal.NoMemory) h
 Follows-savepoint_no_memory h s e at sound bare room w agrees =

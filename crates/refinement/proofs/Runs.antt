@@ -1,12 +1,13 @@
 -- A run of steps and replies is a run of the history.
-use Rattle.std.proofs.Common.{◌≡◌, ℕ, ◌<◌, ◌≤◌, length, arith, List, [], ◌∷◌, Option, Some, None, Bool, false, refl, sym, ap, ◌∙◌, subst}
+use Rattle.std.proofs.Common.{◌≡◌, ℕ, suc, ◌<◌, ◌≤◌, length, arith, List, [], ◌∷◌, Option, Some, None, Bool, true, false, refl, sym, ap, ◌∙◌, subst}
+use Rattle.std.specs.Prelude.{if◌then◌else◌}
 use Rattle.std.proofs.lemmas.Option.{none-some, same_Some}
 use Rattle.history.specs.World.{World, OpenSession, beginning, MayIndex, IsBlocked, ClosesRing}
-use Rattle.history.specs.Moves.{free_to_scan, with_index_on}
-use Rattle.history.specs.Events.{Happens, passes, begins, begins_by_statement, conflicts, waits, deadlocks, saves, rolls_back_to, releases, commits, aborts, opens_index, opens_heap, opens_keys, takes, takes_keys, closes, StepsReach, stays, goes_on}
+use Rattle.history.specs.Moves.{free_to_scan, with_made_index, with_index_on, with_vacuum}
+use Rattle.history.specs.Events.{Happens, passes, begins, begins_by_statement, conflicts, waits, deadlocks, saves, rolls_back_to, releases, commits, aborts, opens_index, opens_heap, opens_keys, takes, takes_keys, closes, StepsReach, stays, goes_on, begins_vacuum, ends_vacuum}
 use Rattle.history.specs.Events as events
 use Rattle.history.proofs.HistoryLemmas.{at_other}
-use Rattle.history.proofs.RunLemmas.{Lawful-beginning, Lawful-run, indexes-step, makes_on}
+use Rattle.history.proofs.RunLemmas.{Lawful-beginning, Lawful-run, indexes-step, vacuum-step, makes_on}
 use Rattle.calls.specs.declared.step.Step.{Step}
 use Rattle.calls.specs.declared.step.Step.TheVariants as step
 use Rattle.calls.specs.declared.reply.Reply.{Reply}
@@ -30,11 +31,21 @@ few_levels m few = omega arith
 several_levels : (m : OpenSession) → 0 < savepoints m → 1 < length m.levels
 several_levels m some = omega arith
 
--- what comes of a step: a session has taken one, or an index was made if it was not there, or all is as it was
+-- the step may begin or end a vacuum
+abbrev TurnsVacuum : Step → Type 0
+TurnsVacuum (step.VacuumBegin mode) = Unit {0}
+TurnsVacuum step.VacuumStep = Unit {0}
+TurnsVacuum step.VacuumCancel = Unit {0}
+TurnsVacuum step = ⊥
+
+-- what comes of a step: a session has taken one, or an index was made if it was not there, or a vacuum has begun or ended, or all is as
+-- it was
 data LeadsTo (w : World) (taken : Step) : World → Type 0 where
   stays_so : LeadsTo w taken w
   by_session : {after : World} (s : ℕ) → Happens w s after → LeadsTo w taken after
   by_making : (c : ℕ) → taken ≡ step.CreateIndex c → MayIndex w c → LeadsTo w taken (with_index_on w c)
+  by_beginning : TurnsVacuum taken → w.has_vacuum ≡ false → LeadsTo w taken (with_vacuum true w)
+  by_ending : TurnsVacuum taken → w.has_vacuum ≡ true → LeadsTo w taken (with_vacuum false w)
 
 passes_on : (w : World) (step : Step) (s : Option ℕ) → LeadsTo w step (passed w s)
 passes_on w step None = stays_so
@@ -62,12 +73,17 @@ leads_on w (step.OpenKeys s low high) reply.Done allows = by_session s (opens_ke
 leads_on w (step.Next s n) (reply.Rows rows) allows = by_session s (takes n rows.items allows.0 allows.1 allows.2 allows.3 allows.4)
 leads_on w (step.Next s n) (reply.Keys keys) allows = by_session s (takes_keys n keys.items allows.0 allows.1 allows.2 allows.3 allows.4)
 leads_on w (step.Close s) reply.Done allows = by_session s (closes allows.0 allows.1 allows.2)
-leads_on w (step.CreateIndex c) reply.Done allows = by_making c refl allows
+leads_on w (step.VacuumBegin mode) reply.Done allows = by_beginning tt allows
+leads_on w step.VacuumStep (reply.Ended first) allows = by_ending tt allows
+leads_on w step.VacuumCancel reply.Done allows = by_ending tt allows
+leads_on w (step.CreateIndex c) reply.Done allows = by_making c refl allows.0
 leads_on w step reply allows = passes_on w step (session_of step)
 
 reached : (from w : World) (step : Step) {after : World} → StepsReach from w → LeadsTo w step after → StepsReach from after
 reached from w step run stays_so = run
 reached from w step run (by_making c is may) = makes_on from w c run may
+reached from w step run (by_beginning turns none) = begins_vacuum w run none
+reached from w step run (by_ending turns runs) = ends_vacuum w run runs
 reached from w step run (by_session {after} s happens) = goes_on w after s run happens
 
 -- what Busy tells: another open session holds the key that the step would write
@@ -144,10 +160,39 @@ kept_scans : (w : World) (step : Step) {after : World} → MakesNoIndex step →
 kept_scans w step none stays_so = record { had = refl; scans = λ s m at index. refl }
 kept_scans w step none (by_session s happens) = record { had = indexes-step happens; scans = scans-kept happens }
 kept_scans w step none (by_making c is may) = absurd (subst MakesNoIndex is none)
+kept_scans w step none (by_beginning turns idle) = record { had = refl; scans = λ s m at index. refl }
+kept_scans w step none (by_ending turns runs) = record { had = refl; scans = λ s m at index. refl }
 
 -- so it is after each of these
 pub same_indexes : (w : World) (step : Step) (reply : Reply) → MakesNoIndex step → Allows w step reply → KeepsScans w (next w step reply)
 same_indexes w step reply none allows = kept_scans w step none (leads_on w step reply allows)
+
+-- no other step begins or ends a vacuum
+abbrev pub IsNoVacuumStep : Step → Type 0
+IsNoVacuumStep (step.VacuumBegin mode) = ⊥
+IsNoVacuumStep step.VacuumStep = ⊥
+IsNoVacuumStep step.VacuumCancel = ⊥
+IsNoVacuumStep step = Unit {0}
+
+not_turned : (step : Step) → IsNoVacuumStep step → TurnsVacuum step → ⊥
+not_turned (step.VacuumBegin mode) none turns = none
+not_turned step.VacuumStep none turns = none
+not_turned step.VacuumCancel none turns = none
+not_turned _ none turns = turns
+
+kept_vacuum : (w : World) (step : Step) {after : World} → IsNoVacuumStep step → LeadsTo w step after → after.has_vacuum ≡ w.has_vacuum
+kept_vacuum w step none stays_so = refl
+kept_vacuum w step none (by_session s happens) = vacuum-step happens
+kept_vacuum w step none (by_making c is may) = by (w.has_index (suc c))
+  where
+    by : (has : Bool) → (if has then w else with_made_index w (suc c)).has_vacuum ≡ w.has_vacuum
+    by true = refl
+    by false = refl
+kept_vacuum w step none (by_beginning turns idle) = absurd (not_turned step none turns)
+kept_vacuum w step none (by_ending turns runs) = absurd (not_turned step none turns)
+
+pub same_vacuum : (w : World) (step : Step) (reply : Reply) → IsNoVacuumStep step → Allows w step reply → (next w step reply).has_vacuum ≡ w.has_vacuum
+same_vacuum w step reply none allows = kept_vacuum w step none (leads_on w step reply allows)
 
 lawful_where : (columns : List Bool) (w : World) → StepsReach (beginning columns) w → IsLawful w
 lawful_where columns w reach = let h = Lawful-run reach (Lawful-beginning columns) in record {

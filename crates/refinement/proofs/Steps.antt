@@ -12,7 +12,7 @@ use Rattle.commit_status.specs.declared.status.Status.TheVariants.{InProgress, C
 use Rattle.snapshot.specs.Snap.{Snap}
 use Rattle.history.specs.History.{Write, Transaction, written, reading, IsLate}
 use Rattle.history.specs.World.{World, Isolation, by_snapshot, by_statement, OpenSession, joined, own_write, Holds, beginning, start_by, start_now}
-use Rattle.history.specs.Moves.{put, free_to_scan, new_session as new_model, begun, begun_by_statement, with_row, as_failed, aborted}
+use Rattle.history.specs.Moves.{put, free_to_scan, new_session as new_model, begun, begun_by_statement, with_vacuum, with_row, as_failed, aborted}
 use Rattle.history.proofs.HistoryLemmas.{at_same, at_other, joined-add_write}
 use Rattle.refinement.specs.Heap.{SeenIsolation, seen_by_snapshot, seen_by_statement, SeenSession, Heap, SightOfStatement, SightOfCursor, StatementSees, CursorSees}
 use Rattle.visibility.specs.Seeing.{HasCommitted, IsRunning, Touches, deleter}
@@ -79,6 +79,19 @@ Agrees-waits h w waits agrees = record {
 -- whatever indexes there are, and for whomever they are too new
 pub Agrees-indexes : (h : Heap) (w : World) (had : ℕ → Bool) (too_new : ℕ → ℕ → Bool) → HeapAgrees h w → HeapAgrees h (record w { has_index = had; too_new = too_new })
 Agrees-indexes h w had too_new agrees = record {
+  opened = agrees.opened;
+  idle = agrees.idle;
+  current = agrees.current;
+  made = agrees.made;
+  given = agrees.given;
+  owned = agrees.owned;
+  apart = agrees.apart;
+  alone = agrees.alone;
+}
+
+-- and whether a vacuum runs or not
+pub Agrees-vacuum : (h : Heap) (w : World) (runs : Bool) → HeapAgrees h w → HeapAgrees h (with_vacuum runs w)
+Agrees-vacuum h w runs agrees = record {
   opened = agrees.opened;
   idle = agrees.idle;
   current = agrees.current;

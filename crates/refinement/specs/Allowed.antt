@@ -1,10 +1,10 @@
 -- To believe, 4 of 5 (docs/reading.md).
 -- Which replies the history allows to a step, and what the world is after each.
-use Rattle.std.specs.Prelude.{◌≡◌, ℕ, ◌-◌, ◌<◌, ◌≤◌, List, [], ◌∷◌, length, Option, Some, None, Bool, true, false, IsSome, ◌<ℤ◌, ◌≤ℤ◌}
+use Rattle.std.specs.Prelude.{◌≡◌, ℕ, suc, ◌-◌, ◌<◌, ◌≤◌, List, [], ◌∷◌, length, Option, Some, None, Bool, true, false, IsSome, ◌<ℤ◌, ◌≤ℤ◌}
 use Rattle.history.specs.History.{IsLate}
-use Rattle.history.specs.World.{World, OpenSession, Cursor, beginning, start_now, view, LacksIndex, MayIndex, MayScan, ClosesRing, IsReady, IsWriter, MayWrite, IsBlocked, world_sessions}
+use Rattle.history.specs.World.{World, OpenSession, Cursor, by_statement, beginning, start_now, view, IsSomeoneOpen, LacksIndex, MayIndex, MayScan, ClosesRing, IsReady, IsWriter, MayWrite, IsBlocked, world_sessions}
 use Rattle.history.specs.Cursors.{AreOf, keys_of, IsOver, HandsOutPart, HandsOutKeys}
-use Rattle.history.specs.Moves.{stepped, begun, begun_by_statement, blocked_by, change, with_row, without_row, as_failed, with_savepoint, rolled_back_to, without_savepoint, aborted, committed_by, with_index_cursor, with_heap_cursor, with_keys_cursor, with_taken, without_cursor, with_index_on}
+use Rattle.history.specs.Moves.{stepped, begun, begun_by_statement, blocked_by, change, with_row, without_row, as_failed, with_savepoint, rolled_back_to, without_savepoint, aborted, committed_by, with_index_cursor, with_heap_cursor, with_keys_cursor, with_taken, without_cursor, with_index_on, with_vacuum}
 use Rattle.history.specs.Laws.{FirstCommitterWins, HeldInTime, HeldOnce}
 use Rattle.calls.specs.declared.step.Step.{Step}
 use Rattle.calls.specs.declared.step.Step.TheVariants as step
@@ -59,11 +59,11 @@ savepoints m = length m.levels - 1
 abbrev pub Allows : World → Step → Reply → Type 0
 Allows w (step.Begin s) reply.Done = (s < MOST_SESSIONS) × (w.session s ≡ None)
 Allows w (step.Begin s) (reply.Refused refusal.NoSuchSession) = MOST_SESSIONS ≤ s
-Allows w (step.Begin s) (reply.Refused refusal.AlreadyOpen) = (m : OpenSession) × IsOpen w s m
+Allows w (step.Begin s) (reply.Refused refusal.AlreadyOpen) = (m : OpenSession) × IsOpen w s m × (s < MOST_SESSIONS)
 Allows w (step.Begin s) (reply.Refused refusal.NoMemory) = (s < MOST_SESSIONS) × (w.session s ≡ None)
 Allows w (step.BeginReadCommitted s) reply.Done = (s < MOST_SESSIONS) × (w.session s ≡ None)
 Allows w (step.BeginReadCommitted s) (reply.Refused refusal.NoSuchSession) = MOST_SESSIONS ≤ s
-Allows w (step.BeginReadCommitted s) (reply.Refused refusal.AlreadyOpen) = (m : OpenSession) × IsOpen w s m
+Allows w (step.BeginReadCommitted s) (reply.Refused refusal.AlreadyOpen) = (m : OpenSession) × IsOpen w s m × (s < MOST_SESSIONS)
 Allows w (step.Get s k) (reply.Found row) = (m : OpenSession) × IsReady w s m × (row ≡ view w.history m k)
 Allows w (step.Get s k) (reply.Refused refusal) = BarsReady (world_sessions w) s refusal
 Allows w (step.Insert s row) reply.Done = AllowsWrite w s (inserts row)
@@ -73,7 +73,7 @@ Allows w (step.Update s row) (reply.Refused refusal) = AllowsHindered w s refusa
 Allows w (step.Delete s k) reply.Done = AllowsWrite w s (deletes k)
 Allows w (step.Delete s k) (reply.Refused refusal) = AllowsHindered w s refusal (deletes k)
 Allows w (step.Savepoint s) reply.Done = (m : OpenSession) × IsWriter w s m × (savepoints m < MOST_SAVEPOINTS)
-Allows w (step.Savepoint s) (reply.Refused refusal.TooDeep) = (m : OpenSession) × IsWriter w s m × (savepoints m ≡ MOST_SAVEPOINTS)
+Allows w (step.Savepoint s) (reply.Refused refusal.TooDeep) = (m : OpenSession) × IsWriter w s m × (MOST_SAVEPOINTS ≤ savepoints m)
 Allows w (step.Savepoint s) (reply.Refused refusal.NoMemory) = (m : OpenSession) × IsWriter w s m × (savepoints m < MOST_SAVEPOINTS)
 Allows w (step.Savepoint s) (reply.Refused refusal) = BarsFree (world_sessions w) s refusal
 Allows w (step.RollbackTo s) reply.Done = (m : OpenSession) × IsOpen w s m × (m.cursor ≡ None) × (0 < savepoints m)
@@ -92,14 +92,14 @@ Allows w (step.OpenIndex s index low high) reply.Done = (m : OpenSession) × IsW
 Allows w (step.OpenIndex s index low high) (reply.Refused refusal.NoSuchIndex) = (m : OpenSession) × IsWriter w s m × (w.has_index index ≡ false)
 Allows w (step.OpenIndex s index low high) (reply.Refused refusal.IndexTooNew) = (m : OpenSession) × IsWriter w s m × (w.has_index index ≡ true) × (w.too_new s index ≡ true)
 Allows w (step.OpenIndex s index low high) (reply.Refused refusal.BadBounds) = (m : OpenSession) × IsWriter w s m × MayScan w s index × (high <ℤ low)
-Allows w (step.OpenIndex s index low high) (reply.Refused refusal.NoMemory) = (m : OpenSession) × IsWriter w s m × MayScan w s index × (low ≤ℤ high)
+Allows w (step.OpenIndex s index low high) (reply.Refused refusal.NoMemory) = (m : OpenSession) × IsWriter w s m × MayScan w s index × (low ≤ℤ high) × (m.isolation ≡ by_statement)
 Allows w (step.OpenIndex s index low high) (reply.Refused refusal) = BarsFree (world_sessions w) s refusal
 Allows w (step.OpenHeap s) reply.Done = (m : OpenSession) × IsWriter w s m
-Allows w (step.OpenHeap s) (reply.Refused refusal.NoMemory) = (m : OpenSession) × IsWriter w s m
+Allows w (step.OpenHeap s) (reply.Refused refusal.NoMemory) = (m : OpenSession) × IsWriter w s m × (m.isolation ≡ by_statement)
 Allows w (step.OpenHeap s) (reply.Refused refusal) = BarsFree (world_sessions w) s refusal
 Allows w (step.OpenKeys s low high) reply.Done = (m : OpenSession) × IsWriter w s m × (low ≤ℤ high)
 Allows w (step.OpenKeys s low high) (reply.Refused refusal.BadBounds) = (m : OpenSession) × IsWriter w s m × (high <ℤ low)
-Allows w (step.OpenKeys s low high) (reply.Refused refusal.NoMemory) = (m : OpenSession) × IsWriter w s m × (low ≤ℤ high)
+Allows w (step.OpenKeys s low high) (reply.Refused refusal.NoMemory) = (m : OpenSession) × IsWriter w s m × (low ≤ℤ high) × (m.isolation ≡ by_statement)
 Allows w (step.OpenKeys s low high) (reply.Refused refusal) = BarsFree (world_sessions w) s refusal
 Allows w (step.Next s n) (reply.Rows rows) = (m : OpenSession) × (c : Cursor) × IsReady w s m × (m.cursor ≡ Some c) × HandsOutPart c.order n c.rest rows.items
 Allows w (step.Next s n) (reply.Keys keys) = (m : OpenSession) × (c : Cursor) × IsReady w s m × (m.cursor ≡ Some c) × HandsOutKeys c.order n c.rest keys.items
@@ -114,24 +114,21 @@ Allows w (step.TakePage s p) (reply.Refused refusal.NoMemory) = (m : OpenSession
 Allows w (step.TakePage s p) (reply.Refused refusal) = BarsReady (world_sessions w) s refusal
 Allows w (step.Prune p) reply.Done = Unit {0}
 Allows w (step.Prune p) (reply.Refused refusal.NoSuchPage) = Unit {0}
-Allows w (step.Prune p) (reply.Refused refusal.NoMemory) = Unit {0}
 Allows w (step.ApplyPlan p plan) reply.Done = Unit {0}
 Allows w (step.ApplyPlan p plan) (reply.Refused refusal.NoSuchPage) = Unit {0}
 Allows w (step.ApplyPlan p plan) (reply.Refused refusal.Stale) = Unit {0}
-Allows w (step.VacuumBegin mode) reply.Done = Unit {0}
-Allows w (step.VacuumBegin mode) (reply.Refused refusal.VacuumRunning) = Unit {0}
-Allows w (step.VacuumBegin mode) (reply.Refused refusal.NoMemory) = Unit {0}
-Allows w step.VacuumStep (reply.Worked piece) = Unit {0}
-Allows w step.VacuumStep (reply.Ended first) = Unit {0}
-Allows w step.VacuumStep (reply.Refused refusal.NoVacuum) = Unit {0}
-Allows w step.VacuumStep (reply.Refused refusal.NoMemory) = Unit {0}
-Allows w step.VacuumCancel reply.Done = Unit {0}
-Allows w step.VacuumCancel (reply.Refused refusal.NoVacuum) = Unit {0}
-Allows w (step.CreateIndex c) reply.Done = MayIndex w c
+Allows w (step.VacuumBegin mode) reply.Done = w.has_vacuum ≡ false
+Allows w (step.VacuumBegin mode) (reply.Refused refusal.VacuumRunning) = w.has_vacuum ≡ true
+Allows w step.VacuumStep (reply.Worked piece) = w.has_vacuum ≡ true
+Allows w step.VacuumStep (reply.Ended first) = w.has_vacuum ≡ true
+Allows w step.VacuumStep (reply.Refused refusal.NoVacuum) = w.has_vacuum ≡ false
+Allows w step.VacuumCancel reply.Done = w.has_vacuum ≡ true
+Allows w step.VacuumCancel (reply.Refused refusal.NoVacuum) = w.has_vacuum ≡ false
+Allows w (step.CreateIndex c) reply.Done = MayIndex w c × (w.has_index (suc c) ≡ false → w.has_vacuum ≡ false)
 Allows w (step.CreateIndex c) (reply.Refused refusal.NoSuchIndex) = 3 < c
-Allows w (step.CreateIndex c) (reply.Refused refusal.VacuumRunning) = LacksIndex w c
-Allows w (step.CreateIndex c) (reply.Refused refusal.IndexBusy) = LacksIndex w c
-Allows w (step.CreateIndex c) (reply.Refused refusal.NoMemory) = LacksIndex w c
+Allows w (step.CreateIndex c) (reply.Refused refusal.VacuumRunning) = LacksIndex w c × (w.has_vacuum ≡ true)
+Allows w (step.CreateIndex c) (reply.Refused refusal.IndexBusy) = LacksIndex w c × (w.has_vacuum ≡ false) × IsSomeoneOpen w
+Allows w (step.CreateIndex c) (reply.Refused refusal.NoMemory) = LacksIndex w c × (w.has_vacuum ≡ false)
 Allows w step reply = ⊥
 
 -- a step that reads or is refused only ends the session's own wait
@@ -144,7 +141,7 @@ abbrev pub after_refused_write : World → ℕ → Refusal → World
 after_refused_write w s refusal.Conflict = change w s as_failed
 after_refused_write w s refusal = stepped w s
 
--- the world after the reply. Cleaning leaves it as it is
+-- the world after the reply. Cleaning leaves it as it is, but for whether a vacuum runs
 abbrev pub next : World → Step → Reply → World
 next w (step.Begin s) reply.Done = begun w s
 next w (step.BeginReadCommitted s) reply.Done = begun_by_statement w s
@@ -166,6 +163,9 @@ next w (step.OpenKeys s low high) reply.Done = change w s (with_keys_cursor w.hi
 next w (step.Next s n) (reply.Rows rows) = change w s (with_taken (keys_of rows.items))
 next w (step.Next s n) (reply.Keys keys) = change w s (with_taken keys.items)
 next w (step.Close s) reply.Done = change w s without_cursor
+next w (step.VacuumBegin mode) reply.Done = with_vacuum true w
+next w step.VacuumStep (reply.Ended first) = with_vacuum false w
+next w step.VacuumCancel reply.Done = with_vacuum false w
 next w (step.CreateIndex c) reply.Done = with_index_on w c
 next w step reply = passed w (session_of step)
 

@@ -1,7 +1,7 @@
 -- What an index takes without memory.
 use Rattle.std.proofs.Common.{◌≡◌, ℕ, zero, suc, ◌+◌, ◌-◌, ◌<◌, ◌≤◌, ◌⊎◌, inl, inr, max, List, [], ◌∷◌, length, sum_by, ap, refl, arith}
 use Rattle.std.proofs.lemmas.Bool.{cases_lt}
-use Rattle.index_nodes.specs.declared.entry.Entry.{Entry}
+use Rattle.index_entries.specs.declared.entry.Entry.{Entry}
 use Rattle.index_nodes.specs.Nodes.{all, AreNeat}
 use Rattle.root_index.specs.View.{free_places}
 use Rattle.index_nodes.specs.Rows.{some_with}

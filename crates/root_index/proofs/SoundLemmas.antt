@@ -3,13 +3,13 @@ use Rattle.std.proofs.Common.{◌≡◌, ◌∙◌, ℕ, zero, suc, ◌+◌, ◌
 use Rattle.std.specs.List.{insert}
 use Rattle.std.proofs.lemmas.Bool.{cases_lt}
 use Rattle.std.proofs.lemmas.List.Edits.{length-insert}
-use Rattle.index_nodes.specs.declared.entry.Entry.{Entry}
-use Rattle.index_nodes.specs.Order.{IsAscending}
-use Rattle.index_nodes.specs.Sets.{AddsEntry, IsAt, IsGapFor, IsLeast}
+use Rattle.index_entries.specs.declared.entry.Entry.{Entry}
+use Rattle.index_entries.specs.Order.{IsAscending}
+use Rattle.index_entries.specs.Sets.{AddsEntry, IsAt, IsGapFor, IsLeast}
 use Rattle.index_nodes.specs.declared.nodes.TreePosition.{TreePosition}
 use Rattle.index_nodes.specs.Nodes.{all, rank_in, AreNeat, IsStartIn}
 use Rattle.root_index.specs.Trees.{Tree, among, IsNeatTree, SetAside, IsSoundIndex}
-use Rattle.index_nodes.proofs.SetLemmas.{ascending-insert, adds-inserted, first_is_least}
+use Rattle.index_entries.proofs.SetLemmas.{ascending-insert, adds-inserted, first_is_least}
 
 -- what is left for one insert fewer
 left_after : (HasLeft HasLeft' : ℕ → Type 0) → ((k : ℕ) → HasLeft (k + 1) → HasLeft' k) → HasLeft' 0 → (promised : ℕ) → HasLeft promised → HasLeft' (promised - 1)

@@ -8,23 +8,23 @@ use Rattle.std.proofs.lemmas.List.Kept.{AllPairs-cons}
 use Rattle.std.proofs.lemmas.Option.{slice_get_within}
 use Rattle.xid_circle.specs.declared.Tid.{Tid}
 use Rattle.xid_circle.proofs.Members.{Contains-none}
-use Rattle.index_nodes.specs.declared.entry.Entry.{Entry}
-use Rattle.index_nodes.specs.declared.node.Swept.{Swept}
+use Rattle.index_entries.specs.declared.entry.Entry.{Entry}
+use Rattle.index_entries.specs.declared.node.Swept.{Swept}
 use Rattle.root_index.specs.declared.progress.Progress.{Progress}
 use Rattle.root_index.specs.declared.progress.Progress.TheVariants.{More, Done}
 use Rattle.index_nodes.specs.declared.nodes.TreePosition.{TreePosition}
-use Rattle.index_nodes.specs.Order.{EntryPrecedes, IsAscending}
-use Rattle.index_nodes.specs.Sets.{IsAfter, IsStart}
-use Rattle.index_nodes.specs.Lists.{stays}
+use Rattle.index_entries.specs.Order.{EntryPrecedes, IsAscending}
+use Rattle.index_entries.specs.Sets.{IsAfter, IsStart}
+use Rattle.index_entries.specs.Lists.{stays}
 use Rattle.index_nodes.specs.Nodes.{all, rank_in, AreNeat, IsStartIn}
 use Rattle.index_nodes.specs.Rows.{none_without}
-use Rattle.index_nodes.specs.Sweeps.{IsSwept}
+use Rattle.index_entries.specs.Sweeps.{IsSwept}
 use Rattle.root_index.specs.Trees.{Tree, tree_entries, among, IsNeatTree, SetAside, IsSoundIndex}
 use Rattle.root_index.specs.Pieces.{RemovesPiece}
 use Rattle.root_index.specs.View.{free_places}
-use Rattle.index_nodes.proofs.OrderLemmas.{Precedes-not_back, not_before_itself, ascending-tail, ascending-head}
+use Rattle.index_entries.proofs.OrderLemmas.{Precedes-not_back, not_before_itself, ascending-tail, ascending-head}
 use Rattle.index_nodes.proofs.RowEditLemmas.{get_front, get_behind}
-use Rattle.index_nodes.proofs.SetLemmas.{place_of, ascending-at, same_place, kept, stays-is, Contains-from_place}
+use Rattle.index_entries.proofs.SetLemmas.{place_of, ascending-at, same_place, kept, stays-is, Contains-from_place}
 
 ascending_back : (xs ys : List Entry) → IsAscending (xs ++ ys) → IsAscending ys
 ascending_back [] ys up = up

@@ -1,9 +1,9 @@
 -- Entries to dead places are removed piece by piece. How long a piece is, is left open here. In the code it ends with a leaf.
 use Rattle.std.specs.Prelude.{◌↔◌, List, Option, Contains}
 use Rattle.xid_circle.specs.declared.Tid.{Tid}
-use Rattle.index_nodes.specs.declared.entry.Entry.{Entry}
-use Rattle.index_nodes.specs.Order.{EntryPrecedes, IsAscending}
-use Rattle.index_nodes.specs.Sets.{IsAfter}
+use Rattle.index_entries.specs.declared.entry.Entry.{Entry}
+use Rattle.index_entries.specs.Order.{EntryPrecedes, IsAscending}
+use Rattle.index_entries.specs.Sets.{IsAfter}
 use Rattle.root_index.specs.declared.progress.Progress.{Progress}
 use Rattle.root_index.specs.declared.progress.Progress.TheVariants.{More, Done}
 

@@ -1,8 +1,8 @@
 -- How an index keeps its entries.
 use Rattle.std.specs.Prelude.{◌≡◌, ◌<◌, ◌≤◌, ◌+◌, ◌^◌, List, length}
 use Rattle.xid_circle.specs.Numbers.{Count}
-use Rattle.index_nodes.specs.declared.entry.Entry.{Entry}
-use Rattle.index_nodes.specs.Order.{IsAscending}
+use Rattle.index_entries.specs.declared.entry.Entry.{Entry}
+use Rattle.index_entries.specs.Order.{IsAscending}
 use Rattle.index_nodes.specs.Nodes.{all, AreNeat}
 
 -- A tree as contracts see it: its branches, each the list of its leaves, and these the lists of their entries.

@@ -1,8 +1,8 @@
 -- An index as its callers see it.
 use Rattle.std.specs.Prelude.{ℕ, zero, suc, ◌-◌, max, List, length}
 use Rattle.xid_circle.specs.Numbers.{Count}
-use Rattle.index_nodes.specs.declared.entry.Entry.{Entry}
-use Rattle.index_nodes.specs.declared.node.TheConstants.{MOST_PARTS}
+use Rattle.index_entries.specs.declared.entry.Entry.{Entry}
+use Rattle.index_entries.specs.declared.node.TheConstants.{MOST_PARTS}
 
 pub record IndexView : Type 0 where
   -- in ascending order, each once

@@ -2,8 +2,8 @@
 
 ghost use Rattle.std.specs.Prelude.{◌≡◌, ◌<◌, ◌≤◌, ◌+◌, ◌^◌, [], length, OnOk, OnErr, Some, IfSome, IsTrue, Contains, vec_len, vec_capacity, true, false};
 ghost use Rattle.std.specs.Option.{option_map};
-ghost use Rattle.index_nodes.specs.Order.{IsAscending};
-ghost use Rattle.index_nodes.specs.Sets.{AddsEntry, IsLeast, IsAfter, IsBelow, IsLastOf};
+ghost use Rattle.index_entries.specs.Order.{IsAscending};
+ghost use Rattle.index_entries.specs.Sets.{AddsEntry, IsLeast, IsAfter, IsBelow, IsLastOf};
 ghost use Rattle.root_index.specs.View.{free_places, room_in};
 ghost use Rattle.root_index.specs.Pieces.{RemovesPiece};
 ghost use Rattle.root_index.specs.declared.progress.Progress.TheVariants.{More, Done};
@@ -11,8 +11,10 @@ ghost use Rattle.root_index.specs.declared.progress.Progress.TheVariants.{More, 
 use crate::look_ups;
 use crate::progress::Progress;
 use dead_places::DeadSet;
+use index_entries::{Entry, Node, Swept};
+use index_leaves::Leaf;
+use index_nodes::Branch;
 use index_nodes::nodes::{self, Spares, TreePosition};
-use index_nodes::{Branch, Entry, Leaf, Node, Swept};
 use std::alloc::{AllocError, Global};
 use std::marker::Model;
 

@@ -2,7 +2,7 @@
 //!
 //! Callers see a [`RootIndex`] as the list of its entries in ascending order, with the number of nodes in which they are, and of
 //! inserts for which nodes are set aside (`specs/View.antt`). The contract promises that a call does to the set of entries what it
-//! is named after and nothing else, in the words of `index_nodes`, which has the entries, their order, and the nodes. Here
+//! is named after and nothing else, in the words of `index_entries`, which has the entries and their order; `index_nodes` has the nodes. Here
 //! are three kinds of node above one another: trees of at most 128 branches, of 128 leaves, of 128 entries. The list of trees is
 //! shorter than a node's.
 //!
@@ -16,5 +16,5 @@ mod look_ups;
 mod progress;
 
 pub use index::{LookUp, PositionHint, RootIndex};
-pub use index_nodes::{Entry, members_determine};
+pub use index_entries::{Entry, members_determine};
 pub use progress::Progress;

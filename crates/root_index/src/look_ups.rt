@@ -1,12 +1,12 @@
 //! Where among nodes a look-up finds its first entry, and where an insert puts one.
 
 ghost use Rattle.std.specs.Prelude.{Some, IfOk, IfErr};
-ghost use Rattle.index_nodes.specs.Order.{IsAscending};
-ghost use Rattle.index_nodes.specs.Sets.{IsAfter, IsAt, IsBelow, IsGapFor};
+ghost use Rattle.index_entries.specs.Order.{IsAscending};
+ghost use Rattle.index_entries.specs.Sets.{IsAfter, IsAt, IsBelow, IsGapFor};
 ghost use Rattle.index_nodes.specs.Nodes.{all, rank_in, AreNeat, IsEntryIn, IsPositionIn, IsStartIn};
 
+use index_entries::{Entry, Node};
 use index_nodes::nodes::{self, TreePosition};
-use index_nodes::{Entry, Node};
 use xid_circle::Tid;
 
 /// Where the entries after this one begin, or all, where there is none.

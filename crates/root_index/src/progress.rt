@@ -1,6 +1,6 @@
 //! How far a sweep of an index came.
 
-use index_nodes::Entry;
+use index_entries::Entry;
 
 /// How far a sweep of an index came.
 #[derive(Clone, Copy, Debug, PartialEq, Eq)]

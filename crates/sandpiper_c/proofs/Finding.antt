@@ -6,7 +6,7 @@ use Rattle.tuple_header.specs.declared.version.Row.{Row}
 use Rattle.calls.specs.declared.reply.Refusal.{Refusal}
 use Rattle.session_steps.specs.Replies.{found_reply}
 use Rattle.session_core.specs.Gets.{whether_found, place_of_found}
-use Rattle.sandpiper_c.specs.CallStatus.{status_of_reply, status_of_found}
+use Rattle.c_handles.specs.CallStatus.{status_of_reply, status_of_found}
 use Rattle.sandpiper_c.specs.Calls.{row_found_in, ShowsRow}
 
 pub found-status : (found : Result (Option Row) Refusal) → status_of_found (whether_found found) ≡ status_of_reply (found_reply found)

@@ -1,6 +1,3 @@
-pub mod Pointers
-pub mod HeapRow
-pub mod Numbers
 pub mod NextLemmas
 pub mod Finding
 mod ManyLemmas

@@ -3,9 +3,9 @@ use Rattle.std.proofs.Common.{◌≡◌, ℕ, zero, suc, ◌+◌, ◌<◌, List,
 use Rattle.tuple_header.specs.declared.row_place.RowPlace.{RowPlace}
 use Rattle.calls.specs.declared.step.Step.{Step}
 use Rattle.calls.specs.Words.{RowToWrite}
-use Rattle.sandpiper_c.specs.declared.database.Sandpiper.{Sandpiper}
-use Rattle.sandpiper_c.specs.declared.status.CallStatus.TheVariants as status
-use Rattle.sandpiper_c.specs.CallStatus.{number_of_status}
+use Rattle.c_handles.specs.declared.database.Sandpiper.{Sandpiper}
+use Rattle.c_handles.specs.declared.status.CallStatus.TheVariants as status
+use Rattle.c_handles.specs.CallStatus.{number_of_status}
 use Rattle.sandpiper_c.specs.Calls.{Writes}
 use Rattle.sandpiper_c.specs.Many.{AreWritten}
 

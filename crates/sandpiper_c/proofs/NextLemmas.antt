@@ -9,9 +9,9 @@ use Rattle.calls.specs.declared.reply.Refusal.TheVariants as refusal
 use Rattle.session_steps.specs.State.{State}
 use Rattle.session_steps.specs.NextRows.{count_in, ExactNextRows}
 use Rattle.session_core.specs.NextRows.{EngineNextRows}
-use Rattle.sandpiper_c.specs.declared.held.Held.{Held}
-use Rattle.sandpiper_c.specs.declared.status.CallStatus.TheVariants as status
-use Rattle.sandpiper_c.specs.CallStatus.{number_of_status, status_of_reply}
+use Rattle.c_handles.specs.declared.held.Held.{Held}
+use Rattle.c_handles.specs.declared.status.CallStatus.TheVariants as status
+use Rattle.c_handles.specs.CallStatus.{number_of_status, status_of_reply}
 use Rattle.sandpiper_c.specs.NextRows.{status_of_answer, count_of, HandsRows, HandsToPlaces}
 
 some-rows : (n : ℕ) → 0 < n → status_of_answer (Ok n) ≡ status.Rows

@@ -5,7 +5,7 @@ use Rattle.tuple_header.specs.declared.row_place.RowPlace.{RowPlace}
 use Rattle.calls.specs.declared.step.Step.{Step}
 use Rattle.calls.specs.declared.reply.Reply.{Reply}
 use Rattle.session_core.specs.Clauses.{WaitingFollows, WaitingExact}
-use Rattle.sandpiper_c.specs.declared.held.Held.{Held}
+use Rattle.c_handles.specs.declared.held.Held.{Held}
 use Rattle.sandpiper_c.specs.Rows.{IsText, text_within}
 
 -- the engine that is held did the step, with this reply

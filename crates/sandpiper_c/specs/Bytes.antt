@@ -5,43 +5,12 @@ use Rattle.page_slots.specs.View.{PageView}
 use Rattle.page_slots.specs.Reading.{page_of}
 use Rattle.page_slots.specs.Faults.{AreSoundRedirects, page_fault}
 use Rattle.page_layout.specs.declared.sizes.TheConstants.{PAGE_BYTES}
-use Rattle.page_layout.specs.declared.faults.PageFault.{PageFault}
-use Rattle.page_layout.specs.declared.faults.PageFault.TheVariants.{Length, Header, Bounds, BadPointer, BadTuple, BadRedirect, Overlap}
 use Rattle.session_steps.specs.State.{State}
-use Rattle.sandpiper_c.specs.declared.database.Sandpiper.{Sandpiper}
-use Rattle.sandpiper_c.specs.declared.held.Held.{Held}
-use Rattle.sandpiper_c.specs.declared.status.CallStatus.TheVariants as status
-use Rattle.sandpiper_c.specs.CallStatus.{number_of_status}
+use Rattle.c_handles.specs.declared.database.Sandpiper.{Sandpiper}
+use Rattle.c_handles.specs.declared.held.Held.{Held}
+use Rattle.c_handles.specs.declared.status.CallStatus.TheVariants as status
+use Rattle.c_handles.specs.CallStatus.{number_of_status}
 use Rattle.sandpiper_c.specs.Calls.{held_by}
-
--- the number of a fault
-abbrev pub number_of_page_fault : PageFault → ℕ
-number_of_page_fault Length = 1
-number_of_page_fault Header = 2
-number_of_page_fault Bounds = 3
-number_of_page_fault (BadPointer slot) = 4
-number_of_page_fault (BadTuple slot) = 5
-number_of_page_fault (BadRedirect slot) = 6
-number_of_page_fault (Overlap slot) = 7
-
--- the slot that it names, or 0
-abbrev pub slot_of_page_fault : PageFault → ℕ
-slot_of_page_fault Length = 0
-slot_of_page_fault Header = 0
-slot_of_page_fault Bounds = 0
-slot_of_page_fault (BadPointer slot) = slot
-slot_of_page_fault (BadTuple slot) = slot
-slot_of_page_fault (BadRedirect slot) = slot
-slot_of_page_fault (Overlap slot) = slot
-
--- what a check finds; 0 is nothing
-abbrev pub number_of_finding : Option PageFault → ℕ
-number_of_finding None = 0
-number_of_finding (Some fault) = number_of_page_fault fault
-
-abbrev pub slot_of_finding : Option PageFault → ℕ
-slot_of_finding None = 0
-slot_of_finding (Some fault) = slot_of_page_fault fault
 
 -- the first bytes are those of the page, with no fault where each redirect leads to a heap-only version; those behind are as they were
 pub record AreBytesOf (page : PageView) (old new : List ℕ) : Type 0 where

@@ -13,21 +13,19 @@ use Rattle.calls.specs.declared.reply.Reply.TheVariants as reply
 use Rattle.calls.specs.declared.reply.Refusal.TheVariants as refusal
 use Rattle.calls.specs.Words.{RowToWrite, FirstFault}
 use Rattle.session_core.specs.Clauses.{WaitingFollows, WaitingExact, IsNewWaiting}
-use Rattle.sandpiper_c.specs.declared.database.Sandpiper.{Sandpiper}
-use Rattle.sandpiper_c.specs.declared.held.Held.{Held}
-use Rattle.sandpiper_c.specs.declared.settings.SandpiperSettings.{SandpiperSettings}
+use Rattle.c_handles.specs.declared.database.Sandpiper.{Sandpiper}
+use Rattle.c_handles.specs.declared.held.Held.{Held}
+use Rattle.c_views.specs.declared.settings.SandpiperSettings.{SandpiperSettings}
+use Rattle.c_views.specs.Settings.{settings_of}
 use Rattle.sandpiper_c.specs.declared.writes.WriteKind.{WriteKind}
 use Rattle.sandpiper_c.specs.declared.writes.WriteKind.TheVariants.{Insert, Update}
-use Rattle.sandpiper_c.specs.declared.status.CallStatus.TheVariants as status
-use Rattle.sandpiper_c.specs.CallStatus.{number_of_status, status_of_reply, status_of_fault}
+use Rattle.c_handles.specs.declared.status.CallStatus.TheVariants as status
+use Rattle.c_handles.specs.CallStatus.{number_of_status, status_of_reply, status_of_fault}
 use Rattle.sandpiper_c.specs.Rows.{IsText}
 
 -- the engine that C's handle has, if it has one
 abbrev pub held_by : Sandpiper → Option Held
 held_by table = table.handle.held
-
-abbrev pub settings_of : SandpiperSettings → Settings
-settings_of s = record { max_pages = s.max_pages; stop_age = s.stop_age; freeze_min_age = s.freeze_min_age; first_xid = s.first_xid; dead_limit = s.dead_limit; indexed = s.indexed }
 
 -- a new engine of these settings, which has answered nothing yet, or the first fault
 abbrev pub OpensHeld : Settings → Option Held → ℕ → Option Held → Type 0

@@ -1,6 +1,3 @@
-pub mod Heap
-pub mod Owned
-pub mod CallStatus
 pub mod Rows
 pub mod Calls
 pub mod NextRows
@@ -11,3 +8,4 @@ pub mod Plans
 pub mod State
 pub mod Tickets
 pub mod Many
+pub mod Looks

@@ -8,11 +8,11 @@ use Rattle.calls.specs.declared.reply.Refusal.{Refusal}
 use Rattle.session_steps.specs.NextRows.{places_after, count_in, ExactNextRows}
 use Rattle.vacuum_engine.specs.State.{noted}
 use Rattle.session_core.specs.Clauses.{WaitingFollows}
-use Rattle.sandpiper_c.specs.declared.database.Sandpiper.{Sandpiper}
-use Rattle.sandpiper_c.specs.declared.held.Held.{Held}
-use Rattle.sandpiper_c.specs.declared.status.CallStatus.{CallStatus}
-use Rattle.sandpiper_c.specs.declared.status.CallStatus.TheVariants as status
-use Rattle.sandpiper_c.specs.CallStatus.{number_of_status, status_of_reply}
+use Rattle.c_handles.specs.declared.database.Sandpiper.{Sandpiper}
+use Rattle.c_handles.specs.declared.held.Held.{Held}
+use Rattle.c_handles.specs.declared.status.CallStatus.{CallStatus}
+use Rattle.c_handles.specs.declared.status.CallStatus.TheVariants as status
+use Rattle.c_handles.specs.CallStatus.{number_of_status, status_of_reply}
 use Rattle.sandpiper_c.specs.Calls.{held_by}
 
 -- the status of an answer: there are rows, or none is left, or it was refused

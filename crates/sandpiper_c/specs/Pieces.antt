@@ -2,23 +2,17 @@
 use Rattle.std.specs.Prelude.{◌≡◌, ℕ, Bool, true, false, Option, Some, None}
 use Rattle.calls.specs.declared.vacuum.Mode.{Mode}
 use Rattle.calls.specs.declared.vacuum.Mode.TheVariants.{Normal, Aggressive}
-use Rattle.calls.specs.declared.vacuum.Piece.{Piece}
-use Rattle.calls.specs.declared.vacuum.Piece.TheVariants as piece
 use Rattle.calls.specs.declared.step.Step.TheVariants as step
 use Rattle.calls.specs.declared.reply.Reply.{Reply}
 use Rattle.calls.specs.declared.reply.Reply.TheVariants as reply
-use Rattle.sandpiper_c.specs.declared.database.Sandpiper.{Sandpiper}
-use Rattle.sandpiper_c.specs.declared.vacuum.SandpiperPiece.{SandpiperPiece}
+use Rattle.c_handles.specs.declared.database.Sandpiper.{Sandpiper}
+use Rattle.c_views.specs.declared.piece.SandpiperPiece.{SandpiperPiece}
+use Rattle.c_views.specs.Pieces.{shown_piece}
 use Rattle.sandpiper_c.specs.Calls.{held_by, ShowsHeld}
 
 abbrev pub mode_of : Bool → Mode
 mode_of true = Aggressive
 mode_of false = Normal
-
-abbrev pub shown_piece : Piece → SandpiperPiece
-shown_piece (piece.Heap page) = record { kind = 1; number = page; oldest = 0 }
-shown_piece (piece.Index index) = record { kind = 2; number = index; oldest = 0 }
-shown_piece (piece.Free page) = record { kind = 3; number = page; oldest = 0 }
 
 -- what a reply, if there is one, says of the vacuum: what it did, or that it has ended, and the oldest id that is remembered
 abbrev pub piece_in : Option Reply → Option SandpiperPiece

@@ -1,19 +1,15 @@
 -- Plans, as C makes them.
-use Rattle.std.specs.Prelude.{◌≡◌, ◌⊎◌, ℕ, ◌<◌, ◌==◌, if◌then◌else◌, List, length, map}
+use Rattle.std.specs.Prelude.{◌≡◌, ◌⊎◌, ℕ, ◌<◌, List, length, map}
 use Rattle.prune_actions.specs.declared.Action.{Action}
-use Rattle.prune_actions.specs.declared.Action.TheVariants.{Unuse, Kill, Redirect}
 use Rattle.calls.specs.declared.step.Step.TheVariants as step
 use Rattle.calls.specs.declared.reply.Refusal.TheVariants as refusal
 use Rattle.calls.specs.Words.{PlanToApply}
-use Rattle.sandpiper_c.specs.declared.database.Sandpiper.{Sandpiper}
-use Rattle.sandpiper_c.specs.declared.plans.SandpiperAction.{SandpiperAction}
-use Rattle.sandpiper_c.specs.declared.status.CallStatus.TheVariants as status
-use Rattle.sandpiper_c.specs.CallStatus.{number_of_status}
+use Rattle.c_handles.specs.declared.database.Sandpiper.{Sandpiper}
+use Rattle.c_views.specs.declared.plan.SandpiperAction.{SandpiperAction}
+use Rattle.c_views.specs.Actions.{action_of_kind}
+use Rattle.c_handles.specs.declared.status.CallStatus.TheVariants as status
+use Rattle.c_handles.specs.CallStatus.{number_of_status}
 use Rattle.sandpiper_c.specs.Calls.{held_by, Does}
-
--- what is done by kind; a kind that there is not leads to slot 0, which no plan that checks does
-abbrev pub action_of_kind : (kind target : ℕ) → Action
-action_of_kind kind target = if kind == 0 then Unuse else if kind == 1 then Kill else if kind == 2 then Redirect target else Redirect 0
 
 -- the slot, and what is done to it
 abbrev pub action_in : SandpiperAction → ℕ × Action

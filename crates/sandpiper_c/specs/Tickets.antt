@@ -9,11 +9,11 @@ use Rattle.calls.specs.declared.reply.Refusal.{Refusal}
 use Rattle.calls.specs.declared.reply.Refusal.TheVariants as refusal
 use Rattle.session_steps.specs.State.{State}
 use Rattle.session_steps.specs.Tickets.{TakesTicket, RefusesTicket, AreViewed}
-use Rattle.sandpiper_c.specs.declared.database.Sandpiper.{Sandpiper}
-use Rattle.sandpiper_c.specs.declared.held.Held.{Held}
-use Rattle.sandpiper_c.specs.declared.ticket.SandpiperTicket.{SandpiperTicket}
-use Rattle.sandpiper_c.specs.declared.status.CallStatus.TheVariants as status
-use Rattle.sandpiper_c.specs.CallStatus.{number_of_status}
+use Rattle.c_handles.specs.declared.database.Sandpiper.{Sandpiper}
+use Rattle.c_handles.specs.declared.held.Held.{Held}
+use Rattle.c_handles.specs.declared.ticket.SandpiperTicket.{SandpiperTicket}
+use Rattle.c_handles.specs.declared.status.CallStatus.TheVariants as status
+use Rattle.c_handles.specs.CallStatus.{number_of_status}
 use Rattle.sandpiper_c.specs.Calls.{held_by}
 
 abbrev pub core_of : Held → State

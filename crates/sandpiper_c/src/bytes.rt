@@ -4,12 +4,13 @@ ghost use Rattle.std.specs.Prelude.{◌≡◌, ◌≤◌, length, Some};
 ghost use Rattle.page_layout.specs.declared.sizes.TheConstants.{PAGE_BYTES as PAGE_LENGTH};
 ghost use Rattle.page_slots.specs.Faults.{page_fault};
 ghost use Rattle.sandpiper_c.specs.Calls.{StaysAsIs};
-ghost use Rattle.sandpiper_c.specs.Bytes.{number_of_page_fault, slot_of_page_fault, number_of_finding, slot_of_finding, page_numbered, AreBytesOf, ShowsBytes, ShowsBytesOf};
+ghost use Rattle.c_views.specs.Faults.{number_of_finding, slot_of_finding};
+ghost use Rattle.sandpiper_c.specs.Bytes.{page_numbered, AreBytesOf, ShowsBytes, ShowsBytesOf};
 
-use crate::database::Sandpiper;
-use crate::status::CallStatus;
+use c_handles::{CallStatus, Sandpiper};
+use c_views::fault_in;
 use page_layout::put_bytes;
-use page_slots::{PAGE_BYTES, Page, PageFault, check_page};
+use page_slots::{PAGE_BYTES, Page};
 use session_core::Engine;
 use std::alloc::Global;
 
@@ -63,48 +64,11 @@ pub extern "C" fn sandpiper_page_bytes(
     }
 }
 
-/// The number of a fault.
-fn number_of(fault: PageFault) -> u32
-    ensures { result ≡ number_of_page_fault fault }
-{
-    match fault {
-        PageFault::Length => 1,
-        PageFault::Header => 2,
-        PageFault::Bounds => 3,
-        PageFault::BadPointer(_) => 4,
-        PageFault::BadTuple(_) => 5,
-        PageFault::BadRedirect(_) => 6,
-        PageFault::Overlap(_) => 7,
-    }
-}
-
-/// The slot that a fault names, or 0.
-fn slot_of(fault: PageFault) -> u32
-    ensures { result ≡ slot_of_page_fault fault }
-{
-    match fault {
-        PageFault::Length | PageFault::Header | PageFault::Bounds => 0,
-        PageFault::BadPointer(slot) => u32::from(slot),
-        PageFault::BadTuple(slot) => u32::from(slot),
-        PageFault::BadRedirect(slot) => u32::from(slot),
-        PageFault::Overlap(slot) => u32::from(slot),
-    }
-}
-
 /// What is wrong first with these bytes, as those of a page, or 0. The slot that has the fault is written to `slot`, or 0.
 #[unsafe(no_mangle)]
 pub extern "C" fn sandpiper_check_page(bytes: &[u8], slot: &mut u32) -> u32
     ensures fault { result ≡ number_of_finding (page_fault bytes.now) }
     ensures slot { slot.new ≡ slot_of_finding (page_fault bytes.now) }
 {
-    match check_page(bytes) {
-        Ok(_) => {
-            *slot = 0;
-            0
-        }
-        Err(fault) => {
-            *slot = slot_of(fault);
-            number_of(fault)
-        }
-    }
+    fault_in(bytes, slot)
 }

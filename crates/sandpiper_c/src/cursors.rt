@@ -5,10 +5,8 @@ ghost use Rattle.calls.specs.declared.step.Step.TheVariants as step;
 ghost use Rattle.sandpiper_c.specs.Calls.{Does};
 ghost use Rattle.sandpiper_c.specs.NextRows.{status_of_answer, count_of, HandsToPlaces, HandsOutNext};
 
-use crate::database::Sandpiper;
-use crate::held::Held;
-use crate::status::CallStatus;
 use crate::steps::do_step;
+use c_handles::{CallStatus, Held, Sandpiper};
 use session_core::{Refusal, RowPlace, Step};
 use std::alloc::Global;
 

@@ -4,9 +4,8 @@ ghost use Rattle.calls.specs.declared.step.Step.TheVariants as step;
 ghost use Rattle.sandpiper_c.specs.Calls.{write_of};
 ghost use Rattle.sandpiper_c.specs.Many.{WritesMany};
 
-use crate::database::Sandpiper;
-use crate::status::CallStatus;
 use crate::writes::{WriteKind, write};
+use c_handles::{CallStatus, Sandpiper};
 use session_core::RowPlace;
 use std::alloc::Global;
 

@@ -4,12 +4,11 @@ ghost use Rattle.std.specs.Prelude.{◌≡◌, IfOk, IfErr};
 ghost use Rattle.calls.specs.declared.reply.Reply.TheVariants as reply;
 ghost use Rattle.calls.specs.Words.{FirstFault};
 ghost use Rattle.session_core.specs.Clauses.{IsNewWaiting};
-ghost use Rattle.sandpiper_c.specs.Calls.{settings_of, OpensTable, ClosesTable};
+ghost use Rattle.c_views.specs.Settings.{settings_of};
+ghost use Rattle.sandpiper_c.specs.Calls.{OpensTable, ClosesTable};
 
-use crate::database::Sandpiper;
-use crate::held::Held;
-use crate::settings::{self, SandpiperSettings};
-use crate::status::CallStatus;
+use c_handles::{CallStatus, Held, Sandpiper};
+use c_views::{SandpiperSettings, settings_of};
 use session_core::{Engine, Reply, SettingsFault};
 use std::alloc::Global;
 use table_scans::no_row;
@@ -20,7 +19,7 @@ fn new_held(alloc: Global, settings: &SandpiperSettings) -> Result<Box<Held>, Se
     ensures reply { IfOk result (λ b. b.value.reply ≡ reply.Done) }
     ensures fault { IfErr result (λ fault. FirstFault (settings_of settings.now) fault) }
 {
-    let engine = Engine::new(alloc, settings::of(settings))?;
+    let engine = Engine::new(alloc, settings_of(settings))?;
     let held = Held {
         engine,
         reply: Reply::Done,

@@ -2,8 +2,7 @@
 
 ghost use Rattle.sandpiper_c.specs.Calls.{StaysAsIs, TellsWhetherOpen};
 
-use crate::database::Sandpiper;
-use crate::status::CallStatus;
+use c_handles::{CallStatus, Sandpiper};
 use std::alloc::Global;
 
 /// Forgets where keys were put, and notes it from now on, or never, as [`session_core::Engine::keep_places`] does.

@@ -3,9 +3,7 @@
 ghost use Rattle.calls.specs.declared.step.Step.TheVariants as step;
 ghost use Rattle.sandpiper_c.specs.Calls.{Does, DoesWithReply, TakesStep, TakesShowing, ShowsRow, row_found_in, Gets};
 
-use crate::database::Sandpiper;
-use crate::held::Held;
-use crate::status::CallStatus;
+use c_handles::{CallStatus, Held, Sandpiper};
 use session_core::{RowPlace, Step};
 use std::alloc::Global;
 

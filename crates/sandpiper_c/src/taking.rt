@@ -7,10 +7,7 @@ ghost use Rattle.session_steps.specs.Tickets.{TakesTicket, AreViewed};
 ghost use Rattle.sandpiper_c.specs.Calls.{StaysAsIs};
 ghost use Rattle.sandpiper_c.specs.Tickets.{core_of, ticket_by, RefusesPage, GivesTicket, GivesTicketOf, ShowsRows, ReadsRows, ReadsTicket, ClosesTicket};
 
-use crate::database::Sandpiper;
-use crate::held::Held;
-use crate::status::CallStatus;
-use crate::ticket::SandpiperTicket;
+use c_handles::{CallStatus, Held, Sandpiper, SandpiperTicket};
 use session_core::{Refusal, RowPlace};
 use std::alloc::Global;
 use table_scans::{Ticket, resolve};

@@ -3,25 +3,13 @@
 ghost use Rattle.std.specs.Prelude.{◌≡◌, Some};
 ghost use Rattle.calls.specs.declared.step.Step.TheVariants as step;
 ghost use Rattle.sandpiper_c.specs.Calls.{Does, TakesShowing};
-ghost use Rattle.sandpiper_c.specs.Pieces.{mode_of, shown_piece, piece_in, ShowsPiece, StepsVacuum};
+ghost use Rattle.sandpiper_c.specs.Pieces.{mode_of, piece_in, ShowsPiece, StepsVacuum};
 
-use crate::database::Sandpiper;
-use crate::held::Held;
-use crate::status::CallStatus;
 use crate::steps::{do_step, held_step};
-use session_core::{Mode, Piece, Reply, Step};
+use c_handles::{CallStatus, Held, Sandpiper};
+use c_views::{SandpiperPiece, of_piece};
+use session_core::{Mode, Reply, Step};
 use std::alloc::Global;
-
-/// What a step of a vacuum did: its kind is 1 if it visited the page of this number, 2 if it removed entries from the index of this number,
-/// 3 if it freed slots of the page of this number, and 0 if the vacuum has ended. What its kind has not is 0.
-#[repr(C)]
-#[derive(Clone, Copy)]
-pub struct SandpiperPiece {
-    pub kind: u32,
-    pub number: u32,
-    /// The oldest id that is remembered, once the vacuum has ended.
-    pub oldest: u32,
-}
 
 /// The mode of a vacuum.
 fn mode(aggressive: bool) -> Mode
@@ -31,29 +19,6 @@ fn mode(aggressive: bool) -> Mode
         Mode::Aggressive
     } else {
         Mode::Normal
-    }
-}
-
-/// What C reads of what a step did.
-fn of_piece(piece: Piece) -> SandpiperPiece
-    ensures { result ≡ shown_piece piece }
-{
-    match piece {
-        Piece::Heap(page) => SandpiperPiece {
-            kind: 1,
-            number: page,
-            oldest: 0,
-        },
-        Piece::Index(index) => SandpiperPiece {
-            kind: 2,
-            number: index as u32,
-            oldest: 0,
-        },
-        Piece::Free(page) => SandpiperPiece {
-            kind: 3,
-            number: page,
-            oldest: 0,
-        },
     }
 }
 

@@ -6,11 +6,9 @@ ghost use Rattle.calls.specs.declared.step.Step.TheVariants as step;
 ghost use Rattle.sandpiper_c.specs.Calls.{DoesWithReply, Writes, write_of};
 ghost use Rattle.sandpiper_c.specs.Rows.{text_within};
 
-use crate::database::Sandpiper;
-use crate::held::Held;
 use crate::rows;
-use crate::status::CallStatus;
 use crate::steps::do_step;
+use c_handles::{CallStatus, Held, Sandpiper};
 use session_core::{Refusal, RowIn, RowPlace, Step};
 use std::alloc::Global;
 use tuple_header::MOST_BODY;

@@ -14,8 +14,8 @@ use Rattle.script.specs.Script.{Event, ScriptOutcome, IsBadHeading, IsScriptRun,
 use Rattle.script.specs.Refusals.{Refusals, IsRefused}
 use Rattle.script.specs.Steps.{Uses, Advance, Advances, MatchesHeading}
 use Rattle.script.specs.Next.{IsNext}
-use Rattle.script.specs.declared.run.Next.{Next}
-use Rattle.script.specs.declared.run.Next.TheVariants.{Line, Bad, End}
+use Rattle.script.specs.declared.run.Front.{Front}
+use Rattle.script.specs.declared.run.Front.TheVariants.{Line, Bad, End}
 use Rattle.script.specs.declared.fault.ShellFault.{ShellFault}
 use Rattle.script.specs.declared.fault.ShellFault.TheVariants.{BadLine, BadPage, Input, Output, NoMemory, TooManyLines}
 use Rattle.script.proofs.PiecesLemmas.{Appends-Appends}
@@ -30,12 +30,12 @@ first_known before now old p none t =
 empty_case : (s : Settings) (more : List ℕ) → [] ≡ with_feed (heading s) ++ more → ⊥
 empty_case s more e = cc
 
-bad_if : (next : Next) (p rest input : List ℕ) → IsNext next p (Some rest) → ((n : ℕ) → next ≡ Line n → ⊥) → input ≡ p ++ rest → IsBadHeading input
+bad_if : (next : Front) (p rest input : List ℕ) → IsNext next p (Some rest) → ((n : ℕ) → next ≡ Line n → ⊥) → input ≡ p ++ rest → IsBadHeading input
 bad_if (Line n) p rest input h other e = absurd (other n refl)
 bad_if Bad p rest input h other e = λ s more fits flags short f. no_text p rest (heading s) more h (Free-heading s fits) short (sym e ∙ f)
 bad_if End p rest input h other e = λ s more fits flags short f. empty_case s more (sym h.1 ∙ sym (ap (λ r. r ++ rest) h.0) ∙ sym e ∙ f)
 
-pub bad_first : (before now : Option (List ℕ)) (old p : List ℕ) (next : Next) → old ≡ [] → TakesText before now old p → IsNext next p now → ((n : ℕ) → next ≡ Line n → ⊥) → IfSome before (λ input. IsBadHeading input)
+pub bad_first : (before now : Option (List ℕ)) (old p : List ℕ) (next : Front) → old ≡ [] → TakesText before now old p → IsNext next p now → ((n : ℕ) → next ≡ Line n → ⊥) → IfSome before (λ input. IsBadHeading input)
 bad_first before now old p next none t h other =
     IfSome_then before (first_known before now old p none t) (λ input k. bad_if next p k.0 input (rw k.1 at h) other k.2)
 
@@ -51,14 +51,14 @@ first_used before now old p n s none t at h =
     let u = Uses-prefix before now old [] p (with_feed (heading s)) (drop (n + 1) p) (position-split p n at ∙ ap (λ x. with_feed x ++ drop (n + 1) p) h) (Uses-Takes before before now old [] old p (Uses-refl before old) t) in
     subst (λ (o : List ℕ). Uses before now o (with_feed (heading s)) (drop (n + 1) p)) none u
 
-nothing_first : (a b c : Option (List ℕ)) (x : List ℕ) → Appends a b [] → Appends b c x → Appends a c x
+pub nothing_first : (a b c : Option (List ℕ)) (x : List ℕ) → Appends a b [] → Appends b c x → Appends a c x
 nothing_first a b c x h k = Appends-Appends a b c [] x h k
 
-begun_first : (a b c : Option (List ℕ)) (x : List ℕ) → Appends a b [] → WritesBeginning b c x → WritesBeginning a c x
+pub begun_first : (a b c : Option (List ℕ)) (x : List ℕ) → Appends a b [] → WritesBeginning b c x → WritesBeginning a c x
 begun_first a b c x h k = (k.0, (k.1.0, nothing_first a b c k.1.0 h k.1.1, k.1.2))
 
 -- a new engine of the settings, which a first line can spell, leads on
-ran_from : (s : Settings) (from : WaitingView) (events : List Event) (last : WaitingView) → AreSettings s → length s.indexed ≡ 4 → IsNewWaiting s from
+pub ran_from : (s : Settings) (from : WaitingView) (events : List Event) (last : WaitingView) → AreSettings s → length s.indexed ≡ 4 → IsNewWaiting s from
     → AllByRecursion (λ e. IsAllowed (line_of e)) events → EventsLead from events last → IsScriptRun s events
 ran_from s from events last fits columns new allowed led = record {
   in_range = fits;

@@ -236,7 +236,7 @@ adv_over from state before now old new w0 w1 text left number h last =
       ends = (sym h.number_is ∙ last, (left, h.gives));
     })
 
-Gives-rest : (a b c : Option (List ℕ)) (text left : List ℕ) → GivesText a b text left → Appends b c left → Appends a c text
+pub Gives-rest : (a b c : Option (List ℕ)) (text left : List ℕ) → GivesText a b text left → Appends b c left → Appends a c text
 Gives-rest a b c text left h k = rw h.2 (Appends-Appends a b c h.0 left h.1 k)
 
 closed_fault : (from state : WaitingView) (before now : Option (List ℕ)) (old new : List ℕ) (w0 w1 w2 : Option (List ℕ)) (text left : List ℕ) (number : ℕ) (r : Result (Unit {0}) ShellFault) (log : Refusals)

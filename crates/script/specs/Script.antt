@@ -10,7 +10,7 @@ use Rattle.calls.specs.declared.settings.Settings.{Settings}
 use Rattle.calls.specs.declared.step.Step.{Step}
 use Rattle.calls.specs.declared.step.Step.TheVariants as step
 use Rattle.calls.specs.declared.vacuum.Piece.{Piece}
-use Rattle.index_nodes.specs.declared.entry.Entry.{Entry}
+use Rattle.index_entries.specs.declared.entry.Entry.{Entry}
 use Rattle.script.specs.Engine.{WaitingView, IsNewWaiting, WaitingFollows, WaitingExact, RepliesLead, beginning, engine_index, bits_of, mark_on, next_id, IsRun}
 use Rattle.script.specs.Pieces.{GivesText}
 use Rattle.script_text.specs.Grammar.{heading, spelling, with_feed, IsAllowed}

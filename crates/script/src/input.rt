@@ -15,7 +15,7 @@ use std::marker::Model;
 
 /// Bytes that were read and not used yet, from `start` to `end` of a buffer that never grows.
 #[derive(Drop)]
-pub(crate) struct Pending {
+pub struct Pending {
     bytes: Vec<u8>,
     start: usize,
     end: usize,
@@ -59,8 +59,8 @@ fn read_some<R: Read, W>(
 }
 
 impl Pending {
-    // Nothing was read yet.
-    pub(crate) fn new(alloc: Global) -> Result<Pending, RefusedGrowth>
+    /// Nothing was read yet.
+    pub fn new(alloc: Global) -> Result<Pending, RefusedGrowth>
         ensures { IfOk result (λ p. p ≡ []) }
     {
         Ok(Pending {
@@ -76,7 +76,8 @@ impl Pending {
         self.end - self.start
     }
 
-    pub(crate) fn as_slice(&self) -> &[u8]
+    /// The bytes.
+    pub fn as_slice(&self) -> &[u8]
         ensures { result.now ≡ self.now }
     {
         &self.bytes[self.start..self.end]
@@ -90,8 +91,8 @@ impl Pending {
         line_feed_in(self.as_slice())
     }
 
-    // Drops the first bytes.
-    pub(crate) fn consume(&mut self, n: usize)
+    /// Drops the first bytes.
+    pub fn consume(&mut self, n: usize)
         requires { n ≤ length self.old }
         ensures { self.new ≡ drop n self.old }
     {

@@ -66,7 +66,7 @@ pub(crate) fn is_interruption(e: &io::Error) -> bool
 
 impl<R, W> IoLog<R, W> {
     /// Nothing was refused yet.
-    pub(crate) fn new() -> IoLog<R, W>
+    pub fn new() -> IoLog<R, W>
         ensures input { result.input ≡ false }
         ensures output { result.output ≡ false }
         ensures interrupted { result.interrupted ≡ 0 }
@@ -111,7 +111,7 @@ impl<R, W> IoLog<R, W> {
     }
 
     /// Notes that a growth was refused.
-    pub(crate) fn no_memory(&mut self, _refused: RefusedGrowth) -> ShellFault
+    pub fn no_memory(&mut self, _refused: RefusedGrowth) -> ShellFault
         ensures fault { result ≡ ShellFault.NoMemory }
         ensures memory { self.new.memory ≡ true }
         ensures input { self.new.input ≡ self.old.input }
@@ -123,7 +123,7 @@ impl<R, W> IoLog<R, W> {
     }
 
     /// A new engine of these settings, where they are in range.
-    pub(crate) fn new_engine(
+    pub fn new_engine(
         &mut self,
         alloc: Global,
         settings: Settings,

@@ -4,7 +4,8 @@
 //! read are of the grammar (`script_text`), that the replies to their steps are a run of the history and come from an engine made
 //! by the first line's settings, and that exactly their text was written (`specs/Script.antt`); after a fault, which part of this
 //! holds, and that the [`IoLog`] had noted what was refused (`specs/Refusals.antt`). [`command_of`] of `script_text` says what the
-//! program's words ask for. [`inspect_script`] reads a page and writes what its bytes say (`specs/Inspected.antt`).
+//! program's words ask for. [`inspect_script`] reads a page and writes what its bytes say (`specs/Inspected.antt`). The parts of a run,
+//! from [`next_line`] on, are public for a run of a further language.
 #![tactic(auto)]
 
 mod fault;
@@ -19,8 +20,9 @@ mod run;
 mod threads;
 
 pub use fault::ShellFault;
+pub use input::Pending;
 pub use io_log::IoLog;
 pub use page_bytes::inspect_script;
-pub use run::run_script;
+pub use run::{FULL, Front, close, do_line, first_line, next_line, run_script, write_if_full};
 pub use script_text::{Command, USAGE, command_of};
 pub use threads::threads_script;

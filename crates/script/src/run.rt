@@ -26,25 +26,29 @@ use session_core::{Engine, Reply, Settings};
 use std::alloc::Global;
 use std::io::{Read, Write};
 
-// Text is written out once there is this much, though more could be read without waiting.
-const FULL: usize = 32768;
+/// Text is written out once there is this much, though more could be read without waiting.
+pub const FULL: usize = 32768;
 
+/// What stands at the front of what was read.
 #[derive(Drop)]
-pub(crate) enum Next {
+pub enum Front {
+    /// A line of so many bytes, and behind it its line feed.
     Line(usize),
+    /// No line, or one that is too long.
     Bad,
+    /// Nothing: all was read.
     End,
 }
 
-// Finds the next line. Before it reads, it writes what is to be written, so that nobody waits for an answer.
+/// Finds the next line. Before it reads, it writes what is to be written, so that nobody waits for an answer.
 #[inline(always)]
-pub(crate) fn next_line<R: Read, W: Write>(
+pub fn next_line<R: Read, W: Write>(
     log: &mut IoLog<R, W>,
     pending: &mut Pending,
     reader: &mut R,
     text: &mut Vec<u8>,
     writer: &mut W,
-) -> Result<Next, ShellFault>
+) -> Result<Front, ShellFault>
     ensures takes { TakesText (R.remaining reader.old)
         (R.remaining reader.new) pending.old pending.new }
     ensures gives { IfOk result
@@ -58,29 +62,29 @@ pub(crate) fn next_line<R: Read, W: Write>(
     while pending.len() <= MOST_LINE_BYTES {
         if let Some(n) = pending.line_feed() {
             return Ok(if n <= MOST_LINE_BYTES {
-                Next::Line(n)
+                Front::Line(n)
             } else {
-                Next::Bad
+                Front::Bad
             });
         }
         write_out(log, text, writer)?;
         if pending.refill(log, reader)? == 0 {
             return Ok(if pending.len() == 0 {
-                Next::End
+                Front::End
             } else {
-                Next::Bad
+                Front::Bad
             });
         }
     }
     match pending.line_feed() {
-        Some(n) if n <= MOST_LINE_BYTES => Ok(Next::Line(n)),
-        _ => Ok(Next::Bad),
+        Some(n) if n <= MOST_LINE_BYTES => Ok(Front::Line(n)),
+        _ => Ok(Front::Bad),
     }
 }
 
-// Does what a line asks for, and adds its answer; false where the line isn't allowed. The reply to a step is put in the place of an
-// earlier one.
-fn do_line(
+/// Does what a line asks for, and adds its answer; false where the line isn't allowed, and then nothing is done. The reply to a step is
+/// put in the place of an earlier one.
+pub fn do_line(
     alloc: Global,
     engine: &mut Engine,
     reply: &mut Reply,
@@ -92,6 +96,7 @@ fn do_line(
     ensures bad { IfOk result
         (λ b. OnFalse b ((l : Line) → LineFits l → line.now ≡ spelling l → ⊥)) }
     ensures same { IfOk result (λ b. OnFalse b (text.new.items ≡ text.old.items)) }
+    ensures kept { IfOk result (λ b. OnFalse b (engine.new ≡ engine.old)) }
 {
     match line_at(alloc, line)? {
         Some(Line::Do(step)) => {
@@ -120,8 +125,8 @@ fn do_line(
     }
 }
 
-// Writes what is to be written, and gives the result.
-fn close<R, W: Write>(
+/// Writes what is to be written, and gives the result.
+pub fn close<R, W: Write>(
     log: &mut IoLog<R, W>,
     text: &mut Vec<u8>,
     writer: &mut W,
@@ -138,8 +143,8 @@ fn close<R, W: Write>(
     }
 }
 
-// Writes the text where it has come to a block, so that less than one is kept.
-pub(crate) fn write_if_full<R, W: Write>(
+/// Writes the text where it has come to a block, so that less than one is kept.
+pub fn write_if_full<R, W: Write>(
     log: &mut IoLog<R, W>,
     text: &mut Vec<u8>,
     writer: &mut W,
@@ -179,9 +184,9 @@ fn run_lines<R: Read, W: Write>(
             Err(fault) => return Err(fault),
         };
         let n = match next {
-            Next::Line(n) => n,
-            Next::Bad => return close(log, text, writer, Err(ShellFault::BadLine(number))),
-            Next::End => return close(log, text, writer, Ok(())),
+            Front::Line(n) => n,
+            Front::Bad => return close(log, text, writer, Err(ShellFault::BadLine(number))),
+            Front::End => return close(log, text, writer, Ok(())),
         };
         match do_line(alloc, engine, &mut reply, text, &pending.as_slice()[..n]) {
             Ok(true) => {}
@@ -218,7 +223,7 @@ pub(crate) fn first_settings<R: Read, W: Write>(
         Ok(next) => next,
         Err(fault) => return Err(fault),
     };
-    let Next::Line(n) = next else {
+    let Front::Line(n) = next else {
         return Err(ShellFault::BadLine(1));
     };
     let Some(settings) = settings_at(&pending.as_slice()[..n]) else {
@@ -231,8 +236,8 @@ pub(crate) fn first_settings<R: Read, W: Write>(
     Ok(settings)
 }
 
-// Makes the engine that the first line asks for, and uses that line.
-fn first_line<R: Read, W: Write>(
+/// Makes the engine that the first line asks for, and uses that line.
+pub fn first_line<R: Read, W: Write>(
     alloc: Global,
     log: &mut IoLog<R, W>,
     pending: &mut Pending,

@@ -12,7 +12,7 @@ use crate::fault::ShellFault;
 use crate::input::Pending;
 use crate::io_log::IoLog;
 use crate::output::write_out;
-use crate::run::{Next, first_settings, next_line, write_if_full};
+use crate::run::{Front, first_settings, next_line, write_if_full};
 use script_text::{RefusedGrowth, tell_reply, tell_step, worker_step_at};
 use session_core::{Reply, Step};
 use shared_heap::Line;
@@ -46,9 +46,9 @@ fn read_lines<R: Read, W: Write>(
             Err(fault) => return Err(fault),
         };
         let n = match next {
-            Next::Line(n) => n,
-            Next::Bad => return Err(ShellFault::BadLine(number)),
-            Next::End => return Ok(()),
+            Front::Line(n) => n,
+            Front::Bad => return Err(ShellFault::BadLine(number)),
+            Front::End => return Ok(()),
         };
         let read = match worker_step_at(alloc, &pending.as_slice()[..n]) {
             Ok(read) => read,

@@ -3,10 +3,10 @@ use Rattle.std.proofs.Common.{◌≡◌, ℕ, ◌+◌, ◌<◌, List, [], ◌∷
 use Rattle.std.proofs.lemmas.List.{append-nil, take_more}
 use Rattle.std.proofs.lemmas.Option.{slice_get_within, slice_get-get_or, get_or_from_slice_get, none-some}
 use Rattle.std.proofs.lemmas.Grind.{flat_map-append}
-use Rattle.index_nodes.specs.Order.{IsAscending}
-use Rattle.index_nodes.specs.Sets.{IsLeast, IsAfter}
-use Rattle.index_nodes.proofs.LookUpLemmas.{first_in_turn, next_in_turn}
-use Rattle.index_nodes.specs.declared.entry.Entry.{Entry}
+use Rattle.index_entries.specs.Order.{IsAscending}
+use Rattle.index_entries.specs.Sets.{IsLeast, IsAfter}
+use Rattle.index_entries.proofs.LookUpLemmas.{first_in_turn, next_in_turn}
+use Rattle.index_entries.specs.declared.entry.Entry.{Entry}
 use Rattle.script_text.specs.Answers.{entry_text, entry_lines}
 
 pub entry_lines-more : (xs : List Entry) (i : ℕ) (e : Entry) → slice_get xs i ≡ Some e → entry_lines (take (i + 1) xs) ≡ entry_lines (take i xs) ++ 10 ∷ entry_text e

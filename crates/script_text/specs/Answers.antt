@@ -13,7 +13,7 @@ use Rattle.calls.specs.declared.reply.Reply.{Reply}
 use Rattle.calls.specs.declared.reply.Reply.TheVariants as reply
 use Rattle.calls.specs.declared.vacuum.Piece.{Piece}
 use Rattle.calls.specs.declared.vacuum.Piece.TheVariants as piece
-use Rattle.index_nodes.specs.declared.entry.Entry.{Entry}
+use Rattle.index_entries.specs.declared.entry.Entry.{Entry}
 use Rattle.script_text.specs.Grammar.{spaced, row_text}
 
 -- the number and the name of a refusal

@@ -11,7 +11,8 @@ use crate::page::label;
 use calls::{Piece, Refusal, Reply, Row};
 use itoa::Buffer;
 
-pub(crate) fn put_unsigned(out: &mut Vec<u8>, n: u64) -> Result<(), RefusedGrowth>
+/// Adds a number.
+pub fn put_unsigned(out: &mut Vec<u8>, n: u64) -> Result<(), RefusedGrowth>
     ensures { OnOk result (out.new.items ≡ out.old.items ++ decimal n) }
 {
     let mut buffer = Buffer::new();

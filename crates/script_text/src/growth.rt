@@ -19,7 +19,7 @@ const REFUSED: RefusedGrowth = RefusedGrowth {
 };
 
 /// Adds a byte.
-pub(crate) fn push(out: &mut Vec<u8>, byte: u8) -> Result<(), RefusedGrowth>
+pub fn push(out: &mut Vec<u8>, byte: u8) -> Result<(), RefusedGrowth>
     ensures added { OnOk result (out.new.items ≡ out.old.items ++ byte ∷ []) }
     ensures full { OnErr result (vec_capacity out.old ≤ vec_len out.old) }
 {
@@ -44,8 +44,29 @@ pub(crate) fn push_action(
     }
 }
 
+/// Adds an item to a list.
+pub fn push_item<T: Drop>(list: &mut Vec<T>, item: T) -> Result<(), RefusedGrowth>
+    ensures added { OnOk result (list.new.items ≡ list.old.items ++ item ∷ []) }
+    ensures full { OnErr result (vec_capacity list.old ≤ vec_len list.old) }
+{
+    match list.push(item) {
+        Ok(()) => Ok(()),
+        Err(_) => Err(REFUSED),
+    }
+}
+
+/// A list of these numbers.
+pub fn copy_numbers(alloc: Global, numbers: &[u32]) -> Result<Vec<u32>, RefusedGrowth>
+    ensures { IfOk result (λ list. list.items ≡ numbers.now) }
+{
+    match Vec::from_slice(alloc, numbers) {
+        Ok(list) => Ok(list),
+        Err(_) => Err(REFUSED),
+    }
+}
+
 /// Adds bytes.
-pub(crate) fn extend(out: &mut Vec<u8>, bytes: &[u8]) -> Result<(), RefusedGrowth>
+pub fn extend(out: &mut Vec<u8>, bytes: &[u8]) -> Result<(), RefusedGrowth>
     ensures added { OnOk result (out.new.items ≡ out.old.items ++ bytes.now) }
     ensures full { OnErr result (vec_capacity out.old < vec_len out.old + length bytes.now) }
 {

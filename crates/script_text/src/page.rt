@@ -10,17 +10,17 @@ use crate::growth::{RefusedGrowth, extend, push};
 use page_slots::{Page, Slot};
 use xid_circle::Xid;
 
-// A space and a number.
-pub(crate) fn spaced_number(out: &mut Vec<u8>, n: u64) -> Result<(), RefusedGrowth>
+/// Adds a space and a number.
+pub fn spaced_number(out: &mut Vec<u8>, n: u64) -> Result<(), RefusedGrowth>
     ensures { OnOk result (out.new.items ≡ out.old.items ++ spaced (decimal n)) }
 {
     push(out, b' ')?;
     put_unsigned(out, n)
 }
 
-// A word or words, and a number behind them.
+/// Adds a word or words, and a number behind them.
 #[tactic(auto, unfolding(crate::specs::Answers::labelled))]
-pub(crate) fn label(out: &mut Vec<u8>, words: &[u8], n: u64) -> Result<(), RefusedGrowth>
+pub fn label(out: &mut Vec<u8>, words: &[u8], n: u64) -> Result<(), RefusedGrowth>
     ensures { OnOk result (out.new.items ≡ out.old.items ++ labelled words.now n) }
 {
     extend(out, words)?;

@@ -110,8 +110,8 @@ fn put_action(out: &mut Vec<u8>, slot: u16, action: Action) -> Result<(), Refuse
     }
 }
 
-// Adds what is done to slots, each behind a space.
-pub(crate) fn put_actions(out: &mut Vec<u8>, actions: &[(u16, Action)]) -> Result<(), RefusedGrowth>
+/// Adds what is done to slots, each behind a space.
+pub fn put_actions(out: &mut Vec<u8>, actions: &[(u16, Action)]) -> Result<(), RefusedGrowth>
     ensures { OnOk result (out.new.items ≡ out.old.items ++ actions_text actions.now) }
 {
     for (slot, action) in actions {

@@ -23,8 +23,8 @@ pub(crate) fn cut_at(text: &[u8], byte: u8) -> Option<(&[u8], &[u8])>
     Some((&text[..i], &text[i + 1..]))
 }
 
-// The word at the front, and the text behind the space after it.
-pub(crate) fn cut(text: &[u8]) -> Option<(&[u8], &[u8])>
+/// The word at the front, and the text behind the space after it.
+pub fn cut(text: &[u8]) -> Option<(&[u8], &[u8])>
     ensures { option_map (λ x. (x.0.now, x.1.now)) result ≡ cut_of text.now }
 {
     cut_at(text, b' ')
@@ -72,9 +72,9 @@ fn is_misspelled(word: &[u8]) -> bool
     word.is_empty() || (word.len() > 1 && word[0] == b'0')
 }
 
-// The number of at most `max` that a word spells.
+/// The number of at most `max` that a word spells.
 #[tactic(auto, unfolding(crate::specs::Reading::number_of))]
-pub(crate) fn number(word: &[u8], max: u64) -> Option<u64>
+pub fn number(word: &[u8], max: u64) -> Option<u64>
     ensures value { result ≡ number_of max word.now }
     ensures bound { IfSome result (λ n. n ≤ max) }
 {
@@ -96,9 +96,9 @@ fn wide_number(word: &[u8], max: u128) -> Option<u128>
     wide_digits(word, max)
 }
 
-// A number, and the text behind the space after it.
+/// A number, and the text behind the space after it.
 #[tactic(auto, unfolding(crate::specs::Reading::number_then))]
-pub(crate) fn number_then(text: &[u8], max: u64) -> Option<(u64, &[u8])>
+pub fn number_then(text: &[u8], max: u64) -> Option<(u64, &[u8])>
     ensures value { option_map (λ x. (x.0, x.1.now)) result ≡ number_then_of max text.now }
     ensures bound { IfSome result (λ x. x.0 ≤ max) }
 {

@@ -18,12 +18,12 @@ use Rattle.status_cache.specs.Held.{KeepsCache, held_from}
 use Rattle.status_cache.proofs.Agreeing.{ended-state, from-held, truncating-keeps}
 use Rattle.snapshot.specs.Own.{Own}
 use Rattle.heap_write.specs.Heap.{HeapView}
-use Rattle.heap_write.specs.Writes.{GivesUnder, TakesIds}
+use Rattle.write_ids.specs.Ids.{GivesUnder, TakesIds}
 use Rattle.heap_write.specs.declared.heap.WriteFault.{WriteFault}
 use Rattle.heap_write.specs.declared.heap.WriteFault.TheVariants as fault
 use Rattle.calls.specs.declared.step.Step.{Step}
 use Rattle.calls.specs.declared.reply.Reply.{Reply}
-use Rattle.session_steps.specs.declared.session.Session.{Session}
+use Rattle.sessions.specs.declared.session.Session.{Session}
 use Rattle.session_steps.specs.State.{State, session_at, horizon_of}
 use Rattle.session_steps.specs.Keeps.{OwnIdsKeep}
 use Rattle.session_steps.specs.Changes.{Closes}

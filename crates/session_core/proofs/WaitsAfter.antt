@@ -88,5 +88,8 @@ module _ (waits : List (Option ℕ)) (w : World) (same : (t : ℕ) → wait_in w
   next-waits (step.Next s n) (reply.Rows rows) allows t = ended-stepped s t
   next-waits (step.Next s n) (reply.Keys keys) allows t = ended-stepped s t
   next-waits (step.Close s) reply.Done allows t = ended-stepped s t
+  next-waits (step.VacuumBegin mode) reply.Done allows t = same t
+  next-waits step.VacuumStep (reply.Ended first) allows t = same t
+  next-waits step.VacuumCancel reply.Done allows t = same t
   next-waits (step.CreateIndex c) reply.Done allows t = same t ∙ sym (index-waits w (suc c) (w.has_index (suc c)) t)
   next-waits step reply allows t = ap (λ xs. wait_in xs t) (freed-as step reply (ended (session_of step) waits) (λ xs. refl)) ∙ passed-ended (session_of step) t

@@ -4,7 +4,7 @@ ghost use Rattle.std.specs.Prelude.{◌≡◌, ◌↔◌, ◌≤◌, ℕ, length
 ghost use Rattle.std.specs.Option.{option_map};
 ghost use Rattle.commit_status.specs.Changes.{CanGive};
 ghost use Rattle.table_indexes.specs.Indexes.{entries_in};
-ghost use Rattle.session_steps.specs.State.{open_bits};
+ghost use Rattle.sessions.specs.Session.{open_bits};
 ghost use Rattle.vacuum_passes.specs.View.{VacuumView};
 
 use crate::engine::Engine;

@@ -6,8 +6,9 @@ use Rattle.table_integrity.proofs.InUse.{index-sound}
 use Rattle.history.specs.World.{World, OpenSession, view}
 use Rattle.sound_explanations.specs.Showing.{FindsRow}
 use Rattle.sound_explanations.proofs.ShowingLemmas.{explanations-show-what-is-found}
-use Rattle.session_steps.specs.declared.session.Session.{Session}
-use Rattle.session_steps.specs.State.{State, session_at, statement_snapshot}
+use Rattle.sessions.specs.declared.session.Session.{Session}
+use Rattle.session_steps.specs.State.{State, session_at}
+use Rattle.sessions.specs.Session.{statement_snapshot}
 use Rattle.session_steps.specs.Agrees.{Agrees}
 use Rattle.session_steps.specs.Laws.{FindsRows}
 use Rattle.session_looks.specs.Explaining.{vantage_of, ExplanationsShowTheView}

@@ -11,9 +11,10 @@ use Rattle.snapshot.proofs.Earliest.{earlier-cases}
 use Rattle.calls.specs.declared.reply.Refusal.{Refusal}
 use Rattle.calls.specs.declared.reply.Refusal.TheVariants as refusal
 use Rattle.calls.specs.Bars.{BarsOpen}
-use Rattle.session_steps.specs.declared.session.Session.{Session}
+use Rattle.sessions.specs.declared.session.Session.{Session}
 use Rattle.session_steps.specs.Keeps.{IsOwned}
-use Rattle.session_steps.specs.State.{State, session_at, engine_sessions, kept_by, kept_xmin, holds_back, held_back, horizon_of}
+use Rattle.session_steps.specs.State.{State, session_at, engine_sessions, horizon_of}
+use Rattle.sessions.specs.Session.{kept_by, kept_xmin, holds_back, held_back}
 use Rattle.session_steps.proofs.Horizons.{held-cases}
 use Rattle.session_steps.proofs.OwnIdsLemmas.{open-within}
 use Rattle.session_looks.specs.Holders.{IsNoHolder, HasId}

@@ -22,8 +22,9 @@ use Rattle.slot_fates.specs.Fates.{IsFate}
 use Rattle.explanations.specs.declared.versions.ShownVersion.{ShownVersion}
 use Rattle.explanations.specs.Shown.{IsNextPlace, IsShownAlong, IsShownOn}
 use Rattle.explanations.proofs.ChainLemmas.{chain-nowhere}
-use Rattle.session_steps.specs.declared.session.Session.{Session}
-use Rattle.session_steps.specs.State.{State, statement_snapshot, horizon_of}
+use Rattle.sessions.specs.declared.session.Session.{Session}
+use Rattle.session_steps.specs.State.{State, horizon_of}
+use Rattle.sessions.specs.Session.{statement_snapshot}
 use Rattle.session_steps.specs.Takes.{ReadsBy}
 use Rattle.session_looks.specs.Explaining.{IsExplained, IsPlanNow}
 

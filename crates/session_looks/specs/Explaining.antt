@@ -16,8 +16,9 @@ use Rattle.explanations.specs.Shown.{IsNextPlace}
 use Rattle.sound_explanations.specs.Showing.{Vantage, IsExplainedTo, ShowsOnly}
 use Rattle.slot_fates.specs.declared.fate.VersionFate.{VersionFate}
 use Rattle.slot_fates.specs.Fates.{IsVersionFate, goes}
-use Rattle.session_steps.specs.declared.session.Session.{Session}
-use Rattle.session_steps.specs.State.{State, session_at, statement_snapshot, horizon_of}
+use Rattle.sessions.specs.declared.session.Session.{Session}
+use Rattle.session_steps.specs.State.{State, session_at, horizon_of}
+use Rattle.sessions.specs.Session.{statement_snapshot}
 use Rattle.session_steps.specs.Agrees.{Agrees}
 use Rattle.session_steps.specs.Exact.{Cleans}
 

@@ -2,11 +2,12 @@
 use Rattle.std.specs.Prelude.{◌≡◌, ◌<◌, ℕ, take, Option, Some, None, Contains}
 use Rattle.xid_circle.specs.Numbers.{Id, SessionNo}
 use Rattle.commit_status.specs.Window.{next_id}
-use Rattle.session_steps.specs.declared.session.Session.{Session}
+use Rattle.sessions.specs.declared.session.Session.{Session}
 use Rattle.session_looks.specs.declared.holder.Hold.{Hold}
 use Rattle.session_looks.specs.declared.holder.Hold.TheVariants.{BySnapshot, ById}
 use Rattle.session_looks.specs.declared.holder.HorizonHolder.{HorizonHolder}
-use Rattle.session_steps.specs.State.{State, session_at, kept_by, kept_xmin, holds_back, horizon_of}
+use Rattle.session_steps.specs.State.{State, session_at, horizon_of}
+use Rattle.sessions.specs.Session.{kept_by, kept_xmin, holds_back}
 
 -- by what an open session holds an id back: by the snapshot that it keeps, or else by its first id
 abbrev pub HoldsBy : Hold → Session → (x : Id) → Type 0

@@ -3,7 +3,8 @@
 ghost use Rattle.std.specs.Prelude.{◌≡◌, ◌<◌, ◌↔◌, ℕ, IsTrue, IsSome, MatchOption, take, Contains};
 ghost use Rattle.commit_status.specs.Window.{IsActive};
 ghost use Rattle.calls.specs.declared.step.TheConstants.{MOST_SESSIONS};
-ghost use Rattle.session_steps.specs.State.{kept_by, kept_xmin, holds_back, horizon_of};
+ghost use Rattle.session_steps.specs.State.{horizon_of};
+ghost use Rattle.sessions.specs.Session.{kept_by, kept_xmin, holds_back};
 ghost use Rattle.session_looks.specs.Holders.{HoldsBy, HoldsHorizon, IsNoHolder, IsHolder, HasId};
 
 use session_steps::{Session, SessionEngine, SessionIsolation};

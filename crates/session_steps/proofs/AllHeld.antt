@@ -8,9 +8,10 @@ use Rattle.commit_status.proofs.Ancestors.{top-before}
 use Rattle.snapshot.specs.Laws.{IsEarliest}
 use Rattle.snapshot.proofs.Takes.{first-in}
 use Rattle.visibility.proofs.Makers.{active-to}
-use Rattle.session_steps.specs.declared.session.Session.{Session}
-use Rattle.session_steps.specs.State.{session_at, reader_of, kept_by, kept_xmin, holds_back, held_back, horizon_of}
-use Rattle.session_steps.specs.Keeps.{open_at}
+use Rattle.sessions.specs.declared.session.Session.{Session}
+use Rattle.session_steps.specs.State.{session_at, reader_of, horizon_of}
+use Rattle.sessions.specs.Session.{kept_by, kept_xmin, holds_back, held_back}
+use Rattle.sessions.specs.Places.{open_at}
 use Rattle.session_steps.specs.Laws.{all_held, HorizonIsEarliest}
 use Rattle.session_steps.proofs.Owns.{reader-is}
 use Rattle.session_steps.proofs.Horizons.{KeepsXmin, back-cases, kept-cases, xmin-held, below-xmin, first-back, held-in, horizon-least, horizon-low}

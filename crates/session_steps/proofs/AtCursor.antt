@@ -10,7 +10,7 @@ use Rattle.refinement.specs.Cursors.{Comes}
 use Rattle.table_scans.specs.declared.progress.CursorScan.{CursorScan}
 use Rattle.table_scans.specs.declared.progress.CursorScan.TheVariants.{Rows, Keys}
 use Rattle.table_scans.specs.declared.progress.Scan.TheVariants.{Index, Heap}
-use Rattle.session_steps.specs.declared.session.Session.{Session}
+use Rattle.sessions.specs.declared.session.Session.{Session}
 use Rattle.session_steps.specs.State.{State, session_at, seen, seen_position}
 use Rattle.session_steps.specs.Agrees.{Agrees}
 use Rattle.session_steps.proofs.Statements.{cursor_sight}

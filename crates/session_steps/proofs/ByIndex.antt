@@ -24,10 +24,11 @@ use Rattle.refinement.specs.Agrees as relation
 use Rattle.refinement.proofs.Readers.{Levels-top}
 use Rattle.visibility.specs.Visible.{state_of}
 use Rattle.session_steps.proofs.Scanning.{ScansBy, now-scans, statement-scans, scans-unexcused}
-use Rattle.session_steps.specs.State.{State, seen, statement_snapshot, reader_of}
+use Rattle.session_steps.specs.State.{State, seen, reader_of}
+use Rattle.sessions.specs.Session.{statement_snapshot}
 use Rattle.session_steps.specs.Agrees.{Agrees}
-use Rattle.session_steps.specs.declared.session.Session.{Session}
-use Rattle.session_steps.specs.declared.session.SessionIsolation.{SessionIsolation}
+use Rattle.sessions.specs.declared.session.Session.{Session}
+use Rattle.sessions.specs.declared.session.SessionIsolation.{SessionIsolation}
 use Rattle.session_steps.specs.Laws.{IsFound, FindsRows, FindsAtEach, FindsLevels, ViewsByIndex}
 use Rattle.session_steps.proofs.Owns.{reader-is, now_taken, taken-fresh}
 use Rattle.session_steps.proofs.Statements.{statement_sight, cursor_sight, statement-sees}

@@ -46,10 +46,11 @@ use Rattle.visibility.specs.Seeing as readers
 use Rattle.refinement.specs.Changes as change
 use Rattle.refinement.proofs.Readers.{Levels-top}
 use Rattle.refinement.proofs.Follows as theory
-use Rattle.session_steps.specs.declared.session.Session.{Session}
-use Rattle.session_steps.specs.declared.session.SessionIsolation.{SessionIsolation}
-use Rattle.session_steps.specs.declared.session.SessionIsolation.TheVariants.{BySnapshot, ByStatement}
-use Rattle.session_steps.specs.State.{State, session_at, seen, seen_in, reader_of, kept_by, IsByStatement, horizon_of}
+use Rattle.sessions.specs.declared.session.Session.{Session}
+use Rattle.sessions.specs.declared.session.SessionIsolation.{SessionIsolation}
+use Rattle.sessions.specs.declared.session.SessionIsolation.TheVariants.{BySnapshot, ByStatement}
+use Rattle.session_steps.specs.State.{State, session_at, seen, seen_in, reader_of, horizon_of}
+use Rattle.sessions.specs.Session.{kept_by, IsByStatement}
 use Rattle.session_steps.specs.Agrees.{Agrees, Follows}
 use Rattle.session_steps.specs.Exact.{Cleans, AppliesPlan}
 use Rattle.session_steps.proofs.Owns.{reader-is}

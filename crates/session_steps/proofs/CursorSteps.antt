@@ -23,15 +23,16 @@ use Rattle.refinement.specs.Allowed.{Allows, next}
 use Rattle.refinement.proofs.Steps.{OnlyIs}
 use Rattle.refinement.proofs.FollowsCursors as cursors
 use Rattle.refinement.proofs.Runs.{unmade}
-use Rattle.session_steps.specs.declared.session.Session.{Session}
-use Rattle.session_steps.specs.declared.session.SessionIsolation.{SessionIsolation}
-use Rattle.session_steps.specs.declared.session.SessionIsolation.TheVariants.{BySnapshot, ByStatement}
+use Rattle.sessions.specs.declared.session.Session.{Session}
+use Rattle.sessions.specs.declared.session.SessionIsolation.{SessionIsolation}
+use Rattle.sessions.specs.declared.session.SessionIsolation.TheVariants.{BySnapshot, ByStatement}
 use Rattle.session_steps.specs.Exact.{HasCursor, OpensCursor}
 use Rattle.table_scans.specs.declared.progress.CursorScan.{CursorScan}
 use Rattle.table_scans.specs.declared.progress.CursorScan.TheVariants.{Rows}
 use Rattle.table_scans.specs.declared.progress.Scan.TheVariants.{Index, Heap}
 use Rattle.index_lookup.specs.declared.index_scan.IndexRange.{IndexRange}
-use Rattle.session_steps.specs.State.{State, session_at, put_session, map_session, with_cursor, with_kept, keeping, kept_by, IsByStatement, is_too_new, isolation_seen, seen, position_of, reader_of, engine_sessions}
+use Rattle.session_steps.specs.State.{State, session_at, put_session, map_session, with_cursor, with_kept, isolation_seen, seen, position_of, reader_of, engine_sessions}
+use Rattle.sessions.specs.Session.{keeping, kept_by, IsByStatement, is_too_new}
 use Rattle.session_steps.specs.Agrees.{Agrees, Sound, SessionKeeps, Follows, KeepsAllTargets}
 use Rattle.session_steps.proofs.InUse.{GoesAlong, used-still, marks-put, no-cursor, scans-put, agree}
 use Rattle.session_steps.proofs.Scanning.{opened-scans}
@@ -88,15 +89,19 @@ Follows-bad_bounds st s e index low high at sound bare used may order w agrees =
 
 -- There is no memory for the snapshot that a cursor by statement keeps.
 
-pub Follows-open_index_no_memory : (st : State) (s : ℕ) (e : Session) (index : ℕ) (low high : ℤ) → session_at st s ≡ Some e → e.failed ≡ false → e.cursor ≡ None → IsInUse st.heap.indexes index → is_too_new e index ≡ false → low ≤ℤ high
-    → Follows st (step.OpenIndex s index low high) (reply.Refused refusal.NoMemory) st
-Follows-open_index_no_memory st s e index low high at sound bare used may order w agrees =
-    stays-so st w (step.OpenIndex s index low high) (reply.Refused refusal.NoMemory) tt agrees
-    (cursors.Follows-open_index_no_memory (seen st) s (reader_of e) index low high (reader-is st s e at) sound (ap position_of bare) order w (may-scan st w s e index at agrees used may) agrees.found)
+pub seen-by_statement : (isolation : SessionIsolation) → IsByStatement isolation → cursors.IsSeenByStatement (isolation_seen isolation)
+seen-by_statement (BySnapshot snap) by = absurd by
+seen-by_statement (ByStatement kept) by = tt
 
-pub Follows-open_heap_no_memory : (st : State) (s : ℕ) (e : Session) → session_at st s ≡ Some e → e.failed ≡ false → e.cursor ≡ None → Follows st (step.OpenHeap s) (reply.Refused refusal.NoMemory) st
-Follows-open_heap_no_memory st s e at sound bare =
-    Follows-same st (step.OpenHeap s) (reply.Refused refusal.NoMemory) tt (cursors.Follows-open_heap_no_memory (seen st) s (reader_of e) (reader-is st s e at) sound (ap position_of bare))
+pub Follows-open_index_no_memory : (st : State) (s : ℕ) (e : Session) (index : ℕ) (low high : ℤ) → session_at st s ≡ Some e → e.failed ≡ false → e.cursor ≡ None → IsInUse st.heap.indexes index → is_too_new e index ≡ false → low ≤ℤ high
+    → IsByStatement e.isolation → Follows st (step.OpenIndex s index low high) (reply.Refused refusal.NoMemory) st
+Follows-open_index_no_memory st s e index low high at sound bare used may order by w agrees =
+    stays-so st w (step.OpenIndex s index low high) (reply.Refused refusal.NoMemory) tt agrees
+    (cursors.Follows-open_index_no_memory (seen st) s (reader_of e) index low high (reader-is st s e at) sound (ap position_of bare) order (seen-by_statement e.isolation by) w (may-scan st w s e index at agrees used may) agrees.found)
+
+pub Follows-open_heap_no_memory : (st : State) (s : ℕ) (e : Session) → session_at st s ≡ Some e → e.failed ≡ false → e.cursor ≡ None → IsByStatement e.isolation → Follows st (step.OpenHeap s) (reply.Refused refusal.NoMemory) st
+Follows-open_heap_no_memory st s e at sound bare by =
+    Follows-same st (step.OpenHeap s) (reply.Refused refusal.NoMemory) tt (cursors.Follows-open_heap_no_memory (seen st) s (reader_of e) (reader-is st s e at) sound (ap position_of bare) (seen-by_statement e.isolation by))
 
 -- A session's cursor moves, and nothing else changes.
 

@@ -35,7 +35,7 @@ use Rattle.snapshot.specs.Snap.{Snap}
 use Rattle.snapshot.specs.Own.{newest}
 use Rattle.snapshot.proofs.Levels.{distinct-after}
 use Rattle.snapshot.proofs.Takes.{first-in}
-use Rattle.session_steps.specs.declared.session.Session.{Session}
+use Rattle.sessions.specs.declared.session.Session.{Session}
 use Rattle.visibility.specs.Visible.{state_of}
 use Rattle.session_steps.specs.State.{State, session_at, seen, reader_of}
 use Rattle.session_steps.specs.Agrees.{Agrees, Sound, SessionKeeps, SessionScans, KeepsAllTargets}

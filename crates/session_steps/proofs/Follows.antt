@@ -40,12 +40,13 @@ use Rattle.refinement.proofs.Isolations.{SameSights}
 use Rattle.refinement.proofs.Steps.{OnlyIs}
 use Rattle.refinement.proofs.Follows as theory
 use Rattle.refinement.proofs.Hindrances as hindrances
-use Rattle.session_steps.specs.declared.session.Session.{Session}
-use Rattle.session_steps.specs.declared.session.SessionIsolation.{SessionIsolation}
-use Rattle.session_steps.specs.declared.session.SessionIsolation.TheVariants.{BySnapshot, ByStatement}
+use Rattle.sessions.specs.declared.session.Session.{Session}
+use Rattle.sessions.specs.declared.session.SessionIsolation.{SessionIsolation}
+use Rattle.sessions.specs.declared.session.SessionIsolation.TheVariants.{BySnapshot, ByStatement}
 use Rattle.visibility.specs.Visible.{state_of}
-use Rattle.session_steps.specs.State.{State, session_at, put_session, seen, position_of, reader_of, isolation_seen, kept_by, IsByStatement, is_too_new, failed_session, holds_back, held_back, engine_sessions}
-use Rattle.session_steps.specs.Keeps.{open_at}
+use Rattle.session_steps.specs.State.{State, session_at, put_session, seen, position_of, reader_of, isolation_seen, failed_session, engine_sessions}
+use Rattle.sessions.specs.Session.{kept_by, IsByStatement, is_too_new, holds_back, held_back}
+use Rattle.sessions.specs.Places.{open_at}
 use Rattle.sound_entries.specs.Since.{MayScanSince}
 use Rattle.session_steps.specs.Agrees.{Agrees, Sound, Follows, SessionKeeps, SessionScans, KeepsAllTargets, NotesHold, FollowsByNotes}
 use Rattle.table_scans.specs.declared.progress.CursorScan.{CursorScan}
@@ -133,14 +134,15 @@ Follows-begin_no_memory st s within idle =
 
 pub Follows-barred_begin : (st : State) (s : ℕ) (r : Refusal) → BarsBegin st s r → Follows st (step.Begin s) (reply.Refused r) st
 Follows-barred_begin st s refusal.NoSuchSession is = Follows-same st (step.Begin s) (reply.Refused refusal.NoSuchSession) tt (theory.Follows-begin_refused (seen st) s refusal.NoSuchSession (λ w agrees. is))
-Follows-barred_begin st s refusal.AlreadyOpen is = Follows-same st (step.Begin s) (reply.Refused refusal.AlreadyOpen) tt (theory.Follows-already_open (seen st) s (reader_of is.0) (reader-is st s is.0 is.1))
+Follows-barred_begin st s refusal.AlreadyOpen is = λ w agrees. stays-so st w (step.Begin s) (reply.Refused refusal.AlreadyOpen) tt agrees
+    (theory.Follows-already_open (seen st) s (reader_of is.0) (reader-is st s is.0 is.1) (subst (λ n. s < n) agrees.sound.count (open-within st.sessions s is.0 is.1)) w agrees.found)
 Follows-barred_begin st s _ is = absurd is
 
 pub Follows-barred_begin_by_statement : (st : State) (s : ℕ) (r : Refusal) → BarsBegin st s r → Follows st (step.BeginReadCommitted s) (reply.Refused r) st
 Follows-barred_begin_by_statement st s refusal.NoSuchSession is =
     Follows-same st (step.BeginReadCommitted s) (reply.Refused refusal.NoSuchSession) tt (theory.Follows-begin_by_statement_refused (seen st) s refusal.NoSuchSession (λ w agrees. is))
-Follows-barred_begin_by_statement st s refusal.AlreadyOpen is =
-    Follows-same st (step.BeginReadCommitted s) (reply.Refused refusal.AlreadyOpen) tt (theory.Follows-already_open_by_statement (seen st) s (reader_of is.0) (reader-is st s is.0 is.1))
+Follows-barred_begin_by_statement st s refusal.AlreadyOpen is = λ w agrees. stays-so st w (step.BeginReadCommitted s) (reply.Refused refusal.AlreadyOpen) tt agrees
+    (theory.Follows-already_open_by_statement (seen st) s (reader_of is.0) (reader-is st s is.0 is.1) (subst (λ n. s < n) agrees.sound.count (open-within st.sessions s is.0 is.1)) w agrees.found)
 Follows-barred_begin_by_statement st s _ is = absurd is
 
 -- Begin.

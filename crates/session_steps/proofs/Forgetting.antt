@@ -14,10 +14,10 @@ use Rattle.heap_write.specs.Heap.{HeapView}
 use Rattle.calls.specs.declared.vacuum.Piece.{Piece}
 use Rattle.vacuum_passes.specs.View.{VacuumView}
 use Rattle.vacuum_passes.specs.Steps.{Steps}
-use Rattle.session_steps.specs.declared.session.Session.{Session}
-use Rattle.session_steps.specs.Keeps.{open_at, EngineKeeps}
+use Rattle.sessions.specs.declared.session.Session.{Session}
+use Rattle.session_steps.specs.Keeps.{EngineKeeps}
+use Rattle.sessions.specs.Places.{open_at, HoldsOpen}
 use Rattle.session_steps.specs.State.{State}
-use Rattle.session_steps.specs.Sessions.{HoldsOpen}
 use Rattle.session_steps.specs.Vacuums.{MayForget}
 
 -- An id is remembered or the next.

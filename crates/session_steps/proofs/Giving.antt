@@ -19,11 +19,11 @@ use Rattle.snapshot.specs.Laws.{IsInWindow}
 use Rattle.snapshot.proofs.Sights.{sees-top}
 use Rattle.snapshot.proofs.Levels.{level-among, level-mine, level-none, level-some, level-newest, unassigned_levels-given, prefixes-given}
 use Rattle.visibility.proofs.Makers.{active-to}
-use Rattle.heap_write.specs.Heap.{HeapView, SameIds}
-use Rattle.heap_write.specs.Writes.{GivesUnder, TakesIds}
+use Rattle.heap_write.specs.Heap.{HeapView}
+use Rattle.write_ids.specs.Ids.{SameIds, GivesUnder, TakesIds}
 use Rattle.forgetting.specs.Truncating.{IsWellTopped}
 use Rattle.forgetting.proofs.WellTopped.{before-place}
-use Rattle.heap_write.proofs.GivenIds.{given-window, given-place, given-earlier, given-first, given-status, given-top_old, given-new, given-distinct, given-top, given-top_first}
+use Rattle.write_ids.proofs.GivenIds.{given-window, given-place, given-earlier, given-first, given-status, given-top_old, given-new, given-distinct, given-top, given-top_first}
 use Rattle.table_integrity.specs.Table.{StaysSoundTable}
 use Rattle.session_steps.proofs.InUse.{scans-still, scans-as, scans-put}
 use Rattle.table_indexes.specs.Indexes.{since_at}
@@ -37,10 +37,12 @@ use Rattle.refinement.proofs.Steps.{OnlyIs}
 use Rattle.refinement.proofs.GivenBelow.{AreUnseen, Agrees-give_each}
 use Rattle.refinement.proofs.Follows.{Agrees-sessions}
 use Rattle.refinement.proofs.Sights.{Agrees-sights}
-use Rattle.session_steps.specs.declared.session.Session.{Session}
+use Rattle.sessions.specs.declared.session.Session.{Session}
 use Rattle.visibility.specs.Visible.{state_of}
-use Rattle.session_steps.specs.State.{State, session_at, seen, seen_in, reader_of, kept_by}
-use Rattle.session_steps.specs.Keeps.{open_at, OwnIdsKeep, EngineKeeps}
+use Rattle.session_steps.specs.State.{State, session_at, seen, seen_in, reader_of}
+use Rattle.sessions.specs.Session.{kept_by}
+use Rattle.session_steps.specs.Keeps.{OwnIdsKeep, EngineKeeps}
+use Rattle.sessions.specs.Places.{open_at}
 use Rattle.session_steps.specs.Agrees.{Agrees, Sound, SessionKeeps, SessionScans}
 use Rattle.sound_entries.specs.Since.{IsExactSince}
 use Rattle.sound_entries.proofs.Since.{giving-since}

@@ -19,7 +19,7 @@ use Rattle.table_scans.specs.declared.progress.CursorScan.TheVariants.{Rows}
 use Rattle.table_scans.specs.declared.progress.Scan.TheVariants.{Heap}
 use Rattle.table_scans.specs.Scans.{Sight, SeesRow, SeesNone, start_of, NoneToPageEnd, ScansHeap, heap_begins, heap_passes, heap_finds, heap_turns}
 use Rattle.table_scans.specs.Takes.{IsAtEnd, TakesPage, TakesPart}
-use Rattle.session_steps.specs.declared.session.Session.{Session}
+use Rattle.sessions.specs.declared.session.Session.{Session}
 use Rattle.session_steps.specs.State.{State, seen}
 use Rattle.session_steps.specs.Takes.{session_sight}
 use Rattle.session_steps.proofs.Statements.{cursor-sees}

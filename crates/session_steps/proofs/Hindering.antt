@@ -17,7 +17,7 @@ use Rattle.calls.specs.Writes.{WriteStep, inserts, updates, deletes, step_of, ke
 use Rattle.calls.specs.Bars.{BarsOpen, BarsFree}
 use Rattle.refinement.specs.Finds.{BeginsWrite}
 use Rattle.refinement.proofs.Hindrances as hindrances
-use Rattle.session_steps.specs.declared.session.Session.{Session}
+use Rattle.sessions.specs.declared.session.Session.{Session}
 use Rattle.session_steps.specs.State.{State, session_at, put_session, with_failed, refused_state, seen, reader_of, failed_session, engine_sessions}
 use Rattle.session_steps.specs.Agrees.{Agrees, Follows}
 use Rattle.session_steps.specs.Tests.{ReadsPlace, IsLateKey, IsHeld, RefusesInsertOfKey, RefusesChangeOfKey, MayWriteKey}

@@ -12,9 +12,10 @@ use Rattle.snapshot.specs.Laws.{IsEarliest}
 use Rattle.snapshot.proofs.Earliest.{earliest-is, earlier-cases}
 use Rattle.history.specs.World.{World}
 use Rattle.visibility.proofs.Makers.{active-to}
-use Rattle.session_steps.specs.declared.session.Session.{Session}
-use Rattle.session_steps.specs.State.{State, session_at, reader_of, kept_by, kept_xmin, owns_of, holds_back, held_back, horizon_of}
-use Rattle.session_steps.specs.Keeps.{open_at}
+use Rattle.sessions.specs.declared.session.Session.{Session}
+use Rattle.session_steps.specs.State.{State, session_at, reader_of, horizon_of}
+use Rattle.sessions.specs.Session.{kept_by, kept_xmin, owns_of, holds_back, held_back}
+use Rattle.sessions.specs.Places.{open_at}
 use Rattle.session_steps.specs.Agrees.{Agrees}
 use Rattle.session_steps.proofs.Owns.{reader-is, owns-cases, now_taken}
 

@@ -3,7 +3,7 @@ use Rattle.std.proofs.Common.{◌≡◌, ◌<◌, ℕ, zero, suc, Bool, true, fa
 use Rattle.std.proofs.lemmas.Option.{same_Some, none-some}
 use Rattle.std.specs.Option.{option_map}
 use Rattle.std.specs.Prelude.{◌↔◌, IsSome, is_some, unwrap_or, slice_index_or, if◌then◌else◌}
-use Rattle.index_nodes.specs.declared.entry.Entry.{Entry}
+use Rattle.index_entries.specs.declared.entry.Entry.{Entry}
 use Rattle.root_index.specs.View.{IndexView}
 use Rattle.commit_status.specs.Window.{Window}
 use Rattle.snapshot.specs.Snap.{Snap}
@@ -17,13 +17,14 @@ use Rattle.table_integrity.proofs.InUse.{index-sound}
 use Rattle.history.specs.World.{World, is_indexed}
 use Rattle.refinement.specs.Agrees as relation
 use Rattle.refinement.proofs.Runs.{KeepsScans}
-use Rattle.session_steps.specs.declared.session.Session.{Session}
-use Rattle.session_steps.specs.declared.session.SessionIsolation.{SessionIsolation}
+use Rattle.sessions.specs.declared.session.Session.{Session}
+use Rattle.sessions.specs.declared.session.SessionIsolation.{SessionIsolation}
 use Rattle.table_scans.specs.declared.progress.CursorScan.{CursorScan}
 use Rattle.table_scans.specs.declared.progress.CursorScan.TheVariants.{Rows}
 use Rattle.table_scans.specs.declared.progress.Scan.TheVariants.{Index}
-use Rattle.session_steps.specs.Keeps.{open_at}
-use Rattle.session_steps.specs.State.{State, seen, reader_of, kept_by, is_too_new}
+use Rattle.sessions.specs.Places.{open_at}
+use Rattle.session_steps.specs.State.{State, seen, reader_of}
+use Rattle.sessions.specs.Session.{kept_by, is_too_new}
 use Rattle.session_steps.specs.Agrees.{Sound, Agrees, SessionScans}
 use Rattle.session_steps.proofs.OwnIdsLemmas.{open-within, open-set_cases}
 

@@ -1,23 +1,22 @@
 -- A session asks its cursor over keys alone for keys: where what is noted of the pages holds, the engine follows the history.
-use Rattle.std.proofs.Common.{◌≡◌, ℕ, ◌<◌, ◌≤◌, ◌^◌, max, List, length, Some, false, refl, sym, ap, ◌∙◌, subst, arith}
+use Rattle.std.proofs.Common.{◌≡◌, ℕ, ◌<◌, ◌^◌, max, List, length, Some, false, refl, sym, ap, ◌∙◌, subst, arith}
 use Rattle.std.specs.Prelude.{Vec}
 use Rattle.std.specs.declared.alloc.Global.{Global}
 use Rattle.std.proofs.lemmas.List.{length-map}
 use denote.RawPtr.{null_ptr}
 use Rattle.tuple_header.specs.declared.version.Row.{Row}
-use Rattle.history.specs.World.{World}
 use Rattle.history.specs.Cursors.{keys_of}
 use Rattle.calls.specs.declared.step.Step.TheVariants as step
 use Rattle.calls.specs.declared.reply.Reply.TheVariants as reply
 use Rattle.refinement.specs.Allowed.{Allows, next}
-use Rattle.refinement.specs.Heap.{Position, in_keys}
+use Rattle.refinement.specs.Heap.{in_keys}
 use Rattle.refinement.proofs.Steps.{OnlyIs}
 use Rattle.refinement.proofs.FollowsKeys as cursors
 use Rattle.refinement.proofs.Runs.{unmade}
 use Rattle.table_scans.specs.declared.progress.CursorScan.TheVariants.{Keys}
 use Rattle.table_scans.specs.declared.progress.KeyRange.{KeyRange}
 use Rattle.table_scans.specs.Keys.{TakesKeys, TakesSomeKeys}
-use Rattle.session_steps.specs.declared.session.Session.{Session}
+use Rattle.sessions.specs.declared.session.Session.{Session}
 use Rattle.session_steps.specs.State.{State, session_at, put_session, map_session, with_cursor, seen, seen_position, position_of, reader_of}
 use Rattle.session_steps.specs.Agrees.{Agrees, Follows, KeepsAllTargets, NotesHold}
 use Rattle.session_steps.specs.Takes.{session_sight, HandsOutByKeys}
@@ -26,7 +25,7 @@ use Rattle.session_steps.proofs.Owns.{reader-is}
 use Rattle.session_steps.proofs.Follows.{led-same}
 use Rattle.session_steps.proofs.AtCursor.{IsAtCursor}
 use Rattle.session_steps.proofs.CursorSteps.{moved, only-cursor, sound-cursor}
-use Rattle.session_steps.proofs.KeyWalks.{WalksKeys, still-within, within-comes, keys-walk, none-left}
+use Rattle.session_steps.proofs.KeyWalks.{still-within, within-comes, keys-walk, none-left}
 
 -- there are as many keys as rows
 as-many : (keys : List ℕ) (rows : List Row) → keys ≡ keys_of rows → length rows ≡ length keys

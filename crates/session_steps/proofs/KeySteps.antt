@@ -1,8 +1,7 @@
 -- A session opens a cursor over keys alone: the engine follows the history.
-use Rattle.std.proofs.Common.{SFits, to_z, of_z, ◌≡◌, ℕ, ℤ, ◌≤ℤ◌, ◌<ℤ◌, Some, None, false, refl, sym, ap, ◌∙◌, subst}
+use Rattle.std.proofs.Common.{SFits, to_z, of_z, ◌≡◌, ℕ, ℤ, ◌≤ℤ◌, ◌<ℤ◌, Some, None, false, refl, sym, ap, subst}
 use Rattle.std.proofs.lemmas.Int.{to_z-of_z}
 use Rattle.std.specs.Int.{w128}
-use Rattle.history.specs.World.{World}
 use Rattle.calls.specs.declared.step.Step.TheVariants as step
 use Rattle.calls.specs.declared.reply.Reply.TheVariants as reply
 use Rattle.calls.specs.declared.reply.Refusal.{Refusal}
@@ -15,14 +14,15 @@ use Rattle.refinement.proofs.FollowsKeys as keys
 use Rattle.refinement.proofs.Runs.{unmade}
 use Rattle.table_scans.specs.declared.progress.CursorScan.TheVariants.{Keys}
 use Rattle.table_scans.specs.declared.progress.KeyRange.{KeyRange}
-use Rattle.session_steps.specs.declared.session.Session.{Session}
-use Rattle.session_steps.specs.State.{State, session_at, put_session, keeping, isolation_seen, seen, position_of, reader_of, engine_sessions}
+use Rattle.sessions.specs.declared.session.Session.{Session}
+use Rattle.session_steps.specs.State.{State, session_at, put_session, isolation_seen, seen, position_of, reader_of, engine_sessions}
+use Rattle.sessions.specs.Session.{keeping, IsByStatement}
 use Rattle.session_steps.specs.Agrees.{Agrees, Follows, KeepsAllTargets}
 use Rattle.session_steps.specs.Exact.{OpensCursor}
 use Rattle.session_steps.proofs.InUse.{used-still, marks-put, agree}
 use Rattle.session_steps.proofs.Owns.{reader-is, now_taken}
 use Rattle.session_steps.proofs.Follows.{Follows-same, free_by, led-same}
-use Rattle.session_steps.proofs.CursorSteps.{with_both, put-both, only-both, opens-by, taken-alone, sound-both}
+use Rattle.session_steps.proofs.CursorSteps.{seen-by_statement, with_both, put-both, only-both, opens-by, taken-alone, sound-both}
 
 pub Follows-barred_open_keys : (st : State) (s : ℕ) (low high : ℤ) (r : Refusal) → BarsFree (engine_sessions st) s r → Follows st (step.OpenKeys s low high) (reply.Refused r) st
 Follows-barred_open_keys st s low high r is = Follows-same st (step.OpenKeys s low high) (reply.Refused r) tt (keys.Follows-barred_open_keys (seen st) s low high r (free_by st s r is))
@@ -33,9 +33,9 @@ Follows-bad_key_bounds st s e low high at sound bare order =
     Follows-same st (step.OpenKeys s low high) (reply.Refused refusal.BadBounds) tt (keys.Follows-bad_key_bounds (seen st) s (reader_of e) low high (reader-is st s e at) sound (ap position_of bare) order)
 
 pub Follows-open_keys_no_memory : (st : State) (s : ℕ) (e : Session) (low high : ℤ) → session_at st s ≡ Some e → e.failed ≡ false → e.cursor ≡ None → low ≤ℤ high
-    → Follows st (step.OpenKeys s low high) (reply.Refused refusal.NoMemory) st
-Follows-open_keys_no_memory st s e low high at sound bare order =
-    Follows-same st (step.OpenKeys s low high) (reply.Refused refusal.NoMemory) tt (keys.Follows-open_keys_no_memory (seen st) s (reader_of e) low high (reader-is st s e at) sound (ap position_of bare) order)
+    → IsByStatement e.isolation → Follows st (step.OpenKeys s low high) (reply.Refused refusal.NoMemory) st
+Follows-open_keys_no_memory st s e low high at sound bare order by =
+    Follows-same st (step.OpenKeys s low high) (reply.Refused refusal.NoMemory) tt (keys.Follows-open_keys_no_memory (seen st) s (reader_of e) low high (reader-is st s e at) sound (ap position_of bare) order (seen-by_statement e.isolation by))
 
 pub Follows-opened_keys : (st st' : State) (s : ℕ) (e : Session) (range : KeyRange) → session_at st s ≡ Some e → e.failed ≡ false → e.cursor ≡ None → range.low ≤ℤ range.high → range.last ≡ None
     → OpensCursor st st' s (Keys range) → Follows st (step.OpenKeys s range.low range.high) reply.Done st'

@@ -1,6 +1,5 @@
 -- A scan over keys alone is a walk in the index by key, as the relation has it, where what is noted of the pages holds.
-use Rattle.std.proofs.Common.{◌≡◌, ◌≢◌, ℕ, zero, suc, ◌+◌, ◌<◌, ℤ, List, [], ◌∷◌, ◌++◌, length, map, slice_get, Option, Some, None, refl, sym, ap, ◌∙◌, subst, inl, inr, arith}
-use Rattle.std.specs.Prelude.{pos, Contains}
+use Rattle.std.proofs.Common.{◌≡◌, ◌≢◌, ℕ, zero, suc, ◌<◌, ℤ, List, [], ◌∷◌, ◌++◌, length, slice_get, Option, Some, None, refl, sym, ap, ◌∙◌, subst, inl, inr, arith}
 use Rattle.std.proofs.lemmas.Option.{none-some}
 use Rattle.std.proofs.lemmas.List.{map-append}
 use Rattle.xid_circle.specs.Circle.{Precedes}
@@ -12,7 +11,6 @@ use Rattle.page_slots.specs.View.{PageView}
 use Rattle.page_slots.specs.declared.slot.Slot.TheVariants.{Dead}
 use Rattle.page_slots.specs.Slots.{slot_at, version_at, version_of}
 use Rattle.std.specs.Option.{option_and_then}
-use Rattle.commit_status.specs.declared.status.Status.{Status}
 use Rattle.commit_status.specs.declared.status.Status.TheVariants.{InProgress, Committed}
 use Rattle.commit_status.specs.Window.{IsCommitted}
 use Rattle.commit_status.proofs.Places.{upto-place}
@@ -24,13 +22,12 @@ use Rattle.visibility.specs.Visible.{IsVisible, ReadsIn}
 use Rattle.visibility.proofs.Makers.{committed-from, state-some, visible-of}
 use Rattle.visibility.proofs.Statements.{given-before}
 use Rattle.freeze.specs.AllVisible.{IsSettled}
-use Rattle.index_lookup.specs.Pages.{page_slots_of, slots_on, slot_in, version_in}
+use Rattle.index_lookup.specs.Pages.{page_slots_of, slot_in, version_in}
 use Rattle.index_lookup.specs.Keys.{IsNotedVisible, KeyShows}
 use Rattle.index_lookup.specs.Walking as walking
 use Rattle.index_lookup.specs.declared.index_scan.IndexPosition.{IndexPosition}
 use Rattle.index_lookup.proofs.PageLists.{slots-there, slots-none}
-use Rattle.table_indexes.specs.Indexes.{entries_in, since_at}
-use Rattle.heap_write.specs.Heap.{slots_of}
+use Rattle.table_indexes.specs.Indexes.{entries_in}
 use Rattle.sound_entries.specs.Entries.{EntriesAreSound}
 use Rattle.sound_entries.proofs.KeysOnHeap.{NotedIsSeen, shows-on_heap, on_heap-shows}
 use Rattle.table_integrity.proofs.InUse.{index-sound}
@@ -38,17 +35,17 @@ use Rattle.history.specs.Cursors.{ComesBefore, keys_of}
 use Rattle.history.specs.World.{World}
 use Rattle.refinement.specs.Heap.{in_index}
 use Rattle.refinement.specs.Cursors.{Comes, WalksOver}
-use Rattle.refinement.specs.Cursors as cursors
 use Rattle.refinement.proofs.CursorWalks.{Meets-one}
 use Rattle.refinement.proofs.FollowsKeys.{comes_along, comes_by_keys}
 use Rattle.table_scans.specs.declared.progress.KeyRange.{KeyRange}
 use Rattle.table_scans.specs.declared.progress.CursorScan.TheVariants.{Keys}
 use Rattle.table_scans.specs.Scans.{Sight}
 use Rattle.table_scans.specs.Keys.{span_of, IsNextKeyIn, NoKeyIsIn, keys_after, ScansKeys, keys_begin, keys_go_on}
-use Rattle.session_steps.specs.declared.session.Session.{Session}
-use Rattle.session_steps.specs.declared.session.SessionIsolation.{SessionIsolation}
-use Rattle.session_steps.specs.declared.session.SessionIsolation.TheVariants.{BySnapshot, ByStatement}
-use Rattle.session_steps.specs.State.{State, session_at, seen, seen_position, cursor_snapshot, kept_by, horizon_of}
+use Rattle.sessions.specs.declared.session.Session.{Session}
+use Rattle.sessions.specs.declared.session.SessionIsolation.{SessionIsolation}
+use Rattle.sessions.specs.declared.session.SessionIsolation.TheVariants.{BySnapshot, ByStatement}
+use Rattle.session_steps.specs.State.{State, session_at, seen, seen_position, horizon_of}
+use Rattle.sessions.specs.Session.{cursor_snapshot, kept_by}
 use Rattle.session_steps.specs.Agrees.{Agrees, NotesHold}
 use Rattle.session_steps.specs.Takes.{session_sight}
 use Rattle.session_steps.proofs.Scanning.{IsScanned}

@@ -1,13 +1,9 @@
 -- An index by a column is made, or it is refused: the engine follows the history.
-use Rattle.std.proofs.Common.{◌≡◌, ◌≢◌, ℕ, zero, suc, ◌<◌, List, [], ◌∷◌, ◌++◌, length, map, Option, Some, None, Bool, true, false, refl, sym, ap, ◌∙◌, subst, ◌⊎◌, inl, inr, arith}
+use Rattle.std.proofs.Common.{◌≡◌, ◌≢◌, ℕ, suc, List, map, Option, Some, None, Bool, true, false, refl, sym, ap, ◌∙◌, subst, ◌⊎◌, inl, inr, arith}
 use Rattle.std.specs.Prelude.{◌↔◌, ◌==◌, IsSome, Contains, is_some, if◌then◌else◌}
 use Rattle.std.specs.Option.{option_map}
 use Rattle.std.proofs.lemmas.Bool.{cases_eq}
-use Rattle.std.proofs.lemmas.Option.{none-some}
-use Rattle.xid_circle.specs.declared.Tid.{Tid}
 use Rattle.xid_circle.proofs.Members.{Contains-none}
-use Rattle.tuple_header.specs.Version.{Version}
-use Rattle.page_slots.specs.declared.slot.Slot.{Slot}
 use Rattle.page_slots.specs.View.{PageView}
 use Rattle.heap_pages.specs.View.{PagesView}
 use Rattle.commit_status.specs.declared.status.Status.{Status}
@@ -16,13 +12,12 @@ use Rattle.snapshot.specs.Snap.{Snap, earliest}
 use Rattle.visibility.proofs.Makers.{is-inserter, active-from}
 use Rattle.visibility.specs.Seeing.{made_by}
 use Rattle.root_index.specs.View.{IndexView}
-use Rattle.index_nodes.specs.declared.entry.Entry.{Entry}
-use Rattle.index_lookup.specs.declared.index_scan.IndexRange.{IndexRange}
-use Rattle.table_indexes.specs.Indexes.{IndexesView, index_at, entries_at, entries_of, since_at, IsInUse}
+use Rattle.index_entries.specs.declared.entry.Entry.{Entry}
+use Rattle.table_indexes.specs.Indexes.{index_at, entries_at, entries_of, since_at, IsInUse}
 use Rattle.heap_write.specs.Heap.{slots_of}
 use Rattle.table_integrity.specs.Making.{AllHaveEnded}
 use Rattle.table_integrity.proofs.Making.{made-sound, made-led, made-since}
-use Rattle.history.specs.World.{World, Isolation, by_snapshot, by_statement, LacksIndex}
+use Rattle.history.specs.World.{World, Isolation, by_snapshot, by_statement, IsSomeoneOpen, LacksIndex}
 use Rattle.history.specs.Moves.{is_repeatable_read, is_open_by_snapshot, with_made_index, with_index_on}
 use Rattle.history.proofs.HistoryLemmas.{at_same, at_other}
 use Rattle.calls.specs.declared.step.Step.TheVariants as step
@@ -35,15 +30,16 @@ use Rattle.refinement.specs.Heap as relation
 use Rattle.refinement.specs.Agrees as theory
 use Rattle.refinement.proofs.Follows.{Agrees-sessions}
 use Rattle.refinement.proofs.FollowsIndexes as indexes
-use Rattle.table_scans.specs.declared.progress.Scan.TheVariants.{Index}
-use Rattle.session_steps.specs.declared.session.Session.{Session}
-use Rattle.session_steps.specs.declared.session.SessionIsolation.{SessionIsolation}
-use Rattle.session_steps.specs.declared.session.SessionIsolation.TheVariants.{BySnapshot, ByStatement}
-use Rattle.session_steps.specs.State.{State, session_at, seen, seen_in, reader_of, isolation_seen, kept_by, reads_by_snapshot, is_too_new, holds_back, held_back, horizon_of}
-use Rattle.session_steps.specs.Keeps.{open_at}
+use Rattle.sessions.specs.declared.session.Session.{Session}
+use Rattle.sessions.specs.declared.session.SessionIsolation.{SessionIsolation}
+use Rattle.sessions.specs.declared.session.SessionIsolation.TheVariants.{BySnapshot, ByStatement}
+use Rattle.session_steps.specs.State.{State, session_at, seen, seen_in, reader_of, isolation_seen, horizon_of}
+use Rattle.sessions.specs.Session.{kept_by, reads_by_snapshot, is_too_new, held_back}
+use Rattle.sessions.specs.Places.{open_at}
 use Rattle.sound_entries.specs.Since.{MayScanSince}
-use Rattle.session_steps.specs.Agrees.{Agrees, Sound, SessionKeeps, SessionScans, Follows, KeepsAllTargets}
-use Rattle.session_steps.specs.Making.{HasIndexOn, LacksIndexOn, NobodyHasId, MarksSession, MarksPlace, MarksAll, MakesIndexOn, HasOrMakes, RefusesIndexOn}
+use Rattle.session_steps.specs.Agrees.{Agrees, Sound, SessionKeeps, SessionScans, KeepsAllTargets}
+use Rattle.session_steps.specs.Making.{HasIndexOn, LacksIndexOn, SomeoneHasId, NobodyHasId, MakesIndexOn, HasOrMakes, RefusesIndexOn}
+use Rattle.sessions.specs.Marks.{MarksSession}
 use Rattle.session_steps.proofs.Owns.{reader-at, reader-is}
 use Rattle.session_steps.proofs.Marking.{marked-at, place-reads, held-marked}
 use Rattle.session_steps.proofs.CursorSteps.{not-used, absent}
@@ -190,9 +186,9 @@ module _ (st st' : State) (w : World) (c : ℕ) (lacks : LacksIndexOn st c) (non
       let e = was s now.0 now.1 in
       ap (λ (r : relation.SeenSession). r.own) (sym now.2) ∙ (ap (λ (f : Session). f.own.ids) e.2.is ∙ none s e.0 e.1)
 
-  pub follows-made : Allows w (step.CreateIndex c) reply.Done × Agrees st' (with_index_on w c) × KeepsAllTargets st st'
-  follows-made =
-      let f = indexes.Follows-create_index (seen st') c lacks.0 w (λ absent_. none-owns) found-made in
+  pub follows-made : w.has_vacuum ≡ false → Allows w (step.CreateIndex c) reply.Done × Agrees st' (with_index_on w c) × KeepsAllTargets st st'
+  follows-made idle =
+      let f = indexes.Follows-create_index (seen st') c lacks.0 w (λ absent_. (none-owns, idle)) found-made in
       let is : with_index_on w c ≡ with_made_index w (suc c) = ap (λ b. if b then w else with_made_index w (suc c)) lacks-index in (
         f.0,
         subst (Agrees st') (sym is) (record { found = subst (theory.HeapAgrees (seen st')) is f.1; indexes = indexes-made; scans = marks-made; sound = sound-made }),
@@ -208,23 +204,27 @@ follows-there st w c there agrees =
     let is : with_index_on w c ≡ w = ap (λ b. if b then w else with_made_index w (suc c)) has in
     (f.0, subst (Agrees st) (sym is) agrees, led-same st w agrees)
 
-pub Follows-has_or_makes : (st st' : State) (c : ℕ) → HasOrMakes st st' c → Follows st (step.CreateIndex c) reply.Done st'
-Follows-has_or_makes st st' c (HasOrMakes.has there is) w agrees =
+-- where it is not there, no vacuum runs
+pub follows-has_or_makes : (st st' : State) (w : World) (c : ℕ) → HasOrMakes st st' c → (LacksIndexOn st c → w.has_vacuum ≡ false) → Agrees st w
+    → Allows w (step.CreateIndex c) reply.Done × Agrees st' (with_index_on w c) × KeepsAllTargets st st'
+follows-has_or_makes st st' w c (HasOrMakes.has there is) idle agrees =
     subst (λ new. Allows w (step.CreateIndex c) reply.Done × Agrees new (with_index_on w c) × KeepsAllTargets st new) (sym is) (follows-there st w c there agrees)
-Follows-has_or_makes st st' c (HasOrMakes.makes lacks none makes) w agrees = follows-made st st' w c lacks none makes agrees
+follows-has_or_makes st st' w c (HasOrMakes.makes lacks none makes) idle agrees = follows-made st st' w c lacks none makes agrees (idle lacks)
 
 -- It is not made.
 
 lacks-in : (st : State) (w : World) (c : ℕ) → LacksIndexOn st c → Agrees st w → LacksIndex w c
 lacks-in st w c lacks agrees = (lacks.0, absent (w.has_index (suc c)) (λ has. not-used (suc c) st.heap.indexes lacks.1 ((agrees.indexes (suc c)).1 has)))
 
-pub Follows-not_made : (st : State) (c : ℕ) (r : Refusal) → (r ≡ refusal.VacuumRunning) ⊎ (r ≡ refusal.IndexBusy) ⊎ (r ≡ refusal.NoMemory) → LacksIndexOn st c → Follows st (step.CreateIndex c) (reply.Refused r) st
-Follows-not_made st c r one lacks w agrees =
-    let f = indexes.Follows-not_created (seen st) c r one w (lacks-in st w c lacks agrees) agrees.found in
-    (f.0, agrees, led-same st w agrees)
+pub allows-barred_making : (st : State) (w : World) (c : ℕ) → LacksIndexOn st c → w.has_vacuum ≡ true → Agrees st w → Allows w (step.CreateIndex c) (reply.Refused refusal.VacuumRunning)
+allows-barred_making st w c lacks runs agrees = (lacks-in st w c lacks agrees, runs)
 
-pub Follows-refuses_index : (st : State) (c : ℕ) (r : Refusal) → RefusesIndexOn st c r → Follows st (step.CreateIndex c) (reply.Refused r) st
-Follows-refuses_index st c refusal.NoSuchIndex over = λ w agrees. (over, agrees, led-same st w agrees)
-Follows-refuses_index st c refusal.IndexBusy refuses = Follows-not_made st c refusal.IndexBusy (inr (inl refl)) refuses.0
-Follows-refuses_index st c refusal.NoMemory refuses = Follows-not_made st c refusal.NoMemory (inr (inr refl)) refuses.0
-Follows-refuses_index st c _ refuses = absurd refuses
+-- who has an id is open
+someone-open : (st : State) (w : World) → SomeoneHasId st → Agrees st w → IsSomeoneOpen w
+someone-open st w someone agrees = let open_ = agrees.found.opened someone.number (reader_of someone.session) (reader-is st someone.number someone.session someone.at) in (someone.number, open_.0, open_.1)
+
+pub allows-refused_making : (st : State) (w : World) (c : ℕ) (r : Refusal) → RefusesIndexOn st c r → w.has_vacuum ≡ false → Agrees st w → Allows w (step.CreateIndex c) (reply.Refused r)
+allows-refused_making st w c refusal.NoSuchIndex over idle agrees = over
+allows-refused_making st w c refusal.IndexBusy refuses idle agrees = (lacks-in st w c refuses.0 agrees, idle, someone-open st w refuses.1 agrees)
+allows-refused_making st w c refusal.NoMemory refuses idle agrees = (lacks-in st w c refuses.0 agrees, idle)
+allows-refused_making st w c _ refuses idle agrees = absurd refuses

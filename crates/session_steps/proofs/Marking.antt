@@ -1,22 +1,18 @@
--- The sessions that are marked, where an index is made: those so far, and all of them.
+-- The sessions that are marked, where an index is made.
 use Rattle.std.proofs.Common.{◌≡◌, ◌≢◌, ℕ, suc, ◌<◌, ◌≤◌, List, [], ◌∷◌, ◌++◌, ◌+◌, length, Option, Some, None, refl, sym, ap, ◌∙◌, subst, arith}
 use Rattle.std.specs.Prelude.{Contains, MatchOption, is_some}
 use Rattle.std.specs.Option.{option_map}
 use Rattle.std.proofs.lemmas.Option.{none-some}
 use Rattle.commit_status.specs.Window.{Window}
 use Rattle.snapshot.specs.Own.{AreDistinct}
-use Rattle.session_steps.specs.declared.session.Session.{Session}
+use Rattle.sessions.specs.declared.session.Session.{Session}
 use Rattle.root_index.specs.View.{IndexView}
-use Rattle.session_steps.specs.State.{State, engine_index, reader_of, holds_back, held_back}
-use Rattle.session_steps.specs.Sessions.{HoldsOpen}
-use Rattle.session_steps.specs.Keeps.{open_at, ArePlaces, IsOwned, EngineKeeps}
-use Rattle.session_steps.specs.Making.{HasIndexOn, LacksIndexOn, SomeoneHasId, NobodyHasId, MarksSession, MarksPlace, MarksAll}
-
--- the places before this one are marked, and no other is yet
-pub record MarksUpTo (number i : ℕ) (before now : List (Option Session)) : Type 0 where
-  pub count : length now ≡ length before
-  pub marked : (s : ℕ) → s < i → MarksPlace number (open_at before s) (open_at now s)
-  pub rest : (s : ℕ) → i ≤ s → open_at now s ≡ open_at before s
+use Rattle.session_steps.specs.State.{State, engine_index, reader_of}
+use Rattle.sessions.specs.Session.{holds_back, held_back}
+use Rattle.sessions.specs.Places.{HoldsOpen, open_at}
+use Rattle.session_steps.specs.Keeps.{IsOwned, EngineKeeps}
+use Rattle.session_steps.specs.Making.{HasIndexOn, LacksIndexOn, SomeoneHasId, NobodyHasId}
+use Rattle.sessions.specs.Marks.{MarksSession, MarksPlace, MarksAll}
 
 -- The sessions are those that were, with their marks.
 
@@ -95,10 +91,3 @@ pub writer-among : (st : State) (used : List (Option Session)) (found : Option �
     → MatchOption found (NobodyHasId st) (λ s. SomeoneHasId st)
 writer-among st used None holds none = λ s e at. none s e (holds.each s ∙ at)
 writer-among st used (Some s) holds some = record { number = s; session = some.0; at = sym (holds.each s) ∙ some.1; wrote = some.2 }
-
--- The same places were used.
-pub still-places : (number used : ℕ) (xs ys : List (Option Session)) → MarksAll number xs ys → ArePlaces used xs → ArePlaces used ys
-still-places number used xs ys marks places = record {
-  within = subst (λ n. used ≤ n) (sym marks.count) places.within;
-  idle = λ s late. subst (λ o. MarksPlace number o (open_at ys s)) (places.idle s late) (marks.each s);
-}

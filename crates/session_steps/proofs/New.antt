@@ -17,11 +17,11 @@ use Rattle.session_steps.proofs.InUse.{new-empty, new-in_use, indexed-is}
 use Rattle.table_integrity.proofs.Keeping.{nothing-stays}
 use Rattle.history.specs.World.{beginning}
 use Rattle.refinement.proofs.Steps.{Agrees-beginning}
-use Rattle.session_steps.specs.declared.session.Session.{Session}
+use Rattle.sessions.specs.declared.session.Session.{Session}
 use Rattle.session_steps.specs.State.{State, session_at, seen, reader_of}
 use Rattle.session_steps.specs.Agrees.{Agrees}
 use Rattle.sound_entries.specs.Since.{IsExactSince}
-use Rattle.session_steps.proofs.StateLemmas.{none-open}
+use Rattle.sessions.proofs.PlaceLemmas.{none-open}
 
 no-place : (w : Window) (x : ℕ) → w.entries ≡ [] → place w x ≡ None
 no-place w x bare = of (place w x) refl

@@ -16,7 +16,7 @@ use Rattle.table_scans.specs.Puts.{PutsNext, PutsOfCursor}
 use Rattle.table_scans.specs.Keys.{TakesKeys, PutsKeys, places_with_keys}
 use Rattle.table_scans.proofs.KeyLemmas.{no-key_taken}
 use Rattle.table_scans.proofs.ScanLemmas.{no-rows}
-use Rattle.session_steps.specs.declared.session.Session.{Session}
+use Rattle.sessions.specs.declared.session.Session.{Session}
 use Rattle.session_steps.specs.State.{State, session_at, put_session, map_session, with_cursor, engine_sessions}
 use Rattle.session_steps.specs.Takes.{session_sight}
 use Rattle.session_steps.specs.NextRows.{AnswersNextRows}

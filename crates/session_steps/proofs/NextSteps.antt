@@ -24,14 +24,15 @@ use Rattle.table_scans.specs.Scans.{Sight, start_of}
 use Rattle.table_scans.specs.Keys.{NoKeyIsIn, MeetsSomeKey}
 use Rattle.table_scans.specs.Takes.{IsAtEnd, MeetsSome, TakesRows, Takes, TakesUpTo, TakesSome}
 use Rattle.refinement.proofs.Runs.{unmade}
-use Rattle.session_steps.specs.declared.session.Session.{Session}
-use Rattle.session_steps.specs.declared.session.SessionIsolation.{SessionIsolation}
+use Rattle.sessions.specs.declared.session.Session.{Session}
+use Rattle.sessions.specs.declared.session.SessionIsolation.{SessionIsolation}
 use Rattle.sound_entries.specs.Since.{MayScanSince}
 use Rattle.table_scans.specs.declared.progress.CursorScan.{CursorScan}
 use Rattle.table_scans.specs.declared.progress.CursorScan.TheVariants.{Rows, Keys}
 use Rattle.table_scans.specs.declared.progress.Scan.{Scan}
 use Rattle.table_scans.specs.declared.progress.Scan.TheVariants.{Index, Heap}
-use Rattle.session_steps.specs.State.{State, session_at, put_session, map_session, with_cursor, seen, seen_position, position_of, reader_of, kept_by, engine_sessions}
+use Rattle.session_steps.specs.State.{State, session_at, put_session, map_session, with_cursor, seen, seen_position, position_of, reader_of, engine_sessions}
+use Rattle.sessions.specs.Session.{kept_by}
 use Rattle.session_steps.specs.Agrees.{Agrees, Follows, KeepsAllTargets, NotesHold}
 use Rattle.session_steps.specs.Takes.{session_sight, HandsOutBy}
 use Rattle.session_steps.specs.NextRows.{ExactNextRows}

@@ -9,14 +9,15 @@ use Rattle.snapshot.specs.Own.{Own, newest}
 use Rattle.calls.specs.declared.step.Step.TheVariants as step
 use Rattle.calls.specs.declared.reply.Reply.TheVariants as reply
 use Rattle.heap_write.specs.Heap.{HeapView}
-use Rattle.session_steps.specs.declared.session.Session.{Session}
+use Rattle.sessions.specs.declared.session.Session.{Session}
 use Rattle.session_steps.specs.State.{State, session_at, put_session}
-use Rattle.session_steps.specs.Keeps.{open_at, EngineKeeps}
+use Rattle.session_steps.specs.Keeps.{EngineKeeps}
+use Rattle.sessions.specs.Places.{open_at}
 use Rattle.session_steps.specs.Agrees.{Follows}
 use Rattle.session_steps.specs.Changes.{SetsSavepoint, Releases, RollsBackOn, RollsBack}
 use Rattle.session_steps.specs.Tests.{MayAct}
 use Rattle.session_steps.proofs.OwnIdsLemmas.{keep-dropped}
-use Rattle.session_steps.proofs.Idle.{open-put}
+use Rattle.sessions.proofs.Idle.{open-put}
 use Rattle.session_steps.proofs.Savepoints.{Follows-savepoint, Follows-release, Follows-roll_back_to}
 
 unfinished : Aborted ≢ InProgress

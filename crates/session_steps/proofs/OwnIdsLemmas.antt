@@ -3,8 +3,7 @@ use Rattle.std.proofs.Common.{◌≡◌, ◌≢◌, ℕ, ◌<◌, List, [], ◌�
 use Rattle.std.specs.Prelude.{Contains, IsSome}
 use Rattle.std.specs.Option.{option_flatten}
 use Rattle.std.proofs.lemmas.Bool.{cases_eq}
-use Rattle.std.proofs.lemmas.Option.{same_Some, none-some, slice_get_past}
-use Rattle.std.proofs.lemmas.Bool.{cases_lt}
+use Rattle.std.proofs.lemmas.Option.{same_Some, none-some}
 use Rattle.std.proofs.lemmas.List.Elements.{Contains-append_left, Contains-append_right, Contains-append_cases}
 use Rattle.xid_circle.proofs.Members.{Contains-first, Contains-rest, Contains-none}
 use Rattle.commit_status.specs.declared.status.Status.{Status}
@@ -14,15 +13,13 @@ use Rattle.commit_status.specs.Changes.{Finishes}
 use Rattle.commit_status.proofs.Finishing.{finishes-active_other}
 use Rattle.snapshot.specs.Own.{AreDistinct}
 use Rattle.snapshot.proofs.Levels.{distinct-prefix, distinct-after}
-use Rattle.heap_write.specs.Writes.{GivesUnder}
-use Rattle.heap_write.proofs.GivenIds.{given-active_old, given-active, given-active_cases, given-new, given-distinct}
+use Rattle.write_ids.specs.Ids.{GivesUnder}
+use Rattle.write_ids.proofs.GivenIds.{given-active_old, given-active, given-active_cases, given-new, given-distinct}
 use Rattle.history.proofs.Places.{slice_get-set_same, slice_get-set_other}
-use Rattle.session_steps.specs.declared.session.Session.{Session}
-use Rattle.session_steps.specs.Keeps.{open_at, IsOwned, OwnIdsKeep}
-
--- an open session has one of the places
-pub place-within : (xs : List (Option Session)) (s : ℕ) → open_at xs s ≢ None → s < length xs
-place-within xs s some = elim (cases_lt s (length xs)) [ inl lt ↦ lt | inr past ↦ absurd (some (ap option_flatten (slice_get_past xs s past))) ]
+use Rattle.sessions.specs.declared.session.Session.{Session}
+use Rattle.session_steps.specs.Keeps.{IsOwned, OwnIdsKeep}
+use Rattle.sessions.specs.Places.{open_at}
+use Rattle.sessions.proofs.PlaceLemmas.{place-within}
 
 pub open-within : (xs : List (Option Session)) (s : ℕ) (e : Session) → open_at xs s ≡ Some e → s < length xs
 open-within xs s e at = place-within xs s (λ none. none-some e (sym none ∙ at))

@@ -14,11 +14,12 @@ use Rattle.history.specs.World.{World}
 use Rattle.visibility.proofs.Makers.{active-to, active-from, committed-to}
 use Rattle.refinement.specs.Heap as relation
 use Rattle.refinement.specs.Visible.{IsFreshSnapshot}
-use Rattle.session_steps.specs.declared.session.Session.{Session}
+use Rattle.sessions.specs.declared.session.Session.{Session}
 use Rattle.visibility.specs.Visible.{state_of}
-use Rattle.session_steps.specs.State.{State, session_at, seen, reader_of, owns_of}
+use Rattle.session_steps.specs.State.{State, session_at, seen, reader_of}
+use Rattle.sessions.specs.Session.{owns_of}
 use Rattle.session_steps.specs.Agrees.{Agrees}
-use Rattle.session_steps.specs.Keeps.{open_at}
+use Rattle.sessions.specs.Places.{open_at}
 
 pub owns-some : (xs : List (Option Session)) (s : ℕ) (e : Session) → open_at xs s ≡ Some e → Contains (owns_of xs) e.own.ids
 owns-some [] s e at = cc

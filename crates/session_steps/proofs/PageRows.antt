@@ -1,10 +1,10 @@
 -- The rows of a page are handed out at once.
-use Rattle.std.proofs.Common.{◌≡◌, ℕ, ◌<◌, Some, refl, sym, ◌∙◌, subst, arith}
+use Rattle.std.proofs.Common.{◌≡◌, ℕ, refl, sym, ◌∙◌, subst, arith}
 use Rattle.std.specs.Prelude.{Vec, length}
 use Rattle.std.specs.declared.alloc.Global.{Global}
 use Rattle.std.proofs.lemmas.Option.{same_Some, slice_get_within}
 use Rattle.tuple_header.specs.declared.version.Row.{Row}
-use Rattle.history.specs.World.{World, OpenSession, view}
+use Rattle.history.specs.World.{OpenSession, view}
 use Rattle.history.specs.Cursors.{AreOf}
 use Rattle.table_scans.specs.Tickets.{TicketView, ticket_rows}
 use Rattle.calls.specs.declared.step.Step.TheVariants as step
@@ -14,7 +14,7 @@ use Rattle.calls.specs.declared.reply.Refusal.TheVariants as refusal
 use Rattle.refinement.proofs.Follows as theory
 use Rattle.session_steps.specs.State.{State, seen, reader_of}
 use Rattle.session_steps.specs.Agrees.{Follows}
-use Rattle.session_steps.specs.Tickets.{TakesTicket, AreTicketRows, IsReadyAt, RefusesTicket}
+use Rattle.session_steps.specs.Tickets.{TakesTicket, AreTicketRows, RefusesTicket}
 use Rattle.session_steps.specs.Exact.{AnswersStep}
 use Rattle.session_steps.proofs.Owns.{reader-is}
 use Rattle.session_steps.proofs.OwnIdsLemmas.{open-within}

@@ -22,7 +22,7 @@ use Rattle.refinement.specs.Changes as change
 use Rattle.refinement.specs.Finds.{Free}
 use Rattle.refinement.proofs.Readers.{IsNew, IsDeleted}
 use Rattle.refinement.proofs.Targets as targets
-use Rattle.session_steps.specs.declared.session.Session.{Session}
+use Rattle.sessions.specs.declared.session.Session.{Session}
 use Rattle.session_steps.specs.State.{State, session_at, seen, reader_of}
 use Rattle.session_steps.specs.Agrees.{Agrees}
 use Rattle.session_steps.proofs.Owns.{reader-is}

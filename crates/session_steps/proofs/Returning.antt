@@ -6,8 +6,8 @@ use Rattle.xid_circle.proofs.Members.{Contains-first, Contains-rest, Contains-ca
 use Rattle.commit_status.specs.Window.{Window, top_of}
 use Rattle.snapshot.specs.Own.{newest, older, ArePrefixes, AreDistinct}
 use Rattle.snapshot.proofs.Levels.{distinct-prefix}
-use Rattle.session_steps.specs.declared.session.Session.{Session}
-use Rattle.session_steps.specs.State.{kept_by}
+use Rattle.sessions.specs.declared.session.Session.{Session}
+use Rattle.sessions.specs.Session.{kept_by}
 use Rattle.session_steps.specs.Agrees.{SessionKeeps}
 use Rattle.session_steps.specs.Changes.{SetsSavepoint, Returns, Releases}
 use Rattle.session_steps.proofs.Statements.{for-same}

@@ -24,7 +24,7 @@ use Rattle.refinement.proofs.Isolations.{SameSights}
 use Rattle.refinement.proofs.Steps.{OnlyIs}
 use Rattle.refinement.proofs.FollowsSavepoints as savepoints
 use Rattle.refinement.proofs.Runs.{unmade}
-use Rattle.session_steps.specs.declared.session.Session.{Session}
+use Rattle.sessions.specs.declared.session.Session.{Session}
 use Rattle.visibility.specs.Visible.{state_of}
 use Rattle.session_steps.specs.State.{State, session_at, put_session, seen, position_of, reader_of, engine_sessions}
 use Rattle.session_steps.specs.Agrees.{Agrees, Follows, KeepsAllTargets}

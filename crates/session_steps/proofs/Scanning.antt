@@ -13,10 +13,11 @@ use Rattle.index_lookup.specs.declared.index_scan.IndexRange.{IndexRange}
 use Rattle.history.specs.World.{World}
 use Rattle.table_scans.specs.declared.progress.CursorScan.TheVariants.{Rows}
 use Rattle.table_scans.specs.declared.progress.Scan.TheVariants.{Index}
-use Rattle.session_steps.specs.declared.session.Session.{Session}
-use Rattle.session_steps.specs.declared.session.SessionIsolation.{SessionIsolation}
-use Rattle.session_steps.specs.declared.session.SessionIsolation.TheVariants.{BySnapshot, ByStatement}
-use Rattle.session_steps.specs.State.{State, session_at, owns_of, kept_by, keeping, is_too_new, statement_snapshot, cursor_snapshot}
+use Rattle.sessions.specs.declared.session.Session.{Session}
+use Rattle.sessions.specs.declared.session.SessionIsolation.{SessionIsolation}
+use Rattle.sessions.specs.declared.session.SessionIsolation.TheVariants.{BySnapshot, ByStatement}
+use Rattle.session_steps.specs.State.{State, session_at}
+use Rattle.sessions.specs.Session.{owns_of, kept_by, keeping, is_too_new, statement_snapshot, cursor_snapshot}
 use Rattle.session_steps.specs.Agrees.{Agrees}
 use Rattle.sound_entries.specs.Since.{MayScanSince}
 use Rattle.sound_entries.proofs.Since.{scan-unexcused, begin-scan}

@@ -20,9 +20,10 @@ use Rattle.refinement.specs.Visible.{ReaderSees}
 use Rattle.refinement.specs.Finds.{FindsOfKey, IsLateFor, IsHeldBy, BeginsWrite, Free}
 use Rattle.calls.specs.declared.reply.Refusal.{Refusal}
 use Rattle.calls.specs.declared.reply.Refusal.TheVariants as refusal
-use Rattle.session_steps.specs.declared.session.Session.{Session}
+use Rattle.sessions.specs.declared.session.Session.{Session}
 use Rattle.visibility.specs.Visible.{state_of}
-use Rattle.session_steps.specs.State.{State, session_at, seen, statement_snapshot, position_of, reader_of}
+use Rattle.session_steps.specs.State.{State, session_at, seen, position_of, reader_of}
+use Rattle.sessions.specs.Session.{statement_snapshot}
 use Rattle.session_steps.specs.Agrees.{Agrees}
 use Rattle.session_steps.specs.Tests.{FindsPlace, IsLateBy, IsHeldUnder, IsUncontested, ConflictsWrite, RefusesInsertOfKey, RefusesChangeOfKey}
 use Rattle.session_steps.specs.Tests as tests

@@ -14,8 +14,9 @@ use Rattle.index_lookup.specs.Looking.{FirstPlace, IsIdOf}
 use Rattle.table_indexes.specs.Indexes.{entries_in}
 use Rattle.heap_write.specs.Heap.{HeapView, slots_of}
 use Rattle.table_scans.specs.Scans.{Sight, sight_of}
-use Rattle.session_steps.specs.declared.session.Session.{Session}
-use Rattle.session_steps.specs.State.{State, statement_snapshot, cursor_snapshot}
+use Rattle.sessions.specs.declared.session.Session.{Session}
+use Rattle.session_steps.specs.State.{State}
+use Rattle.sessions.specs.Session.{statement_snapshot, cursor_snapshot}
 use Rattle.session_steps.specs.Takes.{ReadsBy, session_sight}
 use Rattle.session_steps.specs.Tests.{FindsPlace}
 use Rattle.session_steps.proofs.Searches.{Misses, Holds, RowOf}

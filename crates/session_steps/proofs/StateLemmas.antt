@@ -12,16 +12,12 @@ use Rattle.calls.specs.declared.reply.Refusal.{Refusal}
 use Rattle.calls.specs.declared.reply.Refusal.TheVariants as refusal
 use Rattle.calls.specs.Bars.{BarsOpen}
 use Rattle.refinement.proofs.Steps.{OnlyIs}
-use Rattle.session_steps.specs.declared.session.Session.{Session}
+use Rattle.sessions.specs.declared.session.Session.{Session}
 use Rattle.session_steps.specs.State.{State, session_at, put_session, reader_of, failed_session, with_failed, engine_sessions, seen}
-use Rattle.session_steps.specs.Keeps.{open_at, EngineKeeps}
+use Rattle.session_steps.specs.Keeps.{EngineKeeps}
+use Rattle.sessions.specs.Places.{open_at}
 use Rattle.session_steps.proofs.OwnIdsLemmas.{open-set_same, open-set_other, keep-open, keep-close, keep-idle, keep-same}
-
--- nobody has a session after all are made idle
-pub none-open : (n s : ℕ) → open_at (replicate n None) s ≡ None
-none-open zero s = refl
-none-open (suc n) zero = refl
-none-open (suc n) (suc s) = none-open n s
+use Rattle.sessions.proofs.PlaceLemmas.{none-open}
 
 pub keeps-idle : (xs : List (Option Session)) (w : Window) → w.entries ≡ [] → xs ≡ replicate 64 None → length xs ≡ 64 → EngineKeeps xs w
 keeps-idle xs w no_ids is count = record {

@@ -13,10 +13,11 @@ use Rattle.visibility.proofs.Makers.{state-some}
 use Rattle.visibility.proofs.Statements.{given-before, statement-reads}
 use Rattle.refinement.specs.Heap as relation
 use Rattle.refinement.specs.Visible.{ReaderSees, HasMissed}
-use Rattle.session_steps.specs.declared.session.Session.{Session}
-use Rattle.session_steps.specs.declared.session.SessionIsolation.{SessionIsolation}
-use Rattle.session_steps.specs.declared.session.SessionIsolation.TheVariants.{BySnapshot, ByStatement}
-use Rattle.session_steps.specs.State.{State, session_at, seen, isolation_seen, kept_by, statement_snapshot, cursor_snapshot, keeping, IsByStatement}
+use Rattle.sessions.specs.declared.session.Session.{Session}
+use Rattle.sessions.specs.declared.session.SessionIsolation.{SessionIsolation}
+use Rattle.sessions.specs.declared.session.SessionIsolation.TheVariants.{BySnapshot, ByStatement}
+use Rattle.session_steps.specs.State.{State, session_at, seen, isolation_seen}
+use Rattle.sessions.specs.Session.{kept_by, statement_snapshot, cursor_snapshot, keeping, IsByStatement}
 use Rattle.session_steps.proofs.Owns.{reader-at}
 
 -- what a statement of the session sees of the ids, and what its cursor does

@@ -20,7 +20,7 @@ use Rattle.refinement.proofs.CursorWalks.{from_itself, from_first}
 use Rattle.refinement.proofs.Follows.{reads_rows}
 use Rattle.table_scans.specs.Scans.{Sight, start_of, ScansHeap, heap_begins, heap_passes, heap_finds, heap_turns}
 use Rattle.table_scans.specs.Takes.{TakesAll}
-use Rattle.session_steps.specs.declared.session.Session.{Session}
+use Rattle.sessions.specs.declared.session.Session.{Session}
 use Rattle.session_steps.specs.State.{State, session_at, seen, reader_of}
 use Rattle.session_steps.specs.Agrees.{Agrees}
 use Rattle.session_steps.specs.Takes.{ReadsBy}

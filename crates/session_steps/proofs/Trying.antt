@@ -13,13 +13,15 @@ use Rattle.snapshot.specs.Own.{Own, current_xid, ArePrefixes}
 use Rattle.snapshot.proofs.Levels.{level-among}
 use Rattle.heap_write.specs.declared.heap.WriteFault.{WriteFault}
 use Rattle.heap_write.specs.declared.heap.WriteFault.TheVariants as fault
-use Rattle.heap_write.specs.Heap.{HeapView, SameIds, Keeps, slots_of}
-use Rattle.heap_write.specs.Writes.{SameOwn, PrunesIfFull, Inserts, Deletes}
+use Rattle.heap_write.specs.Heap.{HeapView, Keeps, slots_of}
+use Rattle.write_ids.specs.Ids.{SameIds, SameOwn}
+use Rattle.heap_write.specs.Writes.{PrunesIfFull, Inserts, Deletes}
 use Rattle.heap_write.specs.Refusals.{VersionIsThere, LacksForInsert, FailsUpdate, FailsDelete, AnswersUpdate}
 use Rattle.table_integrity.proofs.Places.{version-on}
-use Rattle.session_steps.specs.declared.session.Session.{Session}
+use Rattle.sessions.specs.declared.session.Session.{Session}
 use Rattle.session_steps.specs.State.{State, session_at, horizon_of}
-use Rattle.session_steps.specs.Keeps.{open_at, EngineKeeps}
+use Rattle.session_steps.specs.Keeps.{EngineKeeps}
+use Rattle.sessions.specs.Places.{open_at}
 use Rattle.calls.specs.declared.reply.Reply.{Reply}
 use Rattle.session_steps.specs.Tests.{FindsPlace, MayWriteKey}
 use Rattle.session_steps.specs.Follows.{FollowsUpdate}

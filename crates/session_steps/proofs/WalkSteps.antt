@@ -13,8 +13,9 @@ use Rattle.refinement.proofs.CursorWalks.{Meets-one}
 use Rattle.table_scans.specs.declared.progress.CursorScan.TheVariants.{Rows}
 use Rattle.table_scans.specs.declared.progress.Scan.TheVariants.{Index}
 use Rattle.table_scans.specs.Scans.{NoneIsIn, range_after, ScansIndex, index_begins, index_goes_on}
-use Rattle.session_steps.specs.declared.session.Session.{Session}
-use Rattle.session_steps.specs.State.{State, seen, seen_position, reader_of, cursor_snapshot}
+use Rattle.sessions.specs.declared.session.Session.{Session}
+use Rattle.session_steps.specs.State.{State, seen, seen_position, reader_of}
+use Rattle.sessions.specs.Session.{cursor_snapshot}
 use Rattle.session_steps.specs.Takes.{session_sight}
 use Rattle.session_steps.proofs.Owns.{reader-is}
 use Rattle.session_steps.proofs.Scanning.{IsScanned, scans-unexcused, cursor-scans}

@@ -7,14 +7,14 @@ use Rattle.xid_circle.specs.declared.Tid.{Tid}
 use Rattle.tuple_header.specs.declared.version.Row.{Row}
 use Rattle.tuple_header.specs.Version.{Version}
 use Rattle.visibility.specs.Visible as visibility
-use Rattle.index_nodes.specs.declared.entry.Entry.{Entry}
+use Rattle.index_entries.specs.declared.entry.Entry.{Entry}
 use Rattle.index_lookup.specs.Looking.{FirstFound}
 use Rattle.sound_entries.specs.Entries.{EntriesAreSound}
 use Rattle.sound_entries.proofs.Leads.{visible-found}
 use Rattle.sound_entries.proofs.OnHeap.{found-on_heap}
 use Rattle.index_lookup.specs.declared.index_scan.IndexPosition.{IndexPosition}
 use Rattle.index_lookup.specs.declared.index_scan.IndexRange.{IndexRange}
-use Rattle.table_indexes.specs.Indexes.{entries_in, since_at, IsInUse}
+use Rattle.table_indexes.specs.Indexes.{entries_in, since_at}
 use Rattle.heap_write.specs.Heap.{slots_of}
 use Rattle.index_lookup.specs.Walking.{LiesIn, ComesAfter, IsNextRow, NoneLeft}
 use Rattle.index_lookup.specs.Walking as walking
@@ -28,8 +28,9 @@ use Rattle.refinement.specs.Visible.{At}
 use Rattle.refinement.specs.Cursors.{IsPastPosition, IsAhead, Comes}
 use Rattle.refinement.specs.Cursors as cursors
 use Rattle.session_steps.proofs.Scanning.{IsScanned}
-use Rattle.session_steps.specs.declared.session.Session.{Session}
-use Rattle.session_steps.specs.State.{State, session_at, seen, cursor_snapshot, seen_position}
+use Rattle.sessions.specs.declared.session.Session.{Session}
+use Rattle.session_steps.specs.State.{State, session_at, seen, seen_position}
+use Rattle.sessions.specs.Session.{cursor_snapshot}
 use Rattle.session_steps.specs.Agrees.{Agrees}
 use Rattle.session_steps.proofs.AtCursor.{seen_by}
 use Rattle.session_steps.proofs.Statements.{cursor-sees}

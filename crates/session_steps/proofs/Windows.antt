@@ -19,8 +19,8 @@ use Rattle.snapshot.proofs.Sights.{sees-top}
 use Rattle.snapshot.proofs.Earliest.{before-precedes, precedes-before}
 use Rattle.visibility.specs.Visible.{state_of}
 use Rattle.visibility.proofs.Makers.{state-some, state-is, active-from}
-use Rattle.heap_write.specs.Writes.{GivesUnder}
-use Rattle.heap_write.proofs.GivenIds.{given-window, given-first, given-upto, given-top_old, next-turn}
+use Rattle.write_ids.specs.Ids.{GivesUnder}
+use Rattle.write_ids.proofs.GivenIds.{given-window, given-first, given-upto, given-top_old, next-turn}
 use Rattle.refinement.specs.Changes.{GivesNext, GivesEach, FinishesIds, SameSight}
 use Rattle.refinement.proofs.Steps.{cases_Contains}
 

@@ -11,8 +11,9 @@ use Rattle.visibility.proofs.Makers.{active-to}
 use Rattle.index_lookup.specs.Pages.{version_in}
 use Rattle.heap_write.specs.declared.heap.WriteFault.{WriteFault}
 use Rattle.heap_write.specs.declared.heap.WriteFault.TheVariants as fault
-use Rattle.heap_write.specs.Heap.{HeapView, SameIds, Keeps, slots_of}
-use Rattle.heap_write.specs.Writes.{TakesIds, PrunesIfFull, Inserts, Updates, Deletes}
+use Rattle.heap_write.specs.Heap.{HeapView, Keeps, slots_of}
+use Rattle.write_ids.specs.Ids.{SameIds, TakesIds}
+use Rattle.heap_write.specs.Writes.{PrunesIfFull, Inserts, Updates, Deletes}
 use Rattle.heap_write.specs.Refusals.{LacksForInsert, FailsUpdate, FailsDelete}
 use Rattle.heap_write.proofs.PageLemmas.{slots-kept}
 use Rattle.table_integrity.proofs.Places.{readies-stand, root-new, root_version, free_place, taken_version, inserts-stand, deletes-stand, updates-ready, updates-stand}
@@ -35,7 +36,7 @@ use Rattle.refinement.proofs.Hindrances as hindrances
 use Rattle.refinement.proofs.GivenBelow.{visible_given_each}
 use Rattle.refinement.proofs.FollowsWrites.{insert_done, update_done, delete_done}
 use Rattle.refinement.proofs.Runs.{KeepsScans, unmade}
-use Rattle.session_steps.specs.declared.session.Session.{Session}
+use Rattle.sessions.specs.declared.session.Session.{Session}
 use Rattle.visibility.specs.Visible.{state_of}
 use Rattle.session_steps.specs.State.{State, session_at, seen, seen_in, reader_of, isolation_seen, horizon_of}
 use Rattle.session_steps.specs.Agrees.{Agrees, Follows, KeepsAllTargets}

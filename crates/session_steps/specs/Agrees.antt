@@ -17,14 +17,15 @@ use Rattle.table_indexes.specs.Indexes.{IndexesView, entries_in, since_at, IsInU
 use Rattle.heap_write.specs.Heap.{slots_of}
 use Rattle.index_lookup.specs.declared.index_scan.IndexRange.{IndexRange}
 use Rattle.table_integrity.specs.Table.{SoundTable}
-use Rattle.session_steps.specs.declared.session.Session.{Session}
-use Rattle.session_steps.specs.declared.session.SessionIsolation.TheVariants.{BySnapshot}
+use Rattle.sessions.specs.declared.session.Session.{Session}
+use Rattle.sessions.specs.declared.session.SessionIsolation.TheVariants.{BySnapshot}
 use Rattle.table_scans.specs.declared.progress.Scan.TheVariants.{Index}
 use Rattle.table_scans.specs.declared.progress.CursorScan.TheVariants.{Rows}
 use Rattle.page_slots.specs.View.{PageView}
 use Rattle.index_lookup.specs.Keys.{IsNotedVisible}
 use Rattle.freeze.specs.AllVisible.{IsAllVisible}
-use Rattle.session_steps.specs.State.{State, session_at, seen, IsByStatement, kept_by, is_too_new, horizon_of}
+use Rattle.session_steps.specs.State.{State, session_at, seen, horizon_of}
+use Rattle.sessions.specs.Session.{IsByStatement, kept_by, is_too_new}
 use Rattle.calls.specs.declared.step.TheConstants.{MOST_SESSIONS}
 
 -- what the ids of an open session keep

@@ -6,9 +6,10 @@ use Rattle.commit_status.specs.declared.status.Status.TheVariants.{Aborted}
 use Rattle.commit_status.specs.Window.{IsWindow}
 use Rattle.commit_status.specs.Changes.{Finishes}
 use Rattle.heap_write.specs.Heap.{HeapView}
-use Rattle.session_steps.specs.declared.session.Session.{Session}
-use Rattle.session_steps.specs.declared.session.SessionIsolation.{SessionIsolation}
-use Rattle.session_steps.specs.State.{State, session_at, put_session, is_too_new}
+use Rattle.sessions.specs.declared.session.Session.{Session}
+use Rattle.sessions.specs.declared.session.SessionIsolation.{SessionIsolation}
+use Rattle.session_steps.specs.State.{State, session_at, put_session}
+use Rattle.sessions.specs.Session.{is_too_new}
 
 -- the session is open, reads so, has no ids, and may scan each index
 pub record Opens (old new : State) (s : ℕ) (isolation : SessionIsolation) : Type 0 where

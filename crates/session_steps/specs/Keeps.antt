@@ -1,25 +1,10 @@
 -- What the type of an engine keeps, whatever was done with it.
-use Rattle.std.specs.Prelude.{◌≡◌, ◌≤◌, ℕ, List, length, Option, Some, None, slice_get, Contains}
-use Rattle.std.specs.Option.{option_flatten}
-use Rattle.xid_circle.specs.Numbers.{Count}
+use Rattle.std.specs.Prelude.{◌≡◌, ℕ, List, length, Option, Some, Contains}
 use Rattle.commit_status.specs.Window.{Window, IsActive}
 use Rattle.snapshot.specs.Own.{AreDistinct}
-use Rattle.session_steps.specs.declared.session.Session.{Session}
+use Rattle.sessions.specs.declared.session.Session.{Session}
 use Rattle.calls.specs.declared.step.TheConstants.{MOST_SESSIONS}
-
-abbrev pub open_at : List (Option Session) → ℕ → Option Session
-open_at sessions s = option_flatten (slice_get sessions s)
-
--- nobody has a session in this place or a later one
-abbrev pub AreIdleFrom : ℕ → List (Option Session) → Type 0
-AreIdleFrom n sessions = (s : ℕ) → n ≤ s → open_at sessions s ≡ None
-
--- of places for sessions, of which so many were used: every open session has one of these
-pub record ArePlaces (used : Count) (places : List (Option Session)) : Type 0 where
-  -- no more were used than there are
-  pub within : used ≤ length places
-  -- nobody has one that was not used
-  pub idle : AreIdleFrom used places
+use Rattle.sessions.specs.Places.{open_at}
 
 -- an open session has the id
 abbrev pub IsOwned : List (Option Session) → ℕ → Type 0

@@ -13,8 +13,9 @@ use Rattle.heap_write.specs.Heap.{HeapView, slots_of}
 use Rattle.tuple_header.specs.IndexValue.{value_in}
 use Rattle.history.specs.History.{Write, Transaction, committed, reading}
 use Rattle.history.specs.World.{World, OpenSession, joined, start_now, view, MayScan}
-use Rattle.session_steps.specs.declared.session.Session.{Session}
-use Rattle.session_steps.specs.State.{State, session_at, statement_snapshot, kept_by, kept_xmin, owns_of, horizon_of}
+use Rattle.sessions.specs.declared.session.Session.{Session}
+use Rattle.session_steps.specs.State.{State, session_at, horizon_of}
+use Rattle.sessions.specs.Session.{statement_snapshot, kept_by, kept_xmin, owns_of}
 use Rattle.session_steps.specs.Agrees.{Agrees}
 
 -- a version that the reader sees stands in a chain to which an entry of this value and this key leads, in the index of this

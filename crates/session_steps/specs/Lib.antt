@@ -1,6 +1,5 @@
 pub mod Keeps
 pub mod State
-pub mod Sessions
 pub mod Agrees
 pub mod Tests
 pub mod Replies

@@ -1,12 +1,13 @@
 -- An index by a column is made while sessions are open.
-use Rattle.std.specs.Prelude.{◌≡◌, ◌≢◌, ℕ, suc, ◌==◌, if◌then◌else◌, ◌<◌, List, [], length, Option, Some, None, IsSome}
+use Rattle.std.specs.Prelude.{◌≡◌, ◌≢◌, ℕ, suc, ◌<◌, [], Some, None, IsSome}
 use Rattle.heap_write.specs.Heap.{slots_of}
-use Rattle.heap_write.specs.Making.{MakesIndex, SomeCurrent}
+use Rattle.index_making.specs.Making.{SomeCurrent}
+use Rattle.heap_write.specs.Making.{MakesIndex}
 use Rattle.calls.specs.declared.reply.Refusal.{Refusal}
 use Rattle.calls.specs.declared.reply.Refusal.TheVariants as refusal
-use Rattle.session_steps.specs.declared.session.Session.{Session}
-use Rattle.session_steps.specs.State.{State, session_at, engine_index, reads_by_snapshot, is_too_new}
-use Rattle.session_steps.specs.Keeps.{open_at}
+use Rattle.sessions.specs.declared.session.Session.{Session}
+use Rattle.session_steps.specs.State.{State, session_at, engine_index}
+use Rattle.sessions.specs.Marks.{MarksAll}
 
 -- the index by the column is there, or it is not and may be made
 abbrev pub HasIndexOn : State → (column : ℕ) → Type 0
@@ -25,22 +26,6 @@ pub record SomeoneHasId (st : State) : Type 0 where
 -- none has
 abbrev pub NobodyHasId : State → Type 0
 NobodyHasId st = (s : ℕ) (e : Session) → session_at st s ≡ Some e → e.own.ids ≡ []
-
--- by snapshot a session may not scan the index of this number, and by statement it may; nothing else of it changes
-pub record MarksSession (number : ℕ) (e e' : Session) : Type 0 where
-  pub is : e' ≡ record e { too_new = e'.too_new }
-  pub marks : (n : ℕ) → is_too_new e' n ≡ (if n == number then reads_by_snapshot e.isolation else is_too_new e n)
-
--- so it is of a place where a session is open
-abbrev pub MarksPlace : (number : ℕ) → Option Session → Option Session → Type 0
-MarksPlace number None after = after ≡ None
-MarksPlace number (Some e) None = ⊥
-MarksPlace number (Some e) (Some e') = MarksSession number e e'
-
--- and of all
-pub record MarksAll (number : ℕ) (before after : List (Option Session)) : Type 0 where
-  pub count : length after ≡ length before
-  pub each : (s : ℕ) → MarksPlace number (open_at before s) (open_at after s)
 
 -- the index is made, and who was open by snapshot then may not scan it
 pub record MakesIndexOn (old new : State) (column : ℕ) : Type 0 where

@@ -1,7 +1,6 @@
 -- What a cursor answers that writes its next rows to places of the caller's.
-use Rattle.std.specs.Prelude.{◌≡◌, ℕ, ◌<◌, List, [], length, Result, Ok, Err}
+use Rattle.std.specs.Prelude.{◌≡◌, ℕ, ◌<◌, List, length, Result, Ok, Err}
 use Rattle.tuple_header.specs.declared.row_place.RowPlace.{RowPlace}
-use Rattle.tuple_header.specs.declared.version.Row.{Row}
 use Rattle.tuple_header.specs.Places.{places_with}
 use Rattle.table_scans.specs.Keys.{places_with_keys}
 use Rattle.calls.specs.declared.step.Step.TheVariants as step

@@ -11,8 +11,9 @@ use Rattle.table_scans.specs.declared.progress.CursorScan.TheVariants.{Rows, Key
 use Rattle.table_scans.specs.Scans.{Sight}
 use Rattle.table_scans.specs.Takes as scans
 use Rattle.table_scans.specs.Keys.{TakesKeys}
-use Rattle.session_steps.specs.declared.session.Session.{Session}
-use Rattle.session_steps.specs.State.{State, session_at, cursor_snapshot, put_session, with_cursor}
+use Rattle.sessions.specs.declared.session.Session.{Session}
+use Rattle.session_steps.specs.State.{State, session_at, put_session, with_cursor}
+use Rattle.sessions.specs.Session.{cursor_snapshot}
 
 -- the reader is the session, by this snapshot
 pub record ReadsBy (st : State) (e : Session) (by : Snap) (r : Reader) : Type 0 where

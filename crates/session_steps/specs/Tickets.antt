@@ -13,8 +13,9 @@ use Rattle.calls.specs.declared.reply.Refusal.TheVariants as refusal
 use Rattle.calls.specs.Bars.{BarsReady}
 use Rattle.history.specs.World.{World, OpenSession, view}
 use Rattle.history.specs.Cursors.{AreOf}
-use Rattle.session_steps.specs.declared.session.Session.{Session}
-use Rattle.session_steps.specs.State.{State, session_at, engine_sessions, statement_snapshot}
+use Rattle.sessions.specs.declared.session.Session.{Session}
+use Rattle.session_steps.specs.State.{State, session_at, engine_sessions}
+use Rattle.sessions.specs.Session.{statement_snapshot}
 use Rattle.session_steps.specs.Agrees.{Agrees}
 
 -- what a statement of the session sees of the table

@@ -8,7 +8,7 @@ use Rattle.calls.specs.declared.vacuum.Mode.{Mode}
 use Rattle.calls.specs.declared.vacuum.Piece.{Piece}
 use Rattle.vacuum_passes.specs.View.{VacuumView, new_vacuum}
 use Rattle.vacuum_passes.specs.Steps.{Steps}
-use Rattle.session_steps.specs.declared.session.Session.{Session}
+use Rattle.sessions.specs.declared.session.Session.{Session}
 use Rattle.session_steps.specs.State.{State, session_at, horizon_of}
 
 -- The settings and the indexes are what an engine has from its beginning.

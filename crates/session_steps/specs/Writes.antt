@@ -4,7 +4,8 @@ use Rattle.xid_circle.specs.declared.Tid.{Tid}
 use Rattle.xid_circle.specs.declared.Xid.{Xid}
 use Rattle.tuple_header.specs.declared.version.Row.{Row}
 use Rattle.heap_write.specs.Heap.{HeapView, Keeps}
-use Rattle.heap_write.specs.Writes.{SameOwn, Inserts, Updates, Deletes}
+use Rattle.heap_write.specs.Writes.{Inserts, Updates, Deletes}
+use Rattle.write_ids.specs.Ids.{SameOwn}
 use Rattle.heap_write.specs.Refusals.{LacksForInsert, FailsUpdate, FailsDelete}
 use Rattle.heap_write.specs.declared.heap.WriteFault.{WriteFault}
 use Rattle.heap_write.specs.declared.heap.WriteFault.TheVariants as fault
@@ -12,7 +13,7 @@ use Rattle.calls.specs.declared.reply.Reply.{Reply}
 use Rattle.calls.specs.declared.reply.Reply.TheVariants as reply
 use Rattle.calls.specs.declared.reply.Refusal.{Refusal}
 use Rattle.calls.specs.declared.reply.Refusal.TheVariants as refusal
-use Rattle.session_steps.specs.declared.session.Session.{Session}
+use Rattle.sessions.specs.declared.session.Session.{Session}
 
 -- the session is as it was, though there may be more memory
 pub record SameSession (e e' : Session) : Type 0 where

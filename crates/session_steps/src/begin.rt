@@ -1,10 +1,10 @@
 //! A session begins, by snapshot or by statement; and the snapshot that is taken.
 
-ghost use Rattle.std.specs.Prelude.{◌≡◌, ◌<◌, length, None, IfOk, OnErr, MatchResult};
+ghost use Rattle.std.specs.Prelude.{◌≡◌, ◌<◌, None, IfOk, OnErr, MatchResult};
 ghost use Rattle.snapshot.specs.Snap.{taken};
-ghost use Rattle.xid_circle.specs.Circle.{IsNormal};
 ghost use Rattle.commit_status.specs.Window.{next_id};
-ghost use Rattle.session_steps.specs.State.{owns_of, session_at};
+ghost use Rattle.session_steps.specs.State.{session_at};
+ghost use Rattle.sessions.specs.Session.{owns_of};
 ghost use Rattle.session_steps.specs.Tests.{BarsBegin};
 ghost use Rattle.calls.specs.declared.step.TheConstants.{MOST_SESSIONS};
 ghost use Rattle.calls.specs.declared.step.Step.{Step};
@@ -13,30 +13,10 @@ ghost use Rattle.session_steps.specs.Replies.{reply_to};
 
 use crate::engine::SessionEngine;
 use crate::outcome::Ack;
-use crate::session::{Session, SessionIsolation};
 use calls::Refusal;
+use sessions::{SessionIsolation, take_snapshot};
 use snapshot::Snapshot;
-use std::alloc::{AllocError, Global};
-use xid_circle::Xid;
-
-/// A snapshot of the ids as they are.
-fn take_snapshot(
-    alloc: Global,
-    next: Xid,
-    sessions: &[Option<Session>],
-) -> Result<Snapshot, AllocError>
-    requires { IsNormal next.0 }
-    ensures ok { IfOk result (λ s. s ≡ taken next.0 (owns_of sessions.now)) }
-    ensures err { OnErr result (8 < length (taken next.0 (owns_of sessions.now)).listed) }
-{
-    let mut snapshot = Snapshot::empty(alloc, next);
-    for session in sessions {
-        if let Some(session) = session {
-            snapshot.add_transaction(&session.own)?;
-        }
-    }
-    Ok(snapshot)
-}
+use std::alloc::AllocError;
 
 impl SessionEngine {
     /// The snapshot of this moment.

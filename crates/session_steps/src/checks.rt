@@ -1,34 +1,15 @@
 //! The tests that every write of a session makes first, and its answers.
 
-ghost use Rattle.std.specs.Prelude.{◌≡◌, ◌≢◌, ◌≤◌, ℕ, length, MatchOption, MatchResult, Some, None, Contains, Err};
-ghost use Rattle.session_steps.specs.Keeps.{open_at};
+ghost use Rattle.std.specs.Prelude.{◌≡◌, ℕ, MatchResult, Some, None, Err};
 ghost use Rattle.session_steps.specs.State.{refused_state, with_failed};
 ghost use Rattle.session_steps.specs.Tests.{MayAct, FindsPlace, IsUncontested, ConflictsWrite, MayWriteKey, RefusesInsertOfKey, RefusesChangeOfKey};
-ghost use Rattle.calls.specs.declared.step.TheConstants.{MOST_SESSIONS};
 
 use crate::engine::SessionEngine;
 use crate::outcome::Ack;
-use crate::session::Session;
 use calls::Refusal;
 use root_index::PositionHint;
-use xid_circle::{Tid, Xid};
-
-/// The session that has the id.
-fn owner(sessions: &[Option<Session>], x: Xid) -> Option<u8>
-    requires { length sessions.now ≤ MOST_SESSIONS }
-    ensures { MatchOption result
-        ((s : ℕ) (e : _) → open_at sessions.now s ≡ Some e → Contains e.own.ids x.0 → ⊥)
-        (λ s. (e : _) × (open_at sessions.now s ≡ Some e) × Contains e.own.ids x.0) }
-{
-    for s in 0..sessions.len() {
-        if let Some(session) = &sessions[s] {
-            if session.own.contains(x) {
-                return Some(s as u8);
-            }
-        }
-    }
-    None
-}
+use sessions::{Session, owner};
+use xid_circle::Tid;
 
 impl SessionEngine {
     /// The place of the version of the key that a session reads; and a hint where the key's last entry is, or would be, or else the

@@ -2,15 +2,16 @@
 
 ghost use Rattle.std.specs.Prelude.{◌≡◌, ◌≢◌, Some, None, IfOk, IfErr};
 ghost use Rattle.calls.specs.declared.step.Step.{Step};
-ghost use Rattle.session_steps.specs.State.{session_at, keeping, IsByStatement};
+ghost use Rattle.session_steps.specs.State.{session_at};
+ghost use Rattle.sessions.specs.Session.{keeping, IsByStatement};
 ghost use Rattle.session_steps.specs.Exact.{MovesCursor, HasCursor, MustList, snapshot_of, AnswersStep};
 ghost use Rattle.session_steps.specs.Replies.{reply_to};
 
 use crate::engine::SessionEngine;
 use crate::outcome::Ack;
-use crate::session::{Session, SessionIsolation};
 use calls::Refusal;
 use heap_write::IndexRange;
+use sessions::{Session, SessionIsolation};
 use snapshot::Snapshot;
 use table_scans::{CursorScan, KeyRange, Scan, start_of};
 

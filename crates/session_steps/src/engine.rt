@@ -6,19 +6,19 @@ ghost use Rattle.calls.specs.Words.{AreSettings, FirstFault};
 ghost use Rattle.calls.specs.Bars.{BarsOpen, BarsReady, BarsFree, BarsWithCursor};
 ghost use Rattle.commit_status.specs.Window.{next_id};
 ghost use Rattle.space_maps.specs.View.{mark_on};
-ghost use Rattle.session_steps.specs.State.{session_at, engine_index, bits_of, open_bits, engine_sessions};
+ghost use Rattle.session_steps.specs.State.{session_at, engine_index, bits_of, engine_sessions};
+ghost use Rattle.sessions.specs.Session.{open_bits};
 ghost use Rattle.session_steps.specs.Changes.{Opens, Closes};
 ghost use Rattle.session_steps.specs.Tests.{MayAct};
 ghost use Rattle.session_steps.specs.New.{IsNew};
 ghost use Rattle.calls.specs.declared.step.TheConstants.{MOST_SESSIONS};
 
-use crate::session::{Session, SessionIsolation};
-use crate::sessions::Sessions;
 use calls::{CheckedSettings, Refusal, Settings, SettingsFault};
 use commit_status::Status;
 use heap_write::HeapState;
 use page_slots::Page;
 use root_index::RootIndex;
+use sessions::{Session, SessionIsolation, Sessions};
 use snapshot::OwnIds;
 use space_maps::Mark;
 use std::alloc::Global;
@@ -222,13 +222,6 @@ impl SessionEngine {
     pub fn open_sessions(&self) -> u64
         ensures { result ≡ open_bits self.now.sessions }
     {
-        let mut bits = 0u64;
-        for passed in 0..64u8 {
-            bits = match self.sessions.place(63 - passed) {
-                Some(_) => 2 * bits + 1,
-                None => 2 * bits,
-            };
-        }
-        bits
+        self.sessions.open_bits()
     }
 }

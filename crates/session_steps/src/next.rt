@@ -10,8 +10,8 @@ ghost use Rattle.session_steps.specs.NextRows.{AnswersNextRows};
 ghost use Rattle.session_steps.specs.Takes.{session_sight};
 
 use crate::engine::SessionEngine;
-use crate::session::Session;
 use calls::{Refusal, Reply, Row};
+use sessions::Session;
 use std::alloc::AllocError;
 use table_scans::{CursorScan, KeyRange, Scan, put_next, take_keys, take_next};
 use tuple_header::RowPlace;

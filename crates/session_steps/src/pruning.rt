@@ -1,50 +1,18 @@
 //! A page is cleaned, or a plan for one is applied, while sessions go on.
 
-ghost use Rattle.std.specs.Prelude.{◌≡◌, take};
+ghost use Rattle.std.specs.Prelude.{◌≡◌};
 ghost use Rattle.snapshot.specs.Snap.{earliest};
 ghost use Rattle.calls.specs.declared.step.Step.{Step};
-ghost use Rattle.session_steps.specs.State.{held_back, holds_back, horizon_of};
+ghost use Rattle.session_steps.specs.State.{horizon_of};
 ghost use Rattle.session_steps.specs.Exact.{AnswersStep};
 ghost use Rattle.session_steps.specs.Replies.{reply_to};
 
 use crate::engine::SessionEngine;
 use crate::outcome::Ack;
-use crate::session::Session;
 use calls::{PlanIn, Refusal};
 use heap_write::{ApplyFault, PruneFault};
-use snapshot::{OwnIds, earlier};
+use sessions::horizon;
 use xid_circle::Xid;
-
-/// The earlier of an id and the first of own ids, if there is one.
-fn earlier_own(own: &OwnIds, x: Xid) -> Xid
-    ensures { result.0 ≡ earliest x.0 (take 1 own.now.ids) }
-{
-    match own.first() {
-        Some(first) => earlier(x, first),
-        None => x,
-    }
-}
-
-/// The earlier of an id and those that the session holds back: the xmin of the snapshot that it keeps, if it keeps one, and its
-/// first id.
-fn hold_back(session: &Session, x: Xid) -> Xid
-    ensures { result.0 ≡ earliest x.0 (holds_back session.now) }
-{
-    earlier_own(&session.own, session.isolation.earlier_xmin(x))
-}
-
-/// The earliest of the next id and what open sessions hold back.
-fn horizon(next: Xid, sessions: &[Option<Session>]) -> Xid
-    ensures { result.0 ≡ earliest next.0 (held_back sessions.now) }
-{
-    let mut horizon = next;
-    for session in sessions {
-        if let Some(session) = session {
-            horizon = hold_back(session, horizon);
-        }
-    }
-    horizon
-}
 
 impl SessionEngine {
     /// The earliest id that an open session, or one that begins now, may still ask for.

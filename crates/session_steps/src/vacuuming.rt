@@ -7,14 +7,15 @@ ghost use Rattle.commit_status.specs.Changes.{numbers};
 ghost use Rattle.commit_status.specs.Window.{IsUpToNext};
 ghost use Rattle.forgetting.specs.Cutoffs.{aged, cutoff_at};
 ghost use Rattle.calls.specs.declared.step.TheConstants.{MOST_SESSIONS};
-ghost use Rattle.session_steps.specs.declared.session.Session.{Session as OpenSession};
-ghost use Rattle.session_steps.specs.Keeps.{open_at, OwnIdsKeep};
+ghost use Rattle.sessions.specs.declared.session.Session.{Session as OpenSession};
+ghost use Rattle.session_steps.specs.Keeps.{OwnIdsKeep};
+ghost use Rattle.sessions.specs.Places.{open_at};
 ghost use Rattle.session_steps.specs.Vacuums.{IsSetUp, vacuum_begun, VacuumWorks, MayForget, Forgets};
 
 use crate::engine::SessionEngine;
-use crate::session::Session;
 use calls::{Mode, Piece};
 use commit_status::StatusTable;
+use sessions::Session;
 use snapshot::earlier;
 use vacuum_passes::Vacuum;
 use xid_circle::{Xid, precedes};

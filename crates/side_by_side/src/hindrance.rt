@@ -1,4 +1,4 @@
-//! What hinders a step that the history lets pass: of pages, ids and vacuums it knows nothing.
+//! What hinders a step that the history lets pass: of pages and ids it knows nothing.
 
 ghost use Rattle.std.specs.Prelude.{◌≡◌, ◌↔◌, ℕ, IsTrue};
 ghost use Rattle.one_answer.specs.OneAnswer.{IsOfTheEngine};
@@ -20,40 +20,11 @@ pub(crate) struct Before {
     pub(crate) lacks_index: bool,
 }
 
-/// Why no index is made that is not there, if it isn't.
-pub(crate) fn hindrance_of_making(has_vacuum: bool, has_writer: bool) -> Option<Refusal> {
-    if has_vacuum {
-        Some(Refusal::VacuumRunning)
-    } else if has_writer {
-        Some(Refusal::IndexBusy)
-    } else {
-        None
-    }
-}
-
 /// What hinders a plan of a page in use, where this was replied. Whether the plan checks is left to the engine.
 pub(crate) fn hindrance_of_plan(reply: &Reply) -> Option<Refusal> {
     match reply {
         Reply::Refused(Refusal::Stale) => Some(Refusal::Stale),
         _ => None,
-    }
-}
-
-/// What hinders a step of a vacuum, or its end.
-pub(crate) fn hindrance_of_vacuum(has_vacuum: bool) -> Option<Refusal> {
-    if has_vacuum {
-        None
-    } else {
-        Some(Refusal::NoVacuum)
-    }
-}
-
-/// What hinders the beginning of one.
-pub(crate) fn hindrance_of_second_vacuum(has_vacuum: bool) -> Option<Refusal> {
-    if has_vacuum {
-        Some(Refusal::VacuumRunning)
-    } else {
-        None
     }
 }
 
@@ -68,8 +39,6 @@ fn is_of_the_engine(refusal: Refusal) -> bool
             | Refusal::NoMemory
             | Refusal::NoSuchPage
             | Refusal::Stale
-            | Refusal::VacuumRunning
-            | Refusal::NoVacuum
             | Refusal::IndexBusy
     )
 }

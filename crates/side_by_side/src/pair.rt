@@ -8,10 +8,7 @@ ghost use Rattle.tuple_header.specs.declared.version.TheConstants.{MOST_BODY};
 ghost use Rattle.xid_circle.specs.Circle.{IsNormal, distance_of};
 
 use crate::cuts::{Chains, chains_of, count_cuts};
-use crate::hindrance::{
-    Before, agrees_with, hindrance_of_making, hindrance_of_plan, hindrance_of_second_vacuum,
-    hindrance_of_vacuum, tells_oldest,
-};
+use crate::hindrance::{Before, agrees_with, hindrance_of_plan, tells_oldest};
 use crate::levels::{Levels, horizon_of, session_of_levels, xmin_of};
 use crate::look::{are_all_visible, count_slots, first_astray, first_misnoted};
 use crate::making::is_exact;
@@ -397,10 +394,8 @@ impl Pair {
                 Some(Refusal::NoSuchPage)
             }
             Step::ApplyPlan(_, _) => hindrance_of_plan(reply),
-            Step::VacuumBegin(_) => hindrance_of_second_vacuum(self.vacuum.is_some()),
-            Step::VacuumStep | Step::VacuumCancel => hindrance_of_vacuum(self.vacuum.is_some()),
-            Step::CreateIndex(_) if before.lacks_index => {
-                hindrance_of_making(self.vacuum.is_some(), self.has_writer())
+            Step::CreateIndex(_) if before.lacks_index && self.has_writer() => {
+                Some(Refusal::IndexBusy)
             }
             _ => None,
         }

@@ -19,7 +19,7 @@ use Rattle.sound_page.proofs.Links.{link-of}
 use Rattle.sound_page.proofs.Undone.{has-aborted, aborted-has}
 use Rattle.tuple_writes.specs.Laws.{DeletedWhatWasMade, AloneDeletedTheirs}
 use Rattle.tuple_writes.proofs.Statuses.{successor-from, replaced-live, giving-sound, committing-sound, aborting-sound, aborted-other}
-use Rattle.index_nodes.specs.declared.entry.Entry.{Entry}
+use Rattle.index_entries.specs.declared.entry.Entry.{Entry}
 use Rattle.index_lookup.specs.Pages.{slots_on}
 use Rattle.sound_entries.specs.Entries.{SoundHeap, EntriesAreSound, StaysSound}
 use Rattle.sound_entries.proofs.Going.{StaysExcused, PageGoesOn, page-same, stay-sound, stay-led}

@@ -13,8 +13,8 @@ use Rattle.commit_status.specs.Window.{Window}
 use Rattle.hot_chain.specs.Chain.{is_root, is_root_in}
 use Rattle.sound_page.specs.Sound.{IsIn}
 use Rattle.sound_page.proofs.SoundChains.{entry-root}
-use Rattle.index_nodes.specs.declared.entry.Entry.{Entry}
-use Rattle.index_nodes.specs.Sets.{AddsEntry, IsOf}
+use Rattle.index_entries.specs.declared.entry.Entry.{Entry}
+use Rattle.index_entries.specs.Sets.{AddsEntry, IsOf}
 use Rattle.index_lookup.specs.Pages.{slots_on, slot_in, Puts}
 use Rattle.sound_entries.specs.Entries.{MayBeTarget, SomeEntry, IsExcused, SoundEntries, KeepsTarget, same_version, led_on, died, KeepsTargets}
 

@@ -13,7 +13,7 @@ use Rattle.sound_page.specs.Sound.{IsIn}
 use Rattle.sound_page.proofs.ChainPlaces.{place-of}
 use Rattle.sound_page.proofs.SoundChains.{in-leads}
 use Rattle.heap_pages.specs.View.{PagesView}
-use Rattle.index_nodes.specs.declared.entry.Entry.{Entry}
+use Rattle.index_entries.specs.declared.entry.Entry.{Entry}
 use Rattle.index_lookup.specs.Pages.{page_slots_of, slots_on, slot_in, version_in}
 use Rattle.index_lookup.specs.Keys.{IsNotedVisible, PlaceShows, KeyShows}
 use Rattle.sound_entries.specs.Entries.{EntriesAreSound}

@@ -23,8 +23,8 @@ use Rattle.sound_page.proofs.Links.{SomeVersion, member-version}
 use Rattle.sound_page.proofs.ChainPlaces.{place-of}
 use Rattle.sound_page.proofs.SoundChains.{in-leads}
 use Rattle.tuple_writes.proofs.Growth.{entry-normal}
-use Rattle.index_nodes.specs.declared.entry.Entry.{Entry}
-use Rattle.index_nodes.specs.Sets.{IsOf}
+use Rattle.index_entries.specs.declared.entry.Entry.{Entry}
+use Rattle.index_entries.specs.Sets.{IsOf}
 use Rattle.index_lookup.specs.Pages.{slots_on, slot_in, version_in}
 use Rattle.sound_entries.specs.Entries.{IsExcused, SomeEntry, EntriesAreSound}
 use Rattle.sound_entries.specs.Leading.{IsUndone, SeesNoExcused, HasOneEntry, IsOnHeap, IsByIndex}

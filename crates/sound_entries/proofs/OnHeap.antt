@@ -21,7 +21,7 @@ use Rattle.sound_page.specs.Sound.{IsIn, SoundPage}
 use Rattle.sound_page.proofs.ChainPlaces.{place-of, at-place}
 use Rattle.sound_page.proofs.SoundChains.{in-leads, leads-in}
 use Rattle.tuple_writes.proofs.Growth.{none-some}
-use Rattle.index_nodes.specs.declared.entry.Entry.{Entry}
+use Rattle.index_entries.specs.declared.entry.Entry.{Entry}
 use Rattle.index_lookup.specs.Pages.{slots_on, version_in}
 use Rattle.index_lookup.specs.Looking.{FirstFound, FirstPlace, SomeOf}
 use Rattle.index_lookup.proofs.Fetching.{seen-there}

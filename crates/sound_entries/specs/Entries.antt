@@ -13,8 +13,8 @@ use Rattle.commit_status.specs.Window.{Window}
 use Rattle.hot_chain.specs.Chain.{is_root_in}
 use Rattle.visibility.specs.Visible.{IsDead}
 use Rattle.sound_page.specs.Sound.{IsIn, SoundPage}
-use Rattle.index_nodes.specs.declared.entry.Entry.{Entry}
-use Rattle.index_nodes.specs.Sets.{IsOf}
+use Rattle.index_entries.specs.declared.entry.Entry.{Entry}
+use Rattle.index_entries.specs.Sets.{IsOf}
 use Rattle.index_lookup.specs.Pages.{slots_on, slot_in}
 
 -- each page is sound

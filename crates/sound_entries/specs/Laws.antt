@@ -20,8 +20,8 @@ use Rattle.prune.specs.Thinning.{IsThinned}
 use Rattle.tuple_writes.specs.Writes.{with_replaced, with_root, with_updated}
 use Rattle.tuple_writes.specs.Keeps.{IsDeletable}
 use Rattle.tuple_writes.specs.Laws.{DeletedWhatWasMade, AloneDeletedTheirs}
-use Rattle.index_nodes.specs.declared.entry.Entry.{Entry}
-use Rattle.index_nodes.specs.Sets.{AddsEntry, Loses}
+use Rattle.index_entries.specs.declared.entry.Entry.{Entry}
+use Rattle.index_entries.specs.Sets.{AddsEntry, Loses}
 use Rattle.index_lookup.specs.Pages.{slots_on, slot_in, version_in, Puts, entry_for}
 use Rattle.index_lookup.specs.Looking.{FirstFound, FirstPlace, SomeOf}
 use Rattle.sound_entries.specs.Entries.{SomeEntry, IsExcused, SoundEntries, EntriesAreSound, StaysSound, KeepsTargets}

@@ -9,8 +9,8 @@ use Rattle.commit_status.specs.Window.{Window, IsAborted}
 use Rattle.snapshot.specs.Snap.{Snap}
 use Rattle.visibility.specs.Visible.{IsFrozen, IsVisible}
 use Rattle.sound_page.specs.Sound.{IsIn}
-use Rattle.index_nodes.specs.declared.entry.Entry.{Entry}
-use Rattle.index_nodes.specs.Sets.{IsOf}
+use Rattle.index_entries.specs.declared.entry.Entry.{Entry}
+use Rattle.index_entries.specs.Sets.{IsOf}
 use Rattle.index_lookup.specs.Pages.{slots_on, version_in}
 use Rattle.sound_entries.specs.Entries.{IsExcused}
 

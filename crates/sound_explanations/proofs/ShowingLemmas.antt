@@ -16,8 +16,8 @@ use Rattle.hot_chain.proofs.Chains.{chain-one, distinct-places}
 use Rattle.sound_page.specs.Sound.{IsIn}
 use Rattle.sound_page.proofs.ChainPlaces.{place-of, at-place}
 use Rattle.sound_page.proofs.SoundChains.{in-leads, leads-in}
-use Rattle.index_nodes.specs.declared.entry.Entry.{Entry}
-use Rattle.index_nodes.specs.Sets.{IsOf}
+use Rattle.index_entries.specs.declared.entry.Entry.{Entry}
+use Rattle.index_entries.specs.Sets.{IsOf}
 use Rattle.index_lookup.specs.Pages.{slots_on}
 use Rattle.reasons.specs.declared.reason.Verdict.{Verdict}
 use Rattle.reasons.specs.Reasons.{IsVerdictIn, verdict_shows}

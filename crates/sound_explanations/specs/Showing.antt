@@ -10,8 +10,8 @@ use Rattle.page_slots.specs.Slots.{row_at}
 use Rattle.commit_status.specs.Window.{Window}
 use Rattle.snapshot.specs.Snap.{Snap}
 use Rattle.visibility.specs.Visible.{IsVisible}
-use Rattle.index_nodes.specs.declared.entry.Entry.{Entry}
-use Rattle.index_nodes.specs.Sets.{IsOf}
+use Rattle.index_entries.specs.declared.entry.Entry.{Entry}
+use Rattle.index_entries.specs.Sets.{IsOf}
 use Rattle.index_lookup.specs.Pages.{slots_on}
 use Rattle.sound_entries.specs.Entries.{EntriesAreSound}
 use Rattle.sound_entries.specs.Leading.{IsByIndex}

@@ -19,7 +19,7 @@ use Rattle.freeze.specs.Freezing.{Freezes, frozen_slot}
 use Rattle.tuple_writes.specs.Headers.{heap_only_header}
 use Rattle.tuple_writes.specs.Writes.{with_root, with_replaced, with_heap_only, with_updated}
 use Rattle.tuple_writes.proofs.Slotted.{replaced-other}
-use Rattle.index_nodes.specs.declared.entry.Entry.{Entry}
+use Rattle.index_entries.specs.declared.entry.Entry.{Entry}
 use Rattle.tuple_header.specs.IndexValue.{value_in}
 use Rattle.heap_pages.specs.View.{PagesView}
 use Rattle.index_lookup.specs.Pages.{slots_on, slot_in, version_in, Puts}

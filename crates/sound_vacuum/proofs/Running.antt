@@ -16,7 +16,7 @@ use Rattle.space_maps.specs.declared.mark.Mark.{Mark}
 use Rattle.space_maps.specs.declared.mark.Mark.TheVariants.{Nothing}
 use Rattle.space_maps.specs.View.{mark_on, says_visible}
 use Rattle.freeze.specs.AllVisible.{IsAllVisible}
-use Rattle.index_nodes.specs.declared.entry.Entry.{Entry}
+use Rattle.index_entries.specs.declared.entry.Entry.{Entry}
 use Rattle.index_lookup.specs.Pages.{slots_on, slot_in, version_in}
 use Rattle.table_indexes.specs.Indexes.{IndexesView, entries_in, IsInUse}
 use Rattle.heap_write.specs.Heap.{HeapView, slots_of}

@@ -13,7 +13,7 @@ use Rattle.space_maps.specs.declared.mark.Mark.{Mark}
 use Rattle.space_maps.specs.declared.mark.Mark.TheVariants.{Nothing, AllVisible, AllFrozen}
 use Rattle.space_maps.specs.View.{says_visible, says_frozen}
 use Rattle.freeze.specs.Laws.{IsCutoff}
-use Rattle.index_nodes.specs.declared.entry.Entry.{Entry}
+use Rattle.index_entries.specs.declared.entry.Entry.{Entry}
 use Rattle.index_lookup.specs.Pages.{slots_on, slot_in, version_in}
 use Rattle.index_lookup.proofs.PageLists.{slots-there}
 use Rattle.sound_entries.proofs.Going.{stays-same}

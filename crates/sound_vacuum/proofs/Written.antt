@@ -16,12 +16,13 @@ use Rattle.heap_pages.specs.View.{PagesView}
 use Rattle.freeze.specs.AllVisible.{IsTrueMark}
 use Rattle.freeze.specs.Visiting.{SettlesOn}
 use Rattle.freeze.proofs.Visiting.{true-on}
-use Rattle.heap_write.specs.Heap.{HeapView, Keeps, SameIds, PutsPage}
+use Rattle.heap_write.specs.Heap.{HeapView, Keeps, PutsPage}
+use Rattle.write_ids.specs.Ids.{SameIds}
 use Rattle.heap_write.specs.Writes.{PutsRoot, SetsXmax, ColdUpdates, UpdatesOnPage, Replaces, PrunesIfFull}
 use Rattle.heap_write.specs.Refusals.{FailsUpdate}
 use Rattle.heap_write.specs.declared.heap.WriteFault.{WriteFault}
 use Rattle.heap_write.specs.declared.heap.WriteFault.TheVariants as fault
-use Rattle.heap_write.proofs.IdLemmas.{same-status}
+use Rattle.write_ids.proofs.IdLemmas.{same-status}
 use Rattle.table_integrity.proofs.Places.{free_place}
 use Rattle.sound_vacuum.specs.Maps.{MapsAreTrue, flagged_as}
 use Rattle.sound_vacuum.specs.Cleaning.{IsNoVisit}

@@ -6,9 +6,9 @@ use Rattle.tuple_header.specs.declared.version.Row.{Row}
 use Rattle.page_slots.specs.declared.slot.Slot.{Slot}
 use Rattle.page_slots.specs.declared.slot.Slot.TheVariants.{Dead}
 use Rattle.commit_status.specs.Window.{Window}
-use Rattle.index_nodes.specs.declared.entry.Entry.{Entry}
-use Rattle.index_nodes.specs.Order.{IsAscending}
-use Rattle.index_nodes.specs.Sets.{IsAfter}
+use Rattle.index_entries.specs.declared.entry.Entry.{Entry}
+use Rattle.index_entries.specs.Order.{IsAscending}
+use Rattle.index_entries.specs.Sets.{IsAfter}
 use Rattle.index_lookup.specs.Pages.{slot_in}
 use Rattle.sound_entries.specs.Entries.{EntriesAreSound, StaysSound}
 use Rattle.root_index.specs.declared.progress.Progress.{Progress}

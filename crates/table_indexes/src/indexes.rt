@@ -4,7 +4,7 @@ ghost use Rattle.std.specs.Prelude.{◌≡◌, ℕ, suc, ◌↔◌, ◌<◌, [],
 ghost use Rattle.std.specs.Int.{w128};
 ghost use Rattle.std.specs.Option.{option_map, unwrap_or};
 ghost use Rattle.root_index.specs.Pieces.{RemovesPiece};
-ghost use Rattle.index_nodes.specs.Sets.{AddsEntry};
+ghost use Rattle.index_entries.specs.Sets.{AddsEntry};
 ghost use Rattle.root_index.specs.View.{room_in};
 ghost use Rattle.tuple_header.specs.IndexValue.{value_in};
 ghost use Rattle.xid_circle.specs.declared.Xid.{Xid as Id};

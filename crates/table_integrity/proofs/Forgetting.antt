@@ -28,7 +28,7 @@ use Rattle.forgetting.specs.Pages.{AreYoung}
 use Rattle.forgetting.proofs.Stays.{place-stays, stays-place, stays-known}
 use Rattle.forgetting.proofs.Tops.{upto-kept}
 use Rattle.forgetting.proofs.PageLemmas.{forgetting-sound}
-use Rattle.index_nodes.specs.declared.entry.Entry.{Entry}
+use Rattle.index_entries.specs.declared.entry.Entry.{Entry}
 use Rattle.index_lookup.specs.Pages.{slots_on}
 use Rattle.sound_entries.specs.Entries.{SoundHeap, IsExcused, SoundEntries}
 use Rattle.sound_entries.specs.Since.{HaveEndedBefore, IsExactSince, MayScanSince}

@@ -20,7 +20,8 @@ use Rattle.sound_page.proofs.ReaderLemmas.{open-reader}
 use Rattle.tuple_writes.proofs.Slotted.{active-some}
 use Rattle.index_lookup.specs.Pages.{slots_on, version_in}
 use Rattle.heap_write.specs.Heap.{HeapView, slots_of}
-use Rattle.heap_write.specs.Writes.{TakesIds, Inserts, Updates, Deletes, Prunes, Applies}
+use Rattle.heap_write.specs.Writes.{Inserts, Updates, Deletes, Prunes, Applies}
+use Rattle.write_ids.specs.Ids.{TakesIds}
 use Rattle.table_integrity.specs.Table.{SoundTable, MayDelete}
 use Rattle.table_integrity.specs.Laws.{WritesUnder}
 use Rattle.table_integrity.specs.Readers.{FindsAt, FindsRowAt, IsTableReader, FindsTheSame, IsAuthor, FindsOneMore, Elsewhere}

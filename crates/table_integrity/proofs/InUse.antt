@@ -3,8 +3,8 @@ use Rattle.std.proofs.Common.{◌≡◌, ℕ, ◌<◌, List, [], Option, Some, N
 use Rattle.std.specs.Prelude.{◌↔◌, Contains, IsSome, unwrap_or}
 use Rattle.xid_circle.specs.declared.Tid.{Tid}
 use Rattle.tuple_header.specs.declared.version.Row.{Row}
-use Rattle.index_nodes.specs.declared.entry.Entry.{Entry}
-use Rattle.index_nodes.specs.Sets.{AddsEntry}
+use Rattle.index_entries.specs.declared.entry.Entry.{Entry}
+use Rattle.index_entries.specs.Sets.{AddsEntry}
 use Rattle.tuple_header.specs.IndexValue.{value_in}
 use Rattle.sound_entries.specs.Entries.{SoundHeap, SoundEntries, EntriesAreSound, StaysSound}
 use Rattle.sound_entries.proofs.Going.{led-then}

@@ -17,7 +17,7 @@ use Rattle.sound_page.specs.Sound.{SoundPage}
 use Rattle.tuple_writes.specs.Laws.{DeletedWhatWasMade, AloneDeletedTheirs}
 use Rattle.tuple_writes.proofs.Statuses.{giving-sound, committing-sound, aborting-sound}
 use Rattle.snapshot.specs.Own.{Own}
-use Rattle.index_nodes.specs.declared.entry.Entry.{Entry}
+use Rattle.index_entries.specs.declared.entry.Entry.{Entry}
 use Rattle.tuple_header.specs.IndexValue.{value_in}
 use Rattle.index_lookup.specs.Pages.{slots_on, Puts}
 use Rattle.sound_entries.specs.Entries.{SoundHeap, SoundEntries, EntriesAreSound, StaysSound}
@@ -29,8 +29,9 @@ use Rattle.page_slots.specs.View.{PageView}
 use Rattle.index_lookup.specs.Pages as lists
 use Rattle.table_indexes.specs.Indexes.{entries_in, since_at, IsInUse, SameEntries}
 use Rattle.table_indexes.proofs.IndexLemmas.{same-entries, entries-kept}
-use Rattle.heap_write.specs.Heap.{HeapView, SameIds, Keeps, slots_of}
-use Rattle.heap_write.specs.Writes.{TakesIds, PrunesIfFull, Prunes, Applies}
+use Rattle.heap_write.specs.Heap.{HeapView, Keeps, slots_of}
+use Rattle.write_ids.specs.Ids.{SameIds, TakesIds}
+use Rattle.heap_write.specs.Writes.{PrunesIfFull, Prunes, Applies}
 use Rattle.heap_write.specs.Refusals.{FailsUpdate}
 use Rattle.heap_write.specs.declared.heap.WriteFault.{WriteFault}
 use Rattle.heap_write.specs.declared.heap.WriteFault.TheVariants as fault

@@ -12,7 +12,7 @@ use Rattle.commit_status.proofs.Places.{upto-next}
 use Rattle.visibility.specs.Visible.{IsDead}
 use Rattle.sound_page.specs.Sound.{IsIn}
 use Rattle.sound_page.proofs.SoundChains.{in-leads}
-use Rattle.index_nodes.specs.declared.entry.Entry.{Entry}
+use Rattle.index_entries.specs.declared.entry.Entry.{Entry}
 use Rattle.index_lookup.specs.Pages.{slots_on, slot_in}
 use Rattle.index_lookup.specs.Pages as lists
 use Rattle.heap_pages.specs.View.{PagesView}
@@ -22,7 +22,8 @@ use Rattle.sound_entries.proofs.Going.{stays-same}
 use Rattle.sound_entries.proofs.OnHeap.{listed-in}
 use Rattle.table_indexes.specs.Indexes.{entries_at, entries_in, since_at, index_entry_of}
 use Rattle.heap_write.specs.Heap.{HeapView, slots_of}
-use Rattle.heap_write.specs.Making.{IsCurrent, IsOfCurrent, ListsCurrent, MakesIndex}
+use Rattle.index_making.specs.Making.{IsCurrent, IsOfCurrent, ListsCurrent}
+use Rattle.heap_write.specs.Making.{MakesIndex}
 use Rattle.table_integrity.specs.Table.{SoundTable}
 use Rattle.table_integrity.specs.Making.{AllHaveEnded}
 use Rattle.table_integrity.proofs.InUse.{used-by}

@@ -8,7 +8,7 @@ use Rattle.visibility.specs.Visible.{IsDead}
 use Rattle.prune.specs.Cutting.{IsCut}
 use Rattle.sound_page.specs.Sound.{SoundPage}
 use Rattle.tuple_writes.proofs.Statuses.{goes_on-sound}
-use Rattle.heap_write.specs.Heap.{SameIds}
+use Rattle.write_ids.specs.Ids.{SameIds}
 
 abbrev pub window_of : ℕ → ℕ → List known.IdEntry → ℕ → Window
 window_of first stop entries spare = record { first = first; stop_age = stop; entries = entries; spare = spare }

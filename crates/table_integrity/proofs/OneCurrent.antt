@@ -24,7 +24,7 @@ use Rattle.sound_page.specs.Links.{link}
 use Rattle.sound_page.specs.Sound.{IsIn, SoundPage}
 use Rattle.sound_page.proofs.Links.{link-of}
 use Rattle.sound_page.proofs.Undone.{committed-some}
-use Rattle.heap_write.specs.Making.{IsCurrent}
+use Rattle.index_making.specs.Making.{IsCurrent}
 
 -- Whether a version is current.
 

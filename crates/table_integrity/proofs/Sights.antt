@@ -18,7 +18,7 @@ use Rattle.tuple_writes.specs.Keeps.{HasNoXmax}
 use Rattle.tuple_writes.proofs.Bits.{replaced-frozen}
 use Rattle.index_lookup.specs.Pages.{version_in}
 use Rattle.heap_write.specs.Heap.{HeapView, slots_of}
-use Rattle.heap_write.specs.Writes.{TakesIds}
+use Rattle.write_ids.specs.Ids.{TakesIds}
 use Rattle.table_integrity.specs.Readers.{IsAuthor}
 use Rattle.table_integrity.proofs.TakenIds.{takes-ids, takes-more, takes-old}
 use Rattle.table_integrity.proofs.Places.{IsNewBy, taken_version}

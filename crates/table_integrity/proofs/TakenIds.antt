@@ -11,8 +11,8 @@ use Rattle.tuple_header.specs.declared.version.Header.{Header}
 use Rattle.visibility.specs.Visible.{ReadsIn, IsVisible}
 use Rattle.visibility.specs.Laws.{KeepsVerdicts}
 use Rattle.visibility.proofs.Verdicts.{giving-unseen}
-use Rattle.heap_write.specs.Writes.{GivesUnder, TakesIds}
-use Rattle.heap_write.proofs.GivenIds.{given-window, given-status, given-active_old, given-active, given-new}
+use Rattle.write_ids.specs.Ids.{GivesUnder, TakesIds}
+use Rattle.write_ids.proofs.GivenIds.{given-window, given-status, given-active_old, given-active, given-new}
 
 -- what giving one id keeps is kept
 pub under-keeps : (P : Window → Type 0) → ((u v : Window) (parent : Option ℕ) → IsWindow u → IsWindow v → Gives u v parent → P u → P v)

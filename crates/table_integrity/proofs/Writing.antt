@@ -11,7 +11,7 @@ use Rattle.tuple_writes.specs.Writes.{with_root, with_replaced, with_updated}
 use Rattle.tuple_writes.specs.Keeps.{IsMade, HasNoXmax, IsDeletable}
 use Rattle.tuple_writes.proofs.Slotted.{root-added, taken-away, updated-here}
 use Rattle.snapshot.specs.Own.{Own}
-use Rattle.index_nodes.specs.Sets.{AddsEntry}
+use Rattle.index_entries.specs.Sets.{AddsEntry}
 use Rattle.tuple_header.specs.IndexValue.{value_in}
 use Rattle.index_lookup.specs.Pages.{slots_on, slot_in, version_in, Puts, entry_for}
 use Rattle.sound_entries.proofs.Going.{stays-same}

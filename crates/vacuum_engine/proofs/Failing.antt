@@ -5,7 +5,7 @@ use Rattle.std.specs.Option.{option_map}
 use Rattle.commit_status.specs.Window.{next_id}
 use Rattle.snapshot.specs.Snap.{earliest}
 use Rattle.history.specs.World.{World, OpenSession}
-use Rattle.session_steps.specs.declared.session.Session.{Session}
+use Rattle.sessions.specs.declared.session.Session.{Session}
 use Rattle.session_steps.specs.State as core
 use Rattle.session_steps.specs.State.{reader_of}
 use Rattle.session_steps.specs.Agrees as core_agrees
@@ -35,6 +35,7 @@ failing-agrees e w s agrees some =
     let horizon = failed-horizon e.core s there.0 there.1 in (
       record {
         core = fails-agree e.core w s there.0 there.1 agrees.core;
+        runs = agrees.runs;
         maps = subst (λ n. MapsAreTrue e.core.heap.statuses n e.core.heap.pages.pages e.core.heap.pages.marks) (sym horizon) agrees.maps;
         vacuum = λ v at. subst (λ n. KeepsVacuum e.core.heap n v) (sym horizon) (agrees.vacuum v at);
         within = agrees.within;

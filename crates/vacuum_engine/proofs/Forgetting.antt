@@ -41,13 +41,14 @@ use Rattle.refinement.specs.Settling.{ForgetsIds}
 use Rattle.refinement.proofs.ForgettingLemmas.{Agrees-forgets}
 use Rattle.calls.specs.declared.vacuum.Mode.TheVariants.{Aggressive}
 use Rattle.refinement.proofs.Runs.{unmade}
-use Rattle.session_steps.specs.declared.session.Session.{Session}
-use Rattle.session_steps.specs.State.{State, session_at, seen, seen_in, reader_of, kept_by, horizon_of, held_back}
+use Rattle.sessions.specs.declared.session.Session.{Session}
+use Rattle.session_steps.specs.State.{State, session_at, seen, seen_in, reader_of, horizon_of}
+use Rattle.sessions.specs.Session.{kept_by, held_back}
 use Rattle.session_steps.specs.Agrees.{SessionKeeps, SessionScans, Agrees, KeepsAllTargets}
 use Rattle.sound_entries.specs.Since.{IsExactSince, MayScanSince}
 use Rattle.table_integrity.proofs.Forgetting.{forgotten-table, forgotten-since, forgotten-scan}
 use Rattle.table_indexes.specs.Indexes.{IndexesView, entries_at, since_at, since_after, IsInUse}
-use Rattle.index_nodes.specs.declared.entry.Entry.{Entry}
+use Rattle.index_entries.specs.declared.entry.Entry.{Entry}
 use Rattle.session_steps.proofs.InUse.{marks-stay, agree}
 use Rattle.session_steps.proofs.Owns.{reader-is, reader-at}
 use Rattle.session_steps.proofs.Statements.{kept-at}

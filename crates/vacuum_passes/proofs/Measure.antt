@@ -13,7 +13,7 @@ use Rattle.page_slots.specs.declared.slot.Slot.{Slot}
 use Rattle.page_slots.specs.declared.slot.Slot.TheVariants.{Unused, Dead}
 use Rattle.page_slots.specs.Slots.{slot_at}
 use Rattle.page_slots.proofs.SlotLemmas.{there-from_slot_at}
-use Rattle.index_nodes.specs.declared.entry.Entry.{Entry}
+use Rattle.index_entries.specs.declared.entry.Entry.{Entry}
 use Rattle.index_lookup.specs.Pages.{slots_on}
 use Rattle.table_indexes.specs.Indexes.{IndexesView, entries_in}
 use Rattle.heap_write.specs.Heap.{HeapView, slots_of}

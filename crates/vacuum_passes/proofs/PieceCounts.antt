@@ -10,10 +10,10 @@ use Rattle.std.proofs.lemmas.List.Elements.{All-contains, filter_passes, Contain
 use Rattle.std.proofs.lemmas.List.Kept.{AllPairs-cons, AllPairs-filter}
 use Rattle.xid_circle.specs.declared.Tid.{Tid}
 use Rattle.xid_circle.proofs.Members.{Contains-first, Contains-rest, Contains-cases, Contains-none}
-use Rattle.index_nodes.specs.declared.entry.Entry.{Entry}
-use Rattle.index_nodes.specs.Order.{comparison, EntryPrecedes, IsAscending}
-use Rattle.index_nodes.specs.Sets.{IsAfter}
-use Rattle.index_nodes.proofs.OrderLemmas.{not_before_itself, Precedes-trans}
+use Rattle.index_entries.specs.declared.entry.Entry.{Entry}
+use Rattle.index_entries.specs.Order.{comparison, EntryPrecedes, IsAscending}
+use Rattle.index_entries.specs.Sets.{IsAfter}
+use Rattle.index_entries.proofs.OrderLemmas.{not_before_itself, Precedes-trans}
 use Rattle.table_indexes.specs.Indexes.{IndexesView, entries_at, entries_in, IsInUse}
 use Rattle.root_index.specs.declared.progress.Progress.{Progress}
 use Rattle.root_index.specs.declared.progress.Progress.TheVariants.{More}

@@ -11,7 +11,7 @@ use Rattle.std.proofs.lemmas.List.Filters.{length-filter_both}
 use Rattle.std.proofs.lemmas.List.Kept.{AllPairs-filter}
 use Rattle.xid_circle.specs.declared.Tid.{Tid}
 use Rattle.xid_circle.proofs.Members.{Contains-none}
-use Rattle.index_nodes.specs.declared.entry.Entry.{Entry}
+use Rattle.index_entries.specs.declared.entry.Entry.{Entry}
 use Rattle.dead_places.specs.Places.{PlacePrecedes}
 use Rattle.table_indexes.specs.Indexes.{IndexesView}
 use Rattle.heap_write.specs.Heap.{HeapView}

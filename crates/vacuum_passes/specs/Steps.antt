@@ -2,7 +2,7 @@
 use Rattle.std.specs.Prelude.{◌≡◌, ◌≢◌, ◌<◌, ◌≤◌, ℕ, ◌==◌, not, List, [], ◌∷◌, length, Option, Some, None, Contains}
 use Rattle.std.specs.List.{filter}
 use Rattle.xid_circle.specs.declared.Tid.{Tid}
-use Rattle.index_nodes.specs.declared.entry.Entry.{Entry}
+use Rattle.index_entries.specs.declared.entry.Entry.{Entry}
 use Rattle.table_indexes.specs.Indexes.{IndexesView, IsInUse, IsNextIndex}
 use Rattle.heap_write.specs.Heap.{HeapView}
 use Rattle.root_index.specs.declared.progress.Progress.{Progress}

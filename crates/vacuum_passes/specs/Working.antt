@@ -2,7 +2,7 @@
 use Rattle.std.specs.Prelude.{◌≡◌, ◌+◌, ◌-◌, ℕ, nat_lt, if◌then◌else◌, List, ◌++◌, length, take, map, Option}
 use Rattle.xid_circle.specs.Numbers.{Id, PageNo, SlotNo, Count}
 use Rattle.xid_circle.specs.declared.Tid.{Tid}
-use Rattle.index_nodes.specs.declared.entry.Entry.{Entry}
+use Rattle.index_entries.specs.declared.entry.Entry.{Entry}
 use Rattle.root_index.specs.declared.progress.Progress.{Progress}
 use Rattle.freeze.specs.DeadSlots.{ListsDead}
 use Rattle.heap_write.specs.Heap.{HeapView}

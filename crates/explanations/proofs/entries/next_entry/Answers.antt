@@ -2,8 +2,8 @@ use Rattle.std.proofs.Common.{ℤ, Option, sym, subst}
 use Rattle.std.specs.Prelude.{IfSome}
 use Rattle.std.specs.Int.{w128}
 use Rattle.std.proofs.lemmas.Int.{to_z-of_z}
-use Rattle.index_nodes.specs.declared.entry.Entry.{Entry}
-use Rattle.index_nodes.specs.Sets.{IsLeast, IsBelow, IsOf}
+use Rattle.index_entries.specs.declared.entry.Entry.{Entry}
+use Rattle.index_entries.specs.Sets.{IsLeast, IsBelow, IsOf}
 use Rattle.index_lookup.specs.Looking.{IsNextOf}
 use Rattle.index_lookup.proofs.Turns.{IsOnly, first-only, after-only}
 use Rattle.explanations.proofs.entries.next_entry.Goals as goal

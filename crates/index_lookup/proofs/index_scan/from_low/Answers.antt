@@ -1,7 +1,7 @@
 use Rattle.std.proofs.Common.{ℤ, subst, sym, ◌∙◌}
 use Rattle.std.specs.Int.{w128}
 use Rattle.std.proofs.lemmas.Int.{to_z-of_z}
-use Rattle.index_nodes.specs.Sets.{IsLeast, IsBelow}
+use Rattle.index_entries.specs.Sets.{IsLeast, IsBelow}
 use Rattle.index_lookup.proofs.index_scan.from_low.Goals as goal
 
 pub returns : goal.returns

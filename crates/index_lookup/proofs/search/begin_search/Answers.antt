@@ -1,7 +1,7 @@
 use Rattle.std.proofs.Common.{ℤ, subst}
 use Rattle.std.specs.Int.{w128}
 use Rattle.std.proofs.lemmas.Int.{to_z-of_z}
-use Rattle.index_nodes.specs.Sets.{IsLeast, IsBelow}
+use Rattle.index_entries.specs.Sets.{IsLeast, IsBelow}
 use Rattle.index_lookup.proofs.Turns.{IsOnly, first-only, last-only}
 use Rattle.index_lookup.proofs.search.begin_search.Goals as goal
 

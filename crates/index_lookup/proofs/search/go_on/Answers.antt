@@ -2,7 +2,7 @@ use Rattle.std.proofs.Common.{◌≡◌, ℤ, Bool, true, false, not, Option, So
 use Rattle.std.specs.Prelude.{IsTrue}
 use Rattle.std.specs.Int.{w128}
 use Rattle.std.proofs.lemmas.Int.{to_z-of_z}
-use Rattle.index_nodes.specs.declared.entry.Entry.{Entry}
+use Rattle.index_entries.specs.declared.entry.Entry.{Entry}
 use Rattle.root_index.specs.declared.index.PositionHint.{PositionHint}
 use Rattle.index_lookup.specs.Looking.{IsNextOf}
 use Rattle.index_lookup.proofs.Turns.{entry_of, none-after}

@@ -5,8 +5,8 @@ use Rattle.std.proofs.lemmas.Int.{to_z-of_z}
 use Rattle.index_lookup.specs.Pages.{page_slots_of}
 use Rattle.visibility.specs.Reading.{IsSeenBy, IsOtherWriterFor, IsNewerCommitFor}
 use Rattle.index_lookup.proofs.Searching.{check-first, check-next, check-place, check-newer_commit, check-other_writer}
-use Rattle.index_nodes.specs.declared.entry.Entry.{Entry}
-use Rattle.index_nodes.specs.Sets.{IsLastOf}
+use Rattle.index_entries.specs.declared.entry.Entry.{Entry}
+use Rattle.index_entries.specs.Sets.{IsLastOf}
 use Rattle.index_lookup.proofs.write_check.check_write.Goals as goal
 
 pub loop-init : goal.loop-init

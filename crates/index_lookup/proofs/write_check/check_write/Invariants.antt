@@ -1,5 +1,5 @@
 use Rattle.std.specs.Prelude.{IfSome, IsTrue}
-use Rattle.index_nodes.specs.Sets.{IsLastOf}
+use Rattle.index_entries.specs.Sets.{IsLastOf}
 use Rattle.index_lookup.specs.Pages.{page_slots_of}
 use Rattle.visibility.specs.Reading.{IsSeenBy, IsOtherWriterFor, IsNewerCommitFor}
 use Rattle.index_lookup.proofs.Searching.{CheckSearched}

@@ -1,5 +1,5 @@
 use Rattle.std.proofs.Common.{◌+◌, map}
-use Rattle.index_nodes.specs.Lists.{IsLastBetween}
+use Rattle.index_entries.specs.Lists.{IsLastBetween}
 use Rattle.index_nodes.proofs.nodes.node_for.Given as goal
 
 -- the node stands among so many from this one on

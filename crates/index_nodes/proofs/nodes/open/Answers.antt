@@ -1,6 +1,7 @@
 use Rattle.std.proofs.Common.{arith}
 use Rattle.index_nodes.proofs.RowLemmas.{item}
-use Rattle.index_nodes.proofs.FullLemmas.{full_by_parts, full_there, on_err}
+use Rattle.index_entries.proofs.SetLemmas.{on_err}
+use Rattle.index_nodes.proofs.FullLemmas.{full_by_parts, full_there}
 use Rattle.index_nodes.proofs.nodes.open.Goals as goal
 
 -- memory is asked for only where the node has all its parts

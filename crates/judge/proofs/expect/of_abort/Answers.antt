@@ -1,5 +1,5 @@
 use Rattle.plain_history.specs.Plain.{world_of}
-use Rattle.judge.proofs.Due.{abort_refused, aborts}
+use Rattle.judge.proofs.DueLemmas.{abort_refused, aborts}
 use Rattle.judge.proofs.expect.of_abort.Goals as goal
 
 pub returns-in-Ok : goal.returns-in-Ok

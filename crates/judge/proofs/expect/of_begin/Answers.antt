@@ -1,5 +1,5 @@
 use Rattle.plain_history.specs.Plain.{world_of}
-use Rattle.judge.proofs.Due.{begin_refused, begin_read_committed_refused}
+use Rattle.judge.proofs.DueLemmas.{begin_refused, begin_read_committed_refused}
 use Rattle.judge.proofs.expect.of_begin.Goals as goal
 
 pub returns-in-Err-clause-by_snapshot : goal.returns-in-Err-clause-by_snapshot

@@ -1,5 +1,5 @@
 use Rattle.plain_history.specs.Plain.{world_of}
-use Rattle.judge.proofs.Due.{get_refused}
+use Rattle.judge.proofs.DueLemmas.{get_refused}
 use Rattle.judge.proofs.expect.of_get.Goals as goal
 
 pub returns-in-Err : goal.returns-in-Err

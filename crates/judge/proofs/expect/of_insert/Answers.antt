@@ -5,7 +5,7 @@ use Rattle.plain_history.specs.Plain.{world_of}
 use Rattle.plain_history.specs.Answers.{RefusesInsert}
 use Rattle.judge.specs.declared.expect.Expected.{Expected}
 use Rattle.judge.specs.Rulings.{Expects}
-use Rattle.judge.proofs.Due.{fits_when, insert_refused}
+use Rattle.judge.proofs.DueLemmas.{fits_when, insert_refused}
 use Rattle.judge.proofs.expect.of_insert.Goals as goal
 
 pub returns-in-Err-check_insert : goal.returns-in-Err-check_insert

@@ -1,5 +1,5 @@
 use Rattle.plain_history.specs.Plain.{world_of}
-use Rattle.judge.proofs.Due.{open_heap_refused}
+use Rattle.judge.proofs.DueLemmas.{open_heap_refused}
 use Rattle.judge.proofs.expect.of_open_heap.Goals as goal
 
 pub returns-in-Err : goal.returns-in-Err

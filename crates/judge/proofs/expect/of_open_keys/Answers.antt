@@ -1,7 +1,7 @@
 use Rattle.std.specs.Int.{w128}
 use Rattle.std.proofs.lemmas.Int.{to_z-of_z}
 use Rattle.plain_history.specs.Plain.{world_of}
-use Rattle.judge.proofs.Due.{open_keys_refused_by}
+use Rattle.judge.proofs.DueLemmas.{open_keys_refused_by}
 use Rattle.judge.proofs.expect.of_open_keys.Goals as goal
 
 pub returns-in-Err : goal.returns-in-Err

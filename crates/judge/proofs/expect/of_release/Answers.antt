@@ -1,5 +1,5 @@
 use Rattle.plain_history.specs.Plain.{world_of}
-use Rattle.judge.proofs.Due.{release_refused, release_taken}
+use Rattle.judge.proofs.DueLemmas.{release_refused, release_taken}
 use Rattle.judge.proofs.expect.of_release.Goals as goal
 
 pub returns-in-Ok : goal.returns-in-Ok

@@ -1,5 +1,5 @@
 use Rattle.plain_history.specs.Plain.{world_of}
-use Rattle.judge.proofs.Due.{rollback_to_refused, rollback_to_taken}
+use Rattle.judge.proofs.DueLemmas.{rollback_to_refused, rollback_to_taken}
 use Rattle.judge.proofs.expect.of_rollback_to.Goals as goal
 
 pub returns-in-Ok : goal.returns-in-Ok

@@ -5,7 +5,7 @@ use Rattle.plain_history.specs.Plain.{world_of}
 use Rattle.plain_history.specs.Answers.{RefusesReplace}
 use Rattle.judge.specs.declared.expect.Expected.{Expected}
 use Rattle.judge.specs.Rulings.{Expects}
-use Rattle.judge.proofs.Due.{fits_when, update_refused}
+use Rattle.judge.proofs.DueLemmas.{fits_when, update_refused}
 use Rattle.judge.proofs.expect.of_update.Goals as goal
 
 pub returns-in-Err-check_replace : goal.returns-in-Err-check_replace

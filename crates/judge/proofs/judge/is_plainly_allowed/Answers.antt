@@ -8,4 +8,4 @@ returns-in-Due c = by_due (world_of c.args.plain.now) c.args.step.now c.in-Due.d
 pub returns-in-Free : goal.returns-in-Free
 returns-in-Free c =
     let w = world_of c.args.plain.now in
-    by_free w c.args.step.now c.args.reply.now c.is_free.result c.requires.reached c.requires.judged c.in-Free.ensures (c.is_free.ensures w)
+    by_free w c.args.step.now c.args.reply.now c.is_free.result c.requires.reached c.requires.judged c.in-Free.ensures c.is_free.ensures

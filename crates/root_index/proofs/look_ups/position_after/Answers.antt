@@ -1,8 +1,8 @@
 use Rattle.std.proofs.Common.{Option, Some, None, sym, subst, arith}
-use Rattle.index_nodes.specs.declared.entry.Entry.{Entry}
-use Rattle.index_nodes.specs.Sets.{IsAfter, IsStart}
+use Rattle.index_entries.specs.declared.entry.Entry.{Entry}
+use Rattle.index_entries.specs.Sets.{IsAfter, IsStart}
 use Rattle.index_nodes.specs.Nodes.{all, rank_in, IsStartIn}
-use Rattle.index_nodes.proofs.SetLemmas.{start_after, start_after_gap}
+use Rattle.index_entries.proofs.SetLemmas.{start_after, start_after_gap}
 use Rattle.root_index.proofs.look_ups.position_after.Goals as goal
 
 pub returns-in-None : goal.returns-in-None

@@ -1,7 +1,7 @@
 use Rattle.std.proofs.Common.{Some, sym, subst}
-use Rattle.index_nodes.specs.Sets.{IsAfter, IsStart}
+use Rattle.index_entries.specs.Sets.{IsAfter, IsStart}
 use Rattle.index_nodes.specs.Nodes.{all, rank_in}
-use Rattle.index_nodes.proofs.SetLemmas.{start_after}
+use Rattle.index_entries.proofs.SetLemmas.{start_after}
 use Rattle.root_index.proofs.look_ups.position_behind.Goals as goal
 
 pub returns-then-stands_at : goal.returns-then-stands_at

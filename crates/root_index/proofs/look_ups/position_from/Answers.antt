@@ -1,9 +1,9 @@
 use Rattle.std.proofs.Common.{ℤ, subst}
 use Rattle.std.specs.Int.{w128}
 use Rattle.std.proofs.lemmas.Int.{to_z-of_z}
-use Rattle.index_nodes.specs.Sets.{IsBelow}
+use Rattle.index_entries.specs.Sets.{IsBelow}
 use Rattle.index_nodes.specs.Nodes.{rank_in, IsStartIn}
-use Rattle.index_nodes.proofs.SetLemmas.{start_from, start_from_gap}
+use Rattle.index_entries.proofs.SetLemmas.{start_from, start_from_gap}
 use Rattle.index_nodes.specs.Rows.{entry_is_position}
 use Rattle.root_index.proofs.look_ups.position_from.Goals as goal
 

@@ -1,6 +1,6 @@
 use Rattle.std.proofs.Common.{Option, sym, subst}
-use Rattle.index_nodes.specs.declared.entry.Entry.{Entry}
-use Rattle.index_nodes.specs.Sets.{IsAfter}
+use Rattle.index_entries.specs.declared.entry.Entry.{Entry}
+use Rattle.index_entries.specs.Sets.{IsAfter}
 use Rattle.index_nodes.specs.Nodes.{IsStartIn}
 use Rattle.root_index.proofs.look_ups.position_near.Goals as goal
 

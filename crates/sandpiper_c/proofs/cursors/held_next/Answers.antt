@@ -1,7 +1,7 @@
 use Rattle.std.proofs.Common.{ℕ, ◌<◌, length, refl, sym, subst, ap, ◌∙◌, arith}
 use Rattle.std.proofs.lemmas.Bool.Decides.{nat_tests}
-use Rattle.sandpiper_c.specs.declared.held.Held.{Held}
-use Rattle.sandpiper_c.specs.CallStatus.{number_of_status}
+use Rattle.c_handles.specs.declared.held.Held.{Held}
+use Rattle.c_handles.specs.CallStatus.{number_of_status}
 use Rattle.sandpiper_c.specs.NextRows.{status_of_answer, HandsToPlaces}
 use Rattle.sandpiper_c.proofs.NextLemmas.{to-places}
 use Rattle.sandpiper_c.proofs.cursors.held_next.Goals as goal

@@ -3,8 +3,8 @@ use Rattle.calls.specs.declared.step.Step.{Step}
 use Rattle.calls.specs.declared.reply.Refusal.{Refusal}
 use Rattle.session_steps.specs.declared.outcome.Ack.{Ack}
 use Rattle.session_steps.specs.Replies.{reply_to}
-use Rattle.sandpiper_c.specs.declared.held.Held.{Held}
-use Rattle.sandpiper_c.specs.CallStatus.{number_of_status}
+use Rattle.c_handles.specs.declared.held.Held.{Held}
+use Rattle.c_handles.specs.CallStatus.{number_of_status}
 use Rattle.sandpiper_c.proofs.WritesLemmas.{Answered, by-arm}
 use Rattle.sandpiper_c.proofs.steps.held_direct.Goals as goal
 use Rattle.sandpiper_c.proofs.steps.held_direct.Goals.{in-Begin, in-Delete, in-Commit, in-Abort}

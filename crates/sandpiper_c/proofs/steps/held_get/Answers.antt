@@ -1,6 +1,6 @@
 use Rattle.std.proofs.Common.{◌∙◌, ap}
 use Rattle.session_steps.specs.Replies.{found_reply}
-use Rattle.sandpiper_c.specs.CallStatus.{number_of_status, status_of_found}
+use Rattle.c_handles.specs.CallStatus.{number_of_status, status_of_found}
 use Rattle.sandpiper_c.proofs.Finding.{found-status, found-shown}
 use Rattle.sandpiper_c.proofs.steps.held_get.Goals as goal
 

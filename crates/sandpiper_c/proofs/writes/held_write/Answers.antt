@@ -5,10 +5,10 @@ use Rattle.calls.specs.declared.reply.Refusal.{Refusal}
 use Rattle.session_steps.specs.declared.outcome.Ack.{Ack}
 use Rattle.session_steps.specs.Follows.{worded}
 use Rattle.session_steps.specs.Replies.{reply_to}
-use Rattle.sandpiper_c.specs.declared.held.Held.{Held}
+use Rattle.c_handles.specs.declared.held.Held.{Held}
 use Rattle.sandpiper_c.specs.declared.writes.WriteKind.{WriteKind}
 use Rattle.sandpiper_c.specs.Calls.{write_of}
-use Rattle.sandpiper_c.specs.CallStatus.{number_of_status}
+use Rattle.c_handles.specs.CallStatus.{number_of_status}
 use Rattle.sandpiper_c.specs.Rows.{text_within}
 use Rattle.sandpiper_c.proofs.WritesLemmas.{Answered, by-arm}
 use Rattle.sandpiper_c.proofs.writes.held_write.Goals as goal

@@ -1,5 +1,5 @@
 use Rattle.std.proofs.Common.{arith}
-use Rattle.session_steps.proofs.Counting.{cannot-give, last-given}
+use Rattle.sessions.proofs.Counting.{cannot-give, last-given}
 use Rattle.session_core.proofs.counts.ids_left.Goals as goal
 
 pub halves-init : goal.halves-init

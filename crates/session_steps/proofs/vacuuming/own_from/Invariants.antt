@@ -1,8 +1,8 @@
 use Rattle.std.proofs.Common.{◌≡◌, ℕ, ◌<◌, Some}
 use Rattle.std.specs.Prelude.{Contains}
 use Rattle.xid_circle.specs.Circle.{Precedes}
-use Rattle.session_steps.specs.declared.session.Session.{Session}
-use Rattle.session_steps.specs.Keeps.{open_at}
+use Rattle.sessions.specs.declared.session.Session.{Session}
+use Rattle.sessions.specs.Places.{open_at}
 use Rattle.session_steps.proofs.vacuuming.own_from.Given as goal
 
 abbrev pub invariant-loop-s : goal.invariant-loop-s

@@ -1,5 +1,5 @@
 use Rattle.std.proofs.Common.{List, ℤ, pos, subst}
-use Rattle.index_nodes.specs.declared.entry.Entry.{Entry}
+use Rattle.index_entries.specs.declared.entry.Entry.{Entry}
 use Rattle.visibility.specs.Reading.{IsSeenBy, IsOtherWriterFor, IsNewerCommitFor}
 use Rattle.index_lookup.specs.Looking.{FirstPlace, IsIdOf}
 use Rattle.table_indexes.specs.Indexes.{entries_in}

@@ -8,7 +8,7 @@ use Rattle.heap_write.specs.Heap.{HeapView}
 use Rattle.heap_write.specs.Writes.{Deletes}
 use Rattle.heap_write.specs.Refusals.{VersionIsThere}
 use Rattle.heap_write.specs.contracts.heap.HeapState.{the_view}
-use Rattle.heap_write.proofs.IdLemmas.{takes-grown}
+use Rattle.write_ids.proofs.IdLemmas.{takes-grown}
 use Rattle.heap_write.proofs.Writing.{WritesXmax, deletes}
 use Rattle.heap_write.proofs.PageLemmas.{there-at}
 use Rattle.heap_write.proofs.HintLemmas.{hints-same_ids, hints-taken, hints-taken_away}

@@ -3,7 +3,8 @@ use Rattle.std.specs.Prelude.{IfErr}
 use Rattle.tuple_header.specs.Version.{rounded_size_of}
 use Rattle.heap_write.specs.declared.target.Target.{Target}
 use Rattle.heap_write.specs.Heap.{HeapView}
-use Rattle.heap_write.specs.Writes.{NeedsFreeze, Inserts, TableIsFull}
+use Rattle.heap_write.specs.Writes.{Inserts, TableIsFull}
+use Rattle.write_ids.specs.Ids.{NeedsFreeze}
 use Rattle.heap_write.specs.Refusals.{RootNeedsMemory, LacksForInsert}
 use Rattle.heap_pages.specs.Choice.{IsPlaceFor}
 use Rattle.heap_write.specs.Growth.{place_of_target}
@@ -12,7 +13,7 @@ use Rattle.heap_write.proofs.Reserving.{needs-memory, room-left, insert-refused}
 use Rattle.heap_write.proofs.Writing.{both-ok, inserts}
 use Rattle.std.proofs.lemmas.Result.{on_err_weaker}
 use Rattle.std.proofs.lemmas.Bool.{iff_false}
-use Rattle.heap_write.proofs.IdLemmas.{same-ids}
+use Rattle.write_ids.proofs.IdLemmas.{same-ids}
 use Rattle.heap_write.proofs.PageLemmas.{keeps-viewed, keeps-then}
 use Rattle.heap_write.proofs.HintLemmas.{hints-grown}
 use Rattle.heap_write.proofs.heap.HeapState.insert.Goals as goal

@@ -7,8 +7,8 @@ use Rattle.heap_write.specs.Refusals.{NeedsIds}
 use Rattle.heap_write.specs.contracts.heap.HeapState.{the_view}
 use Rattle.commit_status.specs.Window.{Window}
 use Rattle.heap_write.specs.Heap.{HeapView}
-use Rattle.heap_write.specs.Writes.{TakesIds}
-use Rattle.heap_write.proofs.IdLemmas.{takes-grown}
+use Rattle.write_ids.specs.Ids.{TakesIds}
+use Rattle.write_ids.proofs.IdLemmas.{takes-grown}
 use Rattle.heap_write.proofs.HintLemmas.{hints-same_ids, hints-taken}
 use Rattle.heap_write.proofs.heap.HeapState.insert_at.Goals as goal
 use Rattle.heap_write.proofs.heap.HeapState.insert_at.Goals.{then-is_err-via-then-is_err, then-is_err-via-else-is_err+then-is_err-2}

@@ -1,7 +1,7 @@
 use Rattle.std.proofs.Common.{subst, inl}
 use Rattle.commit_status.specs.Window.{IsWindow}
 use Rattle.heap_write.specs.Heap.{HeapView}
-use Rattle.heap_write.specs.Writes.{NeedsFreeze}
+use Rattle.write_ids.specs.Ids.{NeedsFreeze}
 use Rattle.heap_write.proofs.Replacing.{is-replaceable}
 use Rattle.heap_write.proofs.Updating.{answers-freeze}
 use Rattle.heap_write.proofs.Plans.{idle-plan_on}

@@ -4,7 +4,7 @@ use Rattle.page_slots.specs.Slots.{room_of}
 use Rattle.heap_pages.specs.View.{PagesView}
 use Rattle.commit_status.specs.Window.{IsWindow}
 use Rattle.heap_write.specs.Heap.{HeapView}
-use Rattle.heap_write.specs.Writes.{NeedsFreeze}
+use Rattle.write_ids.specs.Ids.{NeedsFreeze}
 use Rattle.heap_write.specs.Writes.PrunesIfFull.{has_room}
 use Rattle.heap_write.proofs.Replacing.{is-replaceable, replaceable-kept}
 use Rattle.heap_write.proofs.Writing.{values-kept, values-back, grown-none, on_page-grown}

@@ -3,7 +3,7 @@ use Rattle.std.specs.Int.{w128}
 use Rattle.std.specs.Option.{option_map}
 use Rattle.std.proofs.lemmas.Int.{to_z-of_z}
 use Rattle.root_index.specs.View.{IndexView}
-use Rattle.index_nodes.specs.Sets.{IsBelow, IsLeast, IsLastOf}
+use Rattle.index_entries.specs.Sets.{IsBelow, IsLeast, IsLastOf}
 use Rattle.root_index.specs.Trees.{among}
 use Rattle.root_index.proofs.SoundLemmas.{ascending_there, least_found}
 use Rattle.index_nodes.proofs.EndLemmas.{last_found}

@@ -1,11 +1,10 @@
 use Rattle.std.proofs.Common.{◌≡◌, ◌∙◌, ◌+◌, ◌-◌, ◌^◌, ◌<◌, ◌≤◌, ◌⊎◌, ℕ, inl, inr, max, length, Contains, sym, ap, refl, subst, arith}
 use Rattle.std.proofs.lemmas.List.Edits.{length-insert}
 use Rattle.root_index.specs.View.{IndexView, room_in, free_places}
-use Rattle.index_nodes.specs.Sets.{AddsEntry}
-use Rattle.index_nodes.proofs.SetLemmas.{adds-there, absent_in_gap}
+use Rattle.index_entries.specs.Sets.{AddsEntry}
+use Rattle.index_entries.proofs.SetLemmas.{adds-there, absent_in_gap, on_err}
 use Rattle.root_index.specs.Trees.{among}
 use Rattle.root_index.proofs.SoundLemmas.{ascending_there, found_there, gap_there, adds_in_gap, sound_inserted, sound_unspent, none_promised, none_countable}
-use Rattle.index_nodes.proofs.FullLemmas.{on_err}
 use Rattle.root_index.proofs.FullLemmas.{full_among, no_room, room_less, places_after, nodes_of}
 use Rattle.root_index.proofs.index.RootIndex.insert.Goals as goal
 

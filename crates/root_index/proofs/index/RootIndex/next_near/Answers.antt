@@ -1,6 +1,6 @@
 use Rattle.std.proofs.Common.{◌∙◌, Some, None, sym, subst}
 use Rattle.root_index.specs.View.{IndexView}
-use Rattle.index_nodes.specs.Sets.{IsAfter, IsLeast}
+use Rattle.index_entries.specs.Sets.{IsAfter, IsLeast}
 use Rattle.root_index.proofs.SoundLemmas.{ascending_there, least_found}
 use Rattle.root_index.proofs.index.RootIndex.next_near.Goals as goal
 

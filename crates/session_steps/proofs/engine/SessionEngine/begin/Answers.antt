@@ -1,6 +1,6 @@
 use Rattle.std.proofs.Common.{rules, subst, ◌≡◌, ℕ}
 use Rattle.snapshot.specs.Snap.{Snap}
-use Rattle.session_steps.specs.declared.session.SessionIsolation.TheVariants.{BySnapshot}
+use Rattle.sessions.specs.declared.session.SessionIsolation.TheVariants.{BySnapshot}
 use Rattle.session_steps.specs.State.{State}
 use Rattle.session_steps.specs.Changes.{Opens}
 use Rattle.session_steps.proofs.Outcomes.{handed-on}

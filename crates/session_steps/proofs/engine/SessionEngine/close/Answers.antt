@@ -2,12 +2,12 @@ use Rattle.std.proofs.Common.{◌≡◌, ℕ, ◌<◌, length, List, Some, None,
 use Rattle.std.specs.Prelude.{Contains}
 use Rattle.std.proofs.lemmas.Option.{same_Some, none-some}
 use Rattle.commit_status.specs.Changes.{Finishes}
-use Rattle.session_steps.specs.declared.session.Session.{Session}
-use Rattle.session_steps.specs.Keeps.{open_at}
+use Rattle.sessions.specs.declared.session.Session.{Session}
+use Rattle.sessions.specs.Places.{open_at}
 use Rattle.session_steps.specs.State.{State}
 use Rattle.session_steps.specs.Changes.{Closes}
 use Rattle.session_steps.proofs.StateLemmas.{keeps-close, keeps-shut}
-use Rattle.session_steps.proofs.Taking.{none-unless}
+use Rattle.sessions.proofs.Taking.{none-unless}
 use Rattle.session_steps.proofs.engine.SessionEngine.close.Goals as goal
 
 pub finish-requires : goal.finish-requires

@@ -2,7 +2,7 @@ use Rattle.std.proofs.Common.{length, Option, None, ap, sym, ◌∙◌, subst}
 use Rattle.std.proofs.lemmas.List.{length-replicate}
 use Rattle.history.specs.World.{beginning}
 use Rattle.calls.specs.declared.settings.Settings.{Settings}
-use Rattle.session_steps.specs.declared.session.Session.{Session}
+use Rattle.sessions.specs.declared.session.Session.{Session}
 use Rattle.session_steps.specs.Agrees.{Agrees}
 use Rattle.session_steps.proofs.StateLemmas.{keeps-idle}
 use Rattle.session_steps.proofs.New.{Agrees-new}

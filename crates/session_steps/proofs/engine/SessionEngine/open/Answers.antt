@@ -1,5 +1,5 @@
 use Rattle.std.proofs.Common.{◌≡◌, ◌∙◌, ◌<◌, None, length, ap, arith}
-use Rattle.session_steps.specs.Keeps.{open_at}
+use Rattle.sessions.specs.Places.{open_at}
 use Rattle.session_steps.specs.State.{State}
 use Rattle.session_steps.proofs.StateLemmas.{keeps-open}
 use Rattle.session_steps.proofs.engine.SessionEngine.open.Goals as goal

@@ -18,7 +18,7 @@ returns-in_err-kept c =
     let e = c.in_ok-session.session.now in
     let lacks = c.in_err-kept.ensures.refused in
     record {
-      follows = rw (handed-on c.from_residual-in_err-kept.result c.from_residual-in_err-kept.ensures.1, lacks.0) (Follows-open_heap_no_memory c.args.self.now c.args.s e c.in_ok-session.ensures.1 c.in_ok-session.ensures.2 c.in_ok-session.ensures.3);
+      follows = rw (handed-on c.from_residual-in_err-kept.result c.from_residual-in_err-kept.ensures.1, lacks.0) (Follows-open_heap_no_memory c.args.self.now c.args.s e c.in_ok-session.ensures.1 c.in_ok-session.ensures.2 c.in_ok-session.ensures.3 lacks.1);
       exact = rw (handed-on c.from_residual-in_err-kept.result c.from_residual-in_err-kept.ensures.1, lacks.0) ((e, c.in_ok-session.ensures.1, lacks.1, lacks.2), refl);
     }
 

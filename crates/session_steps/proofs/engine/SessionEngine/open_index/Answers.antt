@@ -53,7 +53,7 @@ returns-in_err-kept c =
     let lacks = c.in_err-kept.ensures.refused in
     record {
       follows = rw (handed-on c.from_residual-in_err-kept.result c.from_residual-in_err-kept.ensures.1, lacks.0) (Follows-open_index_no_memory c.args.self.now c.args.s e c.args.index c.args.low c.args.high
-          c.in_ok-session.ensures.1 c.in_ok-session.ensures.2 c.in_ok-session.ensures.3 used (sym c.is_too_new.ensures ∙ c.if-is_too_new.false) (in-bounds c.args.low c.args.high c.ranges.low c.ranges.high c.if-low-high.false));
+          c.in_ok-session.ensures.1 c.in_ok-session.ensures.2 c.in_ok-session.ensures.3 used (sym c.is_too_new.ensures ∙ c.if-is_too_new.false) (in-bounds c.args.low c.args.high c.ranges.low c.ranges.high c.if-low-high.false) lacks.1);
       exact = rw (handed-on c.from_residual-in_err-kept.result c.from_residual-in_err-kept.ensures.1, lacks.0) ((e, c.in_ok-session.ensures.1, lacks.1, lacks.2), refl);
     }
 

@@ -1,5 +1,5 @@
 use Rattle.std.proofs.Common.{rules, Some, refl, sym, ap, ◌∙◌}
-use Rattle.session_steps.specs.declared.session.Session.{Session}
+use Rattle.sessions.specs.declared.session.Session.{Session}
 use Rattle.session_steps.specs.State.{State, session_at, put_session}
 use Rattle.session_steps.specs.Changes.{Releases}
 use Rattle.session_steps.proofs.StateLemmas.{keeps-ids}

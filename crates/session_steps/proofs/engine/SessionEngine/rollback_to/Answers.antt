@@ -4,10 +4,10 @@ use Rattle.std.proofs.lemmas.List.Elements.{Contains-append_right}
 use Rattle.commit_status.specs.Changes.{numbers}
 use Rattle.snapshot.specs.Own.{newest}
 use Rattle.table_scans.specs.declared.progress.CursorScan.{CursorScan}
-use Rattle.session_steps.specs.declared.session.Session.{Session}
+use Rattle.sessions.specs.declared.session.Session.{Session}
 use Rattle.session_steps.specs.State.{State, session_at}
 use Rattle.session_steps.specs.Changes.{RollsBack}
-use Rattle.session_steps.proofs.Taking.{none-unless}
+use Rattle.sessions.proofs.Taking.{none-unless}
 use Rattle.session_steps.proofs.Trying.{with_session}
 use Rattle.session_steps.proofs.Outcomes.{handed-on}
 use Rattle.session_steps.proofs.Savepoints.{Follows-nowhere_to_return, Follows-closed_roll_back_to, Follows-barred_roll_back_to}

@@ -1,7 +1,7 @@
 use Rattle.std.proofs.Common.{refl, sym, ap, subst, Some}
 use Rattle.snapshot.specs.Snap.{Snap}
-use Rattle.session_steps.specs.declared.session.SessionIsolation.{SessionIsolation}
-use Rattle.session_steps.specs.State.{keeping, IsByStatement}
+use Rattle.sessions.specs.declared.session.SessionIsolation.{SessionIsolation}
+use Rattle.sessions.specs.Session.{keeping, IsByStatement}
 use Rattle.session_steps.proofs.engine.SessionEngine.snapshot_to_keep.Goals as goal
 
 pub returns-in-BySnapshot-clause-kept : goal.returns-in-BySnapshot-clause-kept

@@ -1,7 +1,7 @@
 use Rattle.std.proofs.Common.{◌∙◌, Some, sym, subst}
 use Rattle.std.proofs.lemmas.Option.{none-some}
 use Rattle.calls.specs.declared.reply.Reply.{Reply}
-use Rattle.session_steps.specs.declared.session.Session.{Session}
+use Rattle.sessions.specs.declared.session.Session.{Session}
 use Rattle.session_steps.specs.State.{State}
 use Rattle.session_steps.specs.Tests.{MayWriteKey}
 use Rattle.session_steps.specs.Writes.{outcome_of}

@@ -1,7 +1,7 @@
 use Rattle.std.proofs.Common.{◌≡◌, List, Option, Some, sym, ap, ◌∙◌, subst}
 use Rattle.xid_circle.specs.declared.Xid.{Xid}
-use Rattle.session_steps.specs.declared.session.Session.{Session}
-use Rattle.session_steps.specs.Keeps.{open_at}
+use Rattle.sessions.specs.declared.session.Session.{Session}
+use Rattle.sessions.specs.Places.{open_at}
 use Rattle.session_steps.specs.State.{State}
 use Rattle.session_steps.proofs.Searches.{Misses, Holds, held-active}
 use Rattle.session_steps.proofs.SessionReader.{place-read, late-read, held-read}

@@ -1,0 +1,3 @@
+pub mod Heap
+pub mod Owned
+pub mod CallStatus

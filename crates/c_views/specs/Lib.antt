@@ -1,0 +1,13 @@
+pub mod Pages
+pub mod State
+pub mod Entries
+pub mod Reasons
+pub mod Sessions
+pub mod Horizon
+pub mod Ids
+pub mod Fates
+pub mod Actions
+pub mod Vacuums
+pub mod Pieces
+pub mod Faults
+pub mod Settings

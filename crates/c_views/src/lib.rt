@@ -1,0 +1,33 @@
+//! What C reads of an engine, and writes for it: structs, and the numbers in them.
+//!
+//! Each function asks one look of [`session_core::Engine`] and says the answer again in a struct that C can read, with no memory of its own.
+//! `specs/` say which struct that is. The exports of `sandpiper_c` write it to the caller's place.
+#![tactic(auto)]
+
+mod entry;
+mod fate;
+mod fault;
+mod horizon;
+mod id;
+mod page;
+mod piece;
+mod plan;
+mod reason;
+mod session;
+mod settings;
+mod state;
+mod vacuum;
+
+pub use entry::{SandpiperPlace, next_entry};
+pub use fate::{SandpiperFate, fate_at};
+pub use fault::fault_in;
+pub use horizon::{SandpiperHorizon, horizon_in};
+pub use id::{SandpiperId, id_in};
+pub use page::{SandpiperPage, SandpiperSlot, head_of_page, of_slot, slot_of_page};
+pub use piece::{SandpiperPiece, of_piece};
+pub use plan::{SandpiperAction, action_of, put_actions};
+pub use reason::{SandpiperReason, SandpiperShown, explanation};
+pub use session::{SandpiperSession, SandpiperSnapshot, listed_id, own_id, session_in};
+pub use settings::{SandpiperSettings, settings_of};
+pub use state::{SandpiperState, of_engine};
+pub use vacuum::{SandpiperVacuum, vacuum_in};

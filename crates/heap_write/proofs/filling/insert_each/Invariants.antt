@@ -1,5 +1,0 @@
-use Rattle.heap_write.proofs.FillingLemmas.{Inserted}
-use Rattle.heap_write.proofs.filling.insert_each.Given as goal
-
-abbrev pub invariant-loop-i : goal.invariant-loop-i
-invariant-loop-i l = Inserted l.batch l.i l.initial.index.entries l.index.entries

@@ -1,5 +1,0 @@
-use Rattle.heap_write.proofs.IdLemmas.{Giving}
-use Rattle.heap_write.proofs.ids.take_ids.Given as goal
-
-abbrev pub invariant-loop : goal.invariant-loop
-invariant-loop l = Giving l.fn.statuses l.fn.own l.statuses l.own l.counter

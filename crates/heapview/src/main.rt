@@ -1,0 +1,83 @@
+//! A heap that can be looked into: scripts with looks, as a run, as a journal, or as a talk.
+#![tactic(auto)]
+
+use clap::error::ErrorKind as Mistake;
+use clap::{ArgMatches, Command, Error};
+use std::alloc::{AllocError, Global};
+use std::env;
+use std::io::ErrorKind;
+use std::process::ExitCode;
+use viewing::{ShellFault, run_views, talk};
+
+fn fails(rt: &impl Eprint, fault: ShellFault) -> ExitCode {
+    let _ = rt.eprintln(fault);
+    ExitCode::from(fault.status())
+}
+
+fn ends(rt: &impl Eprint, ended: Result<(), ShellFault>) -> ExitCode {
+    match ended {
+        Ok(()) => ExitCode::SUCCESS,
+        Err(fault) => fails(rt, fault),
+    }
+}
+
+// The words that the program knows.
+fn command<'a>(alloc: Global) -> Result<Command<'a>, AllocError> {
+    let run = Command::new(alloc, "run").about("Answers a script of heapsh that may have looks");
+    let journal = Command::new(alloc, "journal").about(
+        "Answers one, and writes each line behind > before its answer",
+    );
+    let talk = Command::new(alloc, "talk").about(
+        "Asks for each line, and says what was expected; help lists the lines",
+    );
+    Command::new(alloc, "heapview")
+        .version("0.4")
+        .about("Runs scripts from standard input over a heap that can be looked into")
+        .subcommand_required(true)
+        .arg_required_else_help(true)
+        .subcommand(run)?
+        .subcommand(journal)?
+        .subcommand(talk)
+}
+
+// Says what is wrong with the words, with status 1; or help or the version, as asked for.
+fn tells(rt: &HostRuntime, error: &Error) -> ExitCode {
+    match error.print(rt) {
+        Ok(()) if error.exit_code() == 0 => ExitCode::SUCCESS,
+        Ok(()) => ExitCode::from(1),
+        Err(_) => fails(rt, ShellFault::Output),
+    }
+}
+
+fn runs(rt: &HostRuntime, matches: &ArgMatches<'_>) -> ExitCode {
+    let (ended, _) = match matches.subcommand_name() {
+        Some("journal") => run_views(rt.alloc(), &mut rt.stdin(), &mut rt.stdout(), true),
+        Some("talk") => talk(rt.alloc(), &mut rt.stdin(), &mut rt.stdout()),
+        _ => run_views(rt.alloc(), &mut rt.stdin(), &mut rt.stdout(), false),
+    };
+    ends(rt, ended)
+}
+
+fn main(rt: HostRuntime) -> ExitCode {
+    let alloc = rt.alloc();
+    let words: Vec<String> = match env::args(&rt) {
+        Ok(words) => match words.collect(alloc) {
+            Ok(words) => words,
+            Err(_) => return fails(&rt, ShellFault::NoMemory),
+        },
+        Err(e) if e.kind() == ErrorKind::OutOfMemory => return fails(&rt, ShellFault::NoMemory),
+        Err(_) => {
+            let _ = rt.eprintln("heapview: a word is no text");
+            return ExitCode::from(1);
+        }
+    };
+    let command = match command(alloc) {
+        Ok(command) => command,
+        Err(_) => return fails(&rt, ShellFault::NoMemory),
+    };
+    match command.try_get_matches_from(words.as_slice()) {
+        Ok(matches) => runs(&rt, &matches),
+        Err(error) if error.kind() == Mistake::OutOfMemory => fails(&rt, ShellFault::NoMemory),
+        Err(error) => tells(&rt, &error),
+    }
+}

@@ -1,0 +1,3 @@
+pub mod LookUpLemmas
+pub mod OrderLemmas
+pub mod SetLemmas

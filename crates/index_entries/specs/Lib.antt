@@ -1,0 +1,5 @@
+pub mod Order
+pub mod Sets
+pub mod Lists
+pub mod Halves
+pub mod Sweeps

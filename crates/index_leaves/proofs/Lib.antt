@@ -1,0 +1,4 @@
+pub mod ApartLemmas
+pub mod BoundLemmas
+pub mod BracketLemmas
+pub mod LeafLemmas

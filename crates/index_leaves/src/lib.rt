@@ -1,0 +1,9 @@
+//! The leaves of an index: at most 128 entries that stand together in memory.
+//!
+//! A [`Leaf`] is a [`Node`](index_entries::Node). It keeps bounds of the pages that its entries lead to, so that a sweep passes over
+//! one that leads to none of the dead places' pages.
+#![tactic(auto)]
+
+mod leaf;
+
+pub use leaf::Leaf;

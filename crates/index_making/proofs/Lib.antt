@@ -1,0 +1,3 @@
+pub mod CurrentLemmas
+pub mod ListLemmas
+mod FillingLemmas

@@ -1,0 +1,10 @@
+use Rattle.std.proofs.Common.{List, subst}
+use Rattle.index_entries.specs.declared.entry.Entry.{Entry}
+use Rattle.index_making.specs.Filling.{HasBoth}
+use Rattle.index_making.proofs.FillingLemmas.{unsorted}
+use Rattle.index_making.proofs.filling.insert_batch.Goals as goal
+
+pub returns-clause-inserts : goal.returns-clause-inserts
+returns-clause-inserts c =
+    unsorted c.args.batch.now.items c.sort_unstable_by_key.new.self.items c.args.index.now.entries c.insert_each.new.index.entries c.sort_unstable_by_key.ensures.permutation
+    (subst (λ (es : List Entry). HasBoth es c.args.index.now.entries c.insert_each.new.index.entries) c.deref.ensures.value c.in_ok-insert_each.ensures.inserts)

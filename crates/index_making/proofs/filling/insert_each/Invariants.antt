@@ -1,0 +1,5 @@
+use Rattle.index_making.proofs.FillingLemmas.{Inserted}
+use Rattle.index_making.proofs.filling.insert_each.Given as goal
+
+abbrev pub invariant-loop-i : goal.invariant-loop-i
+invariant-loop-i l = Inserted l.batch l.i l.initial.index.entries l.index.entries

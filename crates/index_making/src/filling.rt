@@ -1,0 +1,92 @@
+//! An index that is filled with entries in any order.
+
+ghost use Rattle.std.specs.Prelude.{◌≡◌, [], IfOk, OnOk, OnErr};
+ghost use Rattle.index_making.specs.Filling.{Joins, HasBoth, HaveSame, HoldsEntry};
+
+use root_index::{Entry, RootIndex};
+use std::alloc::{AllocError, Global};
+use std::marker::Model;
+
+// How many entries are collected before they are inserted: 2 MiB of them.
+const BATCH: usize = 65_536;
+
+/// The entries of an index that is filled. The last of them are in no order yet. They are inserted in the index's order, a batch at a
+/// time, since two entries that follow each other go to one leaf, which then is at hand.
+#[derive(Drop)]
+pub(crate) struct Filling {
+    index: RootIndex,
+    batch: Vec<Entry>,
+}
+
+impl Model for Filling {
+    ghost use Rattle.std.specs.Prelude.{List, ◌++◌};
+    ghost use Rattle.index_entries.specs.declared.entry.Entry.{Entry};
+
+    ghost Value = { List Entry };
+
+    ghost view = { λ f. f.batch.items ++ f.index.entries };
+}
+
+impl Filling {
+    /// Without entries. It takes no memory.
+    pub(crate) fn new(alloc: Global) -> Self
+        ensures { result ≡ [] }
+    {
+        Filling {
+            index: RootIndex::new(alloc),
+            batch: Vec::new(alloc),
+        }
+    }
+
+    /// Adds an entry.
+    pub(crate) fn add(&mut self, entry: Entry) -> Result<(), AllocError>
+        ensures { OnOk result (Joins self.old self.new entry) }
+    {
+        self.insert_full_batch()?;
+        self.batch.push(entry)?;
+        Ok(())
+    }
+
+    /// Inserts the batch where it is full.
+    fn insert_full_batch(&mut self) -> Result<(), AllocError>
+        ensures { OnOk result (HaveSame self.old self.new) }
+    {
+        if self.batch.len() < BATCH {
+            return Ok(());
+        }
+        insert_batch(&mut self.index, &mut self.batch)?;
+        Ok(())
+    }
+
+    /// The index of all these entries.
+    pub(crate) fn finish(mut self) -> Result<RootIndex, AllocError>
+        ensures same { IfOk result (λ index. HaveSame self index.entries) }
+        ensures refused { OnErr result (HoldsEntry self) }
+    {
+        insert_batch(&mut self.index, &mut self.batch)?;
+        Ok(self.index)
+    }
+}
+
+/// Inserts a batch in the index's order, and leaves it without entries.
+fn insert_batch(index: &mut RootIndex, batch: &mut Vec<Entry>) -> Result<(), AllocError>
+    ensures inserts { OnOk result (HasBoth batch.old.items index.old.entries index.new.entries) }
+    ensures none { OnOk result (batch.new.items ≡ []) }
+    ensures refused { OnErr result (HoldsEntry batch.old.items) }
+{
+    batch.sort_unstable_by_key(|entry| (entry.value, entry.key));
+    insert_each(index, batch)?;
+    batch.clear();
+    Ok(())
+}
+
+/// Inserts one after the other.
+fn insert_each(index: &mut RootIndex, batch: &[Entry]) -> Result<(), AllocError>
+    ensures inserts { OnOk result (HasBoth batch.now index.old.entries index.new.entries) }
+    ensures refused { OnErr result (HoldsEntry batch.now) }
+{
+    for i in 0..batch.len() {
+        index.insert(batch[i])?;
+    }
+    Ok(())
+}

@@ -1,0 +1,4 @@
+pub mod LineLaws
+pub mod RowLaws
+pub mod ReplyLaws
+pub mod OnceLaws

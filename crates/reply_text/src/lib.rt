@@ -1,0 +1,13 @@
+//! Reads the text of a reply, as `script_text` writes it.
+//!
+//! [`reply_at`] reads it exactly: what is read is spelled so, and what is spelled so is read (`specs/Replies.antt`). [`cut`] and [`cut_at`]
+//! cut a text.
+#![tactic(auto)]
+
+mod refusals;
+mod replies;
+mod rows;
+mod words;
+
+pub use replies::reply_at;
+pub use words::{OutOfMemory, cut, cut_at};

@@ -1,8 +1,0 @@
-use Rattle.std.proofs.Common.{◌≡◌, ℕ, ◌<◌, Some}
-use Rattle.std.specs.Prelude.{Contains}
-use Rattle.session_steps.specs.declared.session.Session.{Session}
-use Rattle.session_steps.specs.Keeps.{open_at}
-use Rattle.session_steps.proofs.checks.owner.Given as goal
-
-abbrev pub invariant-loop-s : goal.invariant-loop-s
-invariant-loop-s l = (s : ℕ) (e : Session) → s < l.s → open_at l.sessions s ≡ Some e → Contains e.own.ids l.fn.x.0 → ⊥

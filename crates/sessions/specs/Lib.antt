@@ -1,0 +1,4 @@
+pub mod Session
+pub mod Places
+pub mod Lending
+pub mod Marks

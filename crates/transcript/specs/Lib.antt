@@ -1,0 +1,4 @@
+pub mod Showing
+pub mod Transcripts
+pub mod Cutting
+pub mod Judging

@@ -1,0 +1,3 @@
+pub mod Looks
+pub mod Reading
+pub mod Answers

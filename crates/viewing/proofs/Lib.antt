@@ -1,0 +1,3 @@
+mod ExplainingLemmas
+mod LookLemmas
+mod RunLemmas

@@ -1,0 +1,4 @@
+pub mod Showing
+pub mod Viewing
+pub mod Steps
+pub mod Talking
