@@ -15,6 +15,7 @@ pub mod Blank
 pub mod Ids
 pub mod Dead
 pub mod StandingLemmas
+pub mod RedirectCounts
 pub mod RedirectLemmas
 pub mod CoverLemmas
 pub mod CheckLemmas

@@ -1,6 +1,7 @@
 -- The slots that the bytes of a page say.
-use Rattle.std.specs.Prelude.{ℕ, List, map}
+use Rattle.std.specs.Prelude.{◌≡◌, ◌<◌, ℕ, List, map}
 use Rattle.std.specs.List.{range_with_len}
+use Rattle.xid_circle.specs.Numbers.{Count}
 use Rattle.tuple_header.specs.Layout.{decoded_version}
 use Rattle.page_layout.specs.declared.pointer.Pointer.{Pointer}
 use Rattle.page_slots.specs.declared.slot.Slot.{Slot}
@@ -19,3 +20,9 @@ slot_in bytes i = shown_by bytes (pointer_in bytes i)
 -- the first so many slots
 abbrev pub slots_in : ℕ → List ℕ → List Slot
 slots_in count bytes = map (slot_in bytes) (range_with_len 0 count)
+
+-- one of the first so many pointers is a redirect to the slot of this number
+pub record SomeRedirects (bytes : List ℕ) (count : Count) (number : ℕ) : Type 0 where
+  pub index : ℕ
+  pub within : index < count
+  pub is : pointer_in bytes index ≡ Pointer.Redirect number

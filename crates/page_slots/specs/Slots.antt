@@ -1,12 +1,12 @@
 -- The slots of a page. They are numbered from 1 (PostgreSQL manual, Database Page Layout: item identifiers).
-use Rattle.std.specs.Prelude.{ℕ, zero, suc, ◌+◌, ◌-◌, ◌*◌, ◌%◌, ◌^◌, ◌≤◌, ◌==◌, ◌&&◌, Bool, true, false, if◌then◌else◌, List, [], ◌∷◌, ◌++◌, length, sum_by, nat_lt, Option, Some, None, IsSome, slice_get, slice_set, slice_index_or}
+use Rattle.std.specs.Prelude.{◌≡◌, ℕ, zero, suc, ◌+◌, ◌-◌, ◌*◌, ◌%◌, ◌^◌, ◌≤◌, ◌==◌, ◌&&◌, Bool, true, false, if◌then◌else◌, List, [], ◌∷◌, ◌++◌, length, sum_by, nat_lt, Option, Some, None, IsSome, slice_get, slice_set, slice_index_or}
 use Rattle.std.specs.Option.{option_map, option_and_then}
 use Rattle.std.specs.List.{position_or_len}
 use Rattle.page_slots.specs.declared.slot.Slot.{Slot}
 use Rattle.page_slots.specs.declared.slot.Slot.TheVariants.{Unused, Normal, Redirect, Dead}
 use Rattle.page_slots.specs.declared.slot.SlotHead.{SlotHead}
 use Rattle.page_slots.specs.declared.slot.SlotHead.TheVariants as head
-use Rattle.page_slots.specs.Hints.{same_but_hints}
+use Rattle.tuple_header.specs.Hints.{same_but_hints}
 use Rattle.tuple_header.specs.Version.{Version, rounded_size_of}
 use Rattle.tuple_header.specs.declared.version.Header.{Header}
 use Rattle.tuple_header.specs.declared.version.Row.{Row}
@@ -85,6 +85,10 @@ key_at slots n = option_map (λ t. t.row.key) (version_at slots n)
 -- where the slot of this number leads, if it is there and a redirect
 abbrev pub redirect_at : List Slot → ℕ → Option ℕ
 redirect_at slots n = option_and_then target_of (slot_at slots n)
+
+-- some slot leads to that of this number
+abbrev pub IsRedirected : List Slot → ℕ → Type 0
+IsRedirected slots number = (n : ℕ) × (redirect_at slots n ≡ Some number)
 
 -- whether there is a slot of this number
 abbrev pub SlotIsThere : List Slot → ℕ → Type 0

@@ -6,7 +6,7 @@
 //! number, and the all-visible flag. It promises that a call changes nothing but what it names, and that [`Page::add`] takes the
 //! lowest unused slot and is full exactly where the version is larger than the room. [`Page::add_row`] is for those who have
 //! asked for room before. The change number counts changes of slots, modulo 2^64, except changes of hint bits alone. What stands
-//! at a number, the room and the change number are defined in `specs/Slots.antt`, hints in `specs/Hints.antt`;
+//! at a number, the room and the change number are defined in `specs/Slots.antt`, hints in `specs/Hints.antt` of `tuple_header`;
 //! `proofs/SlotLemmas.antt` says, for the crates above, what each change does to the map from numbers to slots.
 //!
 //! Where the parts of a page stand among its bytes is said by `page_layout` below, what slots the bytes say by
@@ -19,7 +19,6 @@
 #![tactic(auto)]
 
 mod check;
-mod hints;
 mod marks;
 mod packing;
 mod page;

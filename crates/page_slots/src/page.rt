@@ -10,15 +10,14 @@ ghost use Rattle.page_slots.specs.Reading.{page_of};
 ghost use Rattle.page_slots.specs.Faults.{AreSoundRedirects, page_fault};
 ghost use Rattle.page_slots.specs.Standing.{length_at, LiesWithin, IsPointedTo};
 ghost use Rattle.page_layout.specs.Sound.{HoldsNoVersion};
-ghost use Rattle.page_slots.specs.Slots.{is_unused, is_dead, is_undeleted_by, redirects_to, head_of, slot_at, header_at, row_at, key_at, redirect_at, SlotIsThere, IsNormalAt, the_slot, with_slot, with_header_at, has_unused, free_number, with_added, bytes_taken, free_bytes, room_of, next_change, change_unless, differs_in_hints_alone};
+ghost use Rattle.page_slots.specs.Slots.{is_unused, is_dead, is_undeleted_by, redirects_to, head_of, slot_at, header_at, row_at, key_at, redirect_at, IsRedirected, SlotIsThere, IsNormalAt, the_slot, with_slot, with_header_at, has_unused, free_number, with_added, bytes_taken, free_bytes, room_of, next_change, change_unless, differs_in_hints_alone};
 
-use crate::hints::differ_in_hints_alone;
 use crate::sheet::{MOST_BYTES, Sheet};
 use crate::slot::{Slot, SlotHead};
 use page_layout::Pointer;
 use std::marker::Model;
 use thiserror::Error;
-use tuple_header::{Header, MOST_SLOTS, Row, RowRef, Tuple, row_size};
+use tuple_header::{Header, MOST_SLOTS, Row, RowRef, Tuple, differ_in_hints_alone, row_size};
 use xid_circle::Xid;
 
 /// Why a version was not added.
@@ -222,6 +221,13 @@ impl Page {
         } else {
             None
         }
+    }
+
+    /// Whether some slot is a redirect to the slot of this number.
+    pub fn is_redirected(&self, number: u16) -> bool
+        ensures { IsTrue result ↔ IsRedirected self.now.slots number }
+    {
+        self.sheet.is_redirected(number)
     }
 
     /// Whether the slot of this number is there and dead.

@@ -1,6 +1,6 @@
 //! The bytes of a page, and what is read in them where it stands.
 
-ghost use Rattle.std.specs.Prelude.{◌≡◌, ◌≤◌, ◌<◌, ◌+◌, ◌-◌, ◌*◌, ◌%◌, ◌++◌, ◌∷◌, ℕ, [], length, sum_by, drop, slice_set, slice_index_or, true, false, ◌==◌, ◌&&◌, Some, None, IfSome, MatchOption, if◌then◌else◌};
+ghost use Rattle.std.specs.Prelude.{◌≡◌, ◌≤◌, ◌<◌, ◌+◌, ◌-◌, ◌*◌, ◌%◌, ◌++◌, ◌∷◌, ℕ, [], length, sum_by, drop, slice_set, slice_index_or, true, false, ◌==◌, ◌&&◌, Some, None, IfSome, IsTrue, ◌↔◌, MatchOption, if◌then◌else◌};
 ghost use Rattle.std.specs.Option.{option_map};
 ghost use Rattle.std.specs.List.{position_or_len};
 ghost use Rattle.tuple_header.specs.Layout.{number_at, with_bytes, header_bytes, encoding, decoded_version};
@@ -11,7 +11,7 @@ ghost use Rattle.page_slots.specs.declared.sheet.TheConstants.{MOST_BYTES};
 ghost use Rattle.page_layout.specs.declared.sizes.TheConstants.{PAGE_BYTES, PAGE_HEADER_BYTES};
 ghost use Rattle.page_slots.specs.Slots.{is_unused, is_dead, is_undeleted_by, redirects_to, with_header, version_of, target_of, head_of, bytes_taken};
 ghost use Rattle.page_layout.specs.Layout.{pointer_in, part_of, slot_count_in, change_in, flags_in, upper_in};
-ghost use Rattle.page_slots.specs.Layout.{shown_by, slot_in, slots_in};
+ghost use Rattle.page_slots.specs.Layout.{SomeRedirects, shown_by, slot_in, slots_in};
 ghost use Rattle.page_slots.specs.Packing.{LieInOrder};
 ghost use Rattle.page_slots.specs.Placing.{AllStay, OthersStay, HasGap, IsPutBelow, loses_last};
 ghost use Rattle.page_slots.specs.Standing.{StandsAt, IsVersionAt};
@@ -24,7 +24,7 @@ use crate::packing::move_together;
 use crate::slot::{Slot, SlotHead};
 use page_layout::{
     Extent, PAGE_BYTES, PAGE_HEADER_BYTES, Pointer, part, pointer_at, put_pointer, put_u16,
-    put_u64, u16_at, u64_at,
+    put_u64, u16_at, u32_at, u64_at,
 };
 use std::marker::Model;
 use tuple_header::{
@@ -293,6 +293,23 @@ impl Sheet {
             Pointer::Redirect(target) => target == number,
             Pointer::Dead => false,
         }
+    }
+
+    /// Whether a slot is a redirect to the slot of this number. It goes over several slots at once.
+    pub(crate) fn is_redirected(&self, number: u16) -> bool
+        ensures { IsTrue result ↔ SomeRedirects self.now.bytes self.now.count number }
+    {
+        if usize::from(number) > self.count {
+            return false;
+        }
+        let sought = u32::from(number) + 65536;
+        let mut found = 0u32;
+        for index in 0..self.count {
+            if u32_at(&self.bytes, PAGE_HEADER_BYTES + 4 * index) == sought {
+                found += 1;
+            }
+        }
+        found > 0
     }
 
     /// Where the slot at an index leads, if it is a redirect.

@@ -80,6 +80,10 @@ fn next_redirect(page: &Page, from: u16, target: u16) -> Option<u16>
 fn redirects_to(page: &Page, target: u16) -> SlotsOfKind
     ensures { AreThose (IsRedirectTo page.now.slots target) result }
 {
+    // one look over several slots at once tells nearly always
+    if !page.is_redirected(target) {
+        return SlotsOfKind::NoSlot;
+    }
     let _limit = page.slots();
     match next_redirect(page, 1, target) {
         None => SlotsOfKind::NoSlot,

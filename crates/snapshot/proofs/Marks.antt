@@ -12,6 +12,14 @@ pub marks-more : (ms : List ℕ) (n m : ℕ) → AreMarks n ms → n ≤ m → A
 marks-more [] n m h l = tt
 marks-more (k ∷ ms) n m h l = let a = h.0 in (omega arith, h.1)
 
+pub mark-within : (marks : List ℕ) (n : ℕ) → AreMarks n marks → (i d : ℕ) → i < length marks → get_or marks i d ≤ n
+mark-within [] n are i d within = absurd (omega arith)
+mark-within (m ∷ ms) n are zero d within = are.0
+mark-within (m ∷ ms) n are (suc i) d within =
+    let rest = mark-within ms m are.1 i d (omega arith) in
+    let first = are.0 in
+    omega arith
+
 pub prefixes-append : (ms ids more : List ℕ) (n : ℕ) → AreMarks n ms → n ≤ length ids → prefixes (ids ++ more) ms ≡ prefixes ids ms
 prefixes-append [] ids more n h l = refl
 prefixes-append (k ∷ ms) ids more n h l =

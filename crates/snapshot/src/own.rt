@@ -207,6 +207,19 @@ impl OwnIds {
         self.marks[self.marks.len() - 1]
     }
 
+    /// How many ids there were at a savepoint, if there are so many savepoints: 0 stands for the newest, 1 for the one before.
+    pub fn ids_at(&self, savepoint: usize) -> Option<usize>
+        ensures value { option_map (λ count. take count self.now.ids) result
+            ≡ slice_get self.now.saved savepoint }
+        ensures within { IfSome result (λ count. count ≤ length self.now.ids) }
+    {
+        if savepoint < self.marks.len() {
+            Some(self.marks[self.marks.len() - 1 - savepoint])
+        } else {
+            None
+        }
+    }
+
     /// The ids that were given since the newest savepoint. There has to be one.
     pub fn since_savepoint(&self) -> &[Xid]
         requires { self.now.saved ≢ [] }

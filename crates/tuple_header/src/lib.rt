@@ -10,6 +10,7 @@
 mod decoding;
 mod encoding;
 mod fault;
+mod hints;
 mod row_place;
 mod row_ref;
 mod version;
@@ -17,6 +18,7 @@ mod version;
 pub use decoding::{decode, fault_of, header_of, key_of, row_in, version_of};
 pub use encoding::{encode, put_header, put_version, reads_back};
 pub use fault::TupleFault;
+pub use hints::differ_in_hints_alone;
 pub use row_place::RowPlace;
 pub use row_ref::RowRef;
 pub use version::{Header, MOST_BODY, MOST_SLOT_NUMBERS, MOST_SLOTS, Row, Tuple, row_size, size};

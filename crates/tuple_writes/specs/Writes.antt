@@ -6,7 +6,7 @@ use Rattle.page_slots.specs.declared.slot.Slot.{Slot}
 use Rattle.page_slots.specs.declared.slot.Slot.TheVariants.{Unused, Normal, Redirect, Dead}
 use Rattle.page_slots.specs.View.{PageView}
 use Rattle.page_slots.specs.Slots.{the_slot, with_slot, with_added, free_number, change_unless}
-use Rattle.page_slots.specs.Hints.{same_but_hints}
+use Rattle.tuple_header.specs.Hints.{same_but_hints}
 use Rattle.tuple_header.specs.declared.version.Row.{Row}
 use Rattle.tuple_writes.specs.Headers.{replaced_header, root_header, heap_only_header}
 

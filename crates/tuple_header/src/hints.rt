@@ -1,9 +1,9 @@
 //! The marks of a header that are hints.
 
 ghost use Rattle.std.specs.Prelude.{◌≡◌};
-ghost use Rattle.page_slots.specs.Hints.{lasting_marks, same_but_hints};
+ghost use Rattle.tuple_header.specs.Hints.{lasting_marks, same_but_hints};
 
-use tuple_header::Header;
+use crate::version::Header;
 use xid_circle::Xid;
 
 /// The marks that are no hints.
@@ -24,7 +24,7 @@ fn lasting(header: &Header) -> u16
 }
 
 /// Whether two headers differ in hints alone, or not at all.
-pub(crate) fn differ_in_hints_alone(a: &Header, b: &Header) -> bool
+pub fn differ_in_hints_alone(a: &Header, b: &Header) -> bool
     ensures { result ≡ same_but_hints a.now b.now }
 {
     a.xmin == b.xmin
