@@ -3,10 +3,10 @@ use Rattle.std.proofs.Common.{◌≡◌, ◌≢◌, ℕ, zero, suc, ◌+◌, ◌
 use Rattle.std.proofs.lemmas.Bool.{cases_eq, cases_lt}
 use Rattle.xid_circle.specs.Circle.{given}
 use Rattle.commit_status.specs.declared.status.Status.TheVariants.{InProgress}
-use Rattle.commit_status.specs.Window.{IdEntry, Window, IsWindow, IsGiven, IsActive, IsUpToNext, turns, place, entry_of, status_in, parent_in, status_of, parent_of, ancestor_in, top_of, next_id}
+use Rattle.commit_status.specs.Window.{IdEntry, Window, IsWindow, IsActive, IsUpToNext, turns, place, entry_of, status_in, parent_in, status_of, parent_of, ancestor_in, top_of, next_id}
 use Rattle.commit_status.specs.Changes.{Gives}
-use Rattle.commit_status.proofs.Places.{IsAt, at-from_place, place-from_at, given-place, place-given, place-lt, none-unless, next-none, is-from_some, some-from_is}
-use Rattle.commit_status.proofs.Ancestors.{parent-place, parent-not_next, height-le, ancestor-none, ancestor-some, ancestor-enough, parent-cases, top-none, top-parent}
+use Rattle.commit_status.proofs.Places.{IsAt, at-from_place, place-from_at, given-place, place-given, place-lt, none-unless, next-none, is-from_some}
+use Rattle.commit_status.proofs.Ancestors.{parent-place, parent-not_next, height-le, ancestor-none, ancestor-some, ancestor-enough, parent-cases}
 use Rattle.commit_status.proofs.ChangesLemmas.{entry-at, entry-none}
 
 slice_get-push_old : (xs : List IdEntry) (y : IdEntry) (i : ℕ) → i < length xs → slice_get (xs ++ y ∷ []) i ≡ slice_get xs i
@@ -75,9 +75,6 @@ gives-status w v parent x before after g =
 pub gives-parent_old : (w v : Window) (parent : Option ℕ) (x : ℕ) → IsWindow v → Gives w v parent → x ≢ next_id w → parent_of v x ≡ parent_of w x
 gives-parent_old w v parent x is g other = ap parent_in (gives-entry_old w v parent x is g other)
 
-pub gives-parent_next : (w v : Window) (parent : Option ℕ) → IsWindow v → Gives w v parent → parent_of v (next_id w) ≡ parent
-gives-parent_next w v parent is g = ap parent_in (gives-entry_next w v parent is g)
-
 ancestor-old : (n : ℕ) (w v : Window) (parent : Option ℕ) (x : ℕ) → IsWindow w → IsWindow v → Gives w v parent → x ≢ next_id w → ancestor_in n v x ≡ ancestor_in n w x
 ancestor-old zero w v parent x before after g other = refl
 ancestor-old (suc n) w v parent x before after g other =
@@ -95,16 +92,6 @@ gives-top_old w v parent x before after g other =
     let low = height-le w x in
     ap (λ n. ancestor_in n v x) long ∙ ancestor-old (length w.entries + 1) w v parent x before after g other
     ∙ ancestor-enough (length w.entries + 1) (length w.entries) w x before (omega arith) low
-
--- the new id has its parent's top, or is its own
-pub gives-top_next : (w v : Window) (p : ℕ) → IsWindow w → IsWindow v → Gives w v (Some p) → IsGiven w p → top_of v (next_id w) ≡ top_of w p
-gives-top_next w v p before after g there =
-    let found = some-from_is (place w p) there in
-    top-parent v (next_id w) p after (gives-parent_next w v (Some p) after g)
-    ∙ gives-top_old w v (Some p) p before after g (λ e. let n : None ≡ Some found.0 = sym (next-none w before) ∙ ap (place w) (sym e) ∙ found.1 in cc)
-
-pub gives-top_alone : (w v : Window) → IsWindow v → Gives w v None → top_of v (next_id w) ≡ next_id w
-gives-top_alone w v after g = top-none v (next_id w) (gives-parent_next w v None after g)
 
 pub gives-active_next : (w v : Window) (parent : Option ℕ) → IsWindow v → Gives w v parent → IsActive v (next_id w)
 gives-active_next w v parent is g = record {

@@ -4,12 +4,12 @@ use Rattle.std.specs.Ordering.{nat_cmp}
 use Rattle.std.specs.declared.cmp.Ordering.TheVariants.{Less, Equal}
 use Rattle.std.proofs.lemmas.Bool.{cases_lt}
 use Rattle.std.proofs.lemmas.Cmp.{ranked}
-use Rattle.std.proofs.lemmas.List.{take-append-drop, get_or-take, get_or-drop, length-drop, length-take-le}
-use Rattle.std.proofs.lemmas.List.Elements.{Contains-append_left, Contains-append_right}
+use Rattle.std.proofs.lemmas.List.{take-append-drop, get_or-drop, length-drop}
+use Rattle.std.proofs.lemmas.List.Elements.{Contains-append_right}
 use Rattle.std.proofs.lemmas.Option.{slice_get-get_or, get_or_from_slice_get}
 use Rattle.xid_circle.specs.declared.Tid.{Tid}
 use Rattle.dead_places.specs.declared.page_bounds.PageBounds.{PageBounds}
-use Rattle.dead_places.specs.Bounds.{AreBeside, IsFirstFrom, IsPartOn}
+use Rattle.dead_places.specs.Bounds.{IsFirstFrom, IsPartOn}
 use Rattle.dead_places.specs.Places.{PlacePrecedes, AreAscending}
 use Rattle.dead_places.proofs.PlaceLemmas.{less_both, ascending-at, same_number}
 
@@ -73,28 +73,6 @@ ascending_drop n xs short up i j d lt within =
     subst (λ a. PlacePrecedes a (get_or (drop n xs) j d)) (sym (get_or-drop n xs i d))
     (subst (λ b. PlacePrecedes (get_or xs (n + i) d) b) (sym (get_or-drop n xs j d)) (up (n + i) (n + j) d (omega (arith, lt)) (omega (arith, within, long, short))))
 
-ascending_take : (n : ℕ) (xs : List Tid) → n ≤ length xs → AreAscending xs → AreAscending (take n xs)
-ascending_take n xs short up i j d lt within =
-    let long = length-take-le n xs short in
-    subst (λ a. PlacePrecedes a (get_or (take n xs) j d)) (sym (get_or-take n xs i d (omega (arith, lt, within, long))))
-    (subst (λ b. PlacePrecedes (get_or xs i d) b) (sym (get_or-take n xs j d (omega (arith, within, long)))) (up i j d lt (omega (arith, within, long, short))))
-
--- a part of a part
-pub part_of_part : (b : PageBounds) (xs ys zs : List Tid) → IsPartOn b xs ys → IsPartOn b ys zs → IsPartOn b xs zs
-part_of_part b xs ys zs first next = record {
-  ascending = next.ascending;
-  none_new = λ t there. first.none_new t (next.none_new t there);
-  all_on = λ t there on. next.all_on t (first.all_on t there on) on;
-}
-
--- where all are beside the pages it is none of them
-pub none_on : (b : PageBounds) (xs : List Tid) → AreBeside b xs → IsPartOn b xs []
-none_on b xs beside = record {
-  ascending = λ i j d lt within. absurd (omega (arith, within));
-  none_new = λ t there. absurd (omega (arith, there.1));
-  all_on = λ t there on. absurd (beside t there on);
-}
-
 pub part_behind : (b : PageBounds) (xs : List Tid) (n : ℕ) → AreAscending xs → IsFirstFrom xs b.least n → IsPartOn b xs (drop n xs)
 part_behind b xs n up first = record {
   ascending = ascending_drop n xs first.in_range up;
@@ -107,19 +85,5 @@ part_behind b xs n up first = record {
             let long = length-drop n xs in
             let same : n + (p.0 - n) ≡ p.0 = omega (arith, behind) in
             (p.0 - n, omega (arith, p.1, behind, long), get_or-drop n xs (p.0 - n) t ∙ ap (λ k. get_or xs k t) same ∙ get_or_from_slice_get xs p.0 t t p.2)
-      ];
-}
-
-pub part_before : (b : PageBounds) (xs : List Tid) (n : ℕ) → AreAscending xs → IsFirstFrom xs (b.greatest + 1) n → IsPartOn b xs (take n xs)
-part_before b xs n up first = record {
-  ascending = ascending_take n xs first.in_range up;
-  none_new = λ t there. subst (λ (ys : List Tid). Contains ys t) (take-append-drop n xs) (Contains-append_left (take n xs) (drop n xs) t there);
-  all_on = λ t there on.
-      let p = number_of xs t there in
-      elim (cases_lt p.0 n) [
-        | inl before ↦
-            let long = length-take-le n xs first.in_range in
-            (p.0, omega (arith, before, long), get_or-take n xs p.0 t before ∙ get_or_from_slice_get xs p.0 t t p.2)
-        | inr behind ↦ absurd (let more = first.from p.0 t behind p.2 in omega (arith, on.1, more))
       ];
 }

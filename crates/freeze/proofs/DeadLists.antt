@@ -23,12 +23,6 @@ abbrev pub dead_from : ℕ → List Slot → List ℕ
 dead_from n [] = []
 dead_from n (s ∷ slots) = if is_dead s then n ∷ dead_from (suc n) slots else dead_from (suc n) slots
 
-alive-passed : (s : Slot) → s ≢ Dead → (n : ℕ) (slots : List Slot) → dead_from n (s ∷ slots) ≡ dead_from (suc n) slots
-alive-passed Unused other n slots = refl
-alive-passed (Normal t) other n slots = refl
-alive-passed (Redirect k) other n slots = refl
-alive-passed Dead other n slots = absurd (other refl)
-
 -- a number is that of a dead slot
 abbrev IsOfDead : ℕ → List Slot → ℕ → Type 0
 IsOfDead n slots m = (i : ℕ) × (m ≡ n + i) × (slice_get slots i ≡ Some Dead)

@@ -9,7 +9,7 @@ use Rattle.xid_circle.specs.declared.Xid.{Xid}
 use Rattle.page_slots.specs.declared.slot.Slot.{Slot}
 use Rattle.page_slots.specs.declared.slot.Slot.TheVariants.{Unused, Normal, Redirect, Dead}
 use Rattle.page_slots.specs.Slots.{slot_at, version_at, version_of, with_added, free_number, IsNormalAt}
-use Rattle.page_slots.proofs.SlotLemmas.{normal_at, same_or_other, slot_at-with_added, slot_at-with_added_other, version_at-none, version_at-from_slot_at}
+use Rattle.page_slots.proofs.SlotLemmas.{normal_at, same_or_other, slot_at-with_added, slot_at-with_added_other, version_at-from_slot_at}
 use Rattle.tuple_header.specs.Version.{Version}
 use Rattle.tuple_header.specs.declared.version.Header.{Header}
 use Rattle.tuple_header.specs.declared.version.Row.{Row}
@@ -111,9 +111,6 @@ ages-same w v turn same = record {
 }
 
 -- Of pages.
-
-pub dies-unused : (w : Window) (turn : ℕ) → turn ≤ length w.entries → NothingDiesBefore w turn []
-dies-unused w turn reached = record { reached = reached; each = λ n t at. absurd (version_at-none n t at) }
 
 pub dies-earlier : (w : Window) (turn earlier : ℕ) (slots : List Slot) → earlier ≤ turn → NothingDiesBefore w turn slots → NothingDiesBefore w earlier slots
 dies-earlier w turn earlier slots le dies = record {

@@ -1,16 +1,15 @@
 -- Dead slots of a page become unused, one after another.
-use Rattle.std.proofs.Common.{◌≡◌, ◌≢◌, ◌∙◌, ℕ, zero, suc, ◌+◌, ◌<◌, ◌≤◌, true, false, List, [], ◌∷◌, ◌++◌, length, map, take, get_or, Option, Some, sym, ap, refl, subst, ⊎_elim, arith}
+use Rattle.std.proofs.Common.{◌≡◌, ◌≢◌, ◌∙◌, ℕ, zero, suc, ◌+◌, ◌<◌, ◌≤◌, true, false, List, [], ◌∷◌, ◌++◌, length, map, take, get_or, Some, sym, ap, refl, subst, ⊎_elim, arith}
 use Rattle.std.specs.Prelude.{Contains, nat_eq}
 use Rattle.std.specs.List.{AllPairs, list_any}
-use Rattle.std.proofs.lemmas.Bool.{cases_eq, cases_Bool}
+use Rattle.std.proofs.lemmas.Bool.{cases_Bool}
 use Rattle.std.proofs.lemmas.List.{length_push, length-map, length-take-le, get_or-take, get_or_default, get_or-map, map_more, take-map, take_all}
 use Rattle.std.proofs.lemmas.List.Elements.{Contains-append_left, Contains-push, Contains-push_cases}
 use Rattle.xid_circle.specs.declared.Tid.{Tid}
 use Rattle.page_slots.specs.declared.slot.Slot.{Slot}
 use Rattle.page_slots.specs.declared.slot.Slot.TheVariants.{Unused, Dead}
-use Rattle.page_slots.specs.Slots.{slot_at, SlotIsThere, with_slot, next_change}
+use Rattle.page_slots.specs.Slots.{slot_at, next_change}
 use Rattle.page_slots.specs.View.{PageView}
-use Rattle.page_slots.proofs.SlotLemmas.{length-with_slot, slot_at-with_slot, slot_at-with_slot_other}
 use Rattle.hot_chain.proofs.Chains.{contains-any, any-contains}
 use Rattle.prune.specs.Actions.{raised}
 use Rattle.heap_write.specs.Cleaning.{FreesSlots}
@@ -24,16 +23,6 @@ only n k (suc i, lt, e) = absurd (omega (arith, lt))
 itself : (n k : ℕ) → n ≡ k → Contains (n ∷ []) k
 itself n k e = (0, omega arith, e)
 
-pub free-one : (slots : List Slot) (n : ℕ) → SlotIsThere slots n → slot_at slots n ≡ Some Dead → FreesSlots slots (with_slot slots n Unused) (n ∷ [])
-free-one slots n there dead = record {
-  count = length-with_slot slots n Unused;
-  freed = λ k c was. subst (λ m. slot_at (with_slot slots n Unused) m ≡ Some Unused) (only n k c) (slot_at-with_slot slots n Unused there);
-  others = λ k spared. ⊎_elim
-      (λ same. absurd (spared (itself n k (sym same)) (ap (slot_at slots) same ∙ dead)))
-      (λ off. slot_at-with_slot_other slots n k Unused there.0 off)
-      (cases_eq k n);
-}
-
 pub free-none : (slots : List Slot) (n : ℕ) → slot_at slots n ≢ Some Dead → FreesSlots slots slots (n ∷ [])
 free-none slots n alive = record {
   count = refl;
@@ -42,9 +31,6 @@ free-none slots n alive = record {
 }
 
 -- One more.
-
-unused-alive : (o : Option Slot) → o ≡ Some Unused → o ≢ Some Dead
-unused-alive o unused dead = let e : Some Unused ≡ Some Dead = sym unused ∙ dead in cc
 
 module _ (a b c : List Slot) (ns : List ℕ) (n : ℕ) (f : FreesSlots a b ns) (g : FreesSlots b c (n ∷ [])) where
   -- a slot that was named before

@@ -16,7 +16,7 @@ use Rattle.commit_status.specs.declared.status.Status.TheVariants.{Aborted}
 use Rattle.commit_status.specs.Window.{Window, IsWindow, IsAborted, IsUpToNext, turns}
 use Rattle.commit_status.specs.Changes.{Finishes}
 use Rattle.snapshot.specs.Own.{Own, current_xid}
-use Rattle.space_maps.specs.Hints.{PageHint, nothing_known, hint_on, lowered, AddsDoubt, Lowers}
+use Rattle.space_maps.specs.Hints.{PageHint, nothing_known, hint_on, lowered}
 use Rattle.heap_pages.specs.View.{PagesView}
 use Rattle.prune.specs.Deaths.{NothingDiesBefore}
 use Rattle.prune.specs.Glances.{AreDoubts}
@@ -101,9 +101,6 @@ hints-none w pages hints none = record {
   doubts = λ n. subst (λ (h : PageHint). AreDoubts w (page_in pages n).slots h.doubts) (sym (none n)) tt;
 }
 
-pub hints-new : (w : Window) (pages : List PageView) (hints : List PageHint) → hints ≡ [] → AreTrueHints w pages hints
-hints-new w pages hints is = hints-none w pages hints (λ n. ap (λ (hs : List PageHint). hint_on hs n) is)
-
 -- One hint.
 
 -- what is known where a hint was put, beyond the last page nothing
@@ -181,30 +178,8 @@ hints-doubted w pages hints hints' n doubts page at true put are =
 
 -- A write by x.
 
-set-hint_other : (hints hints' : List PageHint) (n m : ℕ) (hint : PageHint) → hints' ≡ set hints n hint → m ≢ n → hint_on hints' m ≡ hint_on hints m
-set-hint_other hints hints' n m hint put other = ap (λ (hs : List PageHint). hint_on hs m) put ∙ get_or-set_other hints n m hint nothing_known other
-
 ended : (hints hints' : List PageHint) (n : ℕ) → hints' ≡ set hints n nothing_known → hint_on hints' n ≡ nothing_known
 ended hints hints' n end = ap (λ (hs : List PageHint). hint_on hs n) end ∙ ⊎_elim (λ is. is) (λ is. is) (put-hint hints n nothing_known)
-
-unknown-turn : (hint : PageHint) (turn : ℕ) → hint ≡ nothing_known → hint.turn ≡ Some turn → ⊥
-unknown-turn hint turn none known = none-some turn (sym (ap (λ (h : PageHint). h.turn) none) ∙ known)
-
-pub expects-ended : (w : Window) (x : ℕ) (place : Tid) (hints hints' : List PageHint) → hints' ≡ set hints place.page nothing_known → ExpectsWrite w x place hints hints'
-expects-ended w x place hints hints' end = record {
-  here = λ turn known. absurd (unknown-turn (hint_on hints' place.page) turn (ended hints hints' place.page end) known);
-  doubts = subst (λ (h : PageHint). AreDoubtedBy w x place.slot (hint_on hints place.page).doubts h.doubts) (sym (ended hints hints' place.page end)) tt;
-  others = λ m. set-hint_other hints hints' place.page m nothing_known end;
-}
-
--- nothing is known of the page
-pub expects-nothing : (w : Window) (x : ℕ) (place : Tid) (hints : List PageHint) → (hint_on hints place.page).turn ≡ None → (hint_on hints place.page).doubts ≡ None
-    → ExpectsWrite w x place hints hints
-expects-nothing w x place hints no_turn no_doubts = record {
-  here = λ turn known. absurd (none-some turn (sym no_turn ∙ known));
-  doubts = subst (λ (after : Option (List ℕ)). AreDoubtedBy w x place.slot (hint_on hints place.page).doubts after) (sym no_doubts) tt;
-  others = λ m other. refl;
-}
 
 lowest : (w : Window) (x turn_of turn : ℕ) (known : Option ℕ) → ¬ IsAborted w x → turn_of ≡ turns w.first x → lowered known turn_of ≡ Some turn → IsLowered w x turn known
 lowest w x turn_of turn None live is low = absurd (none-some turn low)
@@ -217,44 +192,11 @@ lowest w x turn_of turn (Some was) live is low =
       later = subst (λ t. turn ≤ t) is (subst (λ t. t ≤ turn_of) same (min-le_right was turn_of));
     }
 
-by-live : (w : Window) (x slot : ℕ) (known after : Option (List ℕ)) → ¬ IsAborted w x → AddsDoubt known slot after → AreDoubtedBy w x slot known after
-by-live w x slot known None live adds = tt
-by-live w x slot known (Some after) live adds = (live, adds)
-
-pub expects-lowered : (w : Window) (x : ℕ) (place : Tid) (turn_of : ℕ) (hints hints' : List PageHint) → ¬ IsAborted w x → turn_of ≡ turns w.first x
-    → Lowers (hint_on hints place.page) turn_of place.slot (hint_on hints' place.page) → ((m : ℕ) → m ≢ place.page → hint_on hints' m ≡ hint_on hints m) → ExpectsWrite w x place hints hints'
-expects-lowered w x place turn_of hints hints' live is low others = record {
-  here = λ turn known. lowest w x turn_of turn (hint_on hints place.page).turn live is (sym low.turn_is ∙ known);
-  doubts = by-live w x place.slot (hint_on hints place.page).doubts (hint_on hints' place.page).doubts live low.doubts_are;
-  others = others;
-}
-
 -- x makes a root, of what is known of its page.
-
-pub roots-ended : (w : Window) (x n : ℕ) (hints hints' : List PageHint) → hints' ≡ set hints n nothing_known → ExpectsRoot w x n hints hints'
-roots-ended w x n hints hints' end = record {
-  here = λ turn known. absurd (unknown-turn (hint_on hints' n) turn (ended hints hints' n end) known);
-  doubts = subst (λ (h : PageHint). AreStillDoubts w x (hint_on hints n).doubts h.doubts) (sym (ended hints hints' n end)) tt;
-  others = λ m. set-hint_other hints hints' n m nothing_known end;
-}
 
 still : (w : Window) (x : ℕ) (known : Option (List ℕ)) → ¬ IsAborted w x → AreStillDoubts w x known known
 still w x None live = tt
 still w x (Some known) live = (live, refl)
-
-pub roots-kept : (w : Window) (x n : ℕ) (hints : List PageHint) → ¬ IsAborted w x → ExpectsRoot w x n hints hints
-roots-kept w x n hints live = record {
-  here = λ turn known. (live, known);
-  doubts = still w x (hint_on hints n).doubts live;
-  others = λ m other. refl;
-}
-
-pub roots-nothing : (w : Window) (x n : ℕ) (hints : List PageHint) → (hint_on hints n).turn ≡ None → (hint_on hints n).doubts ≡ None → ExpectsRoot w x n hints hints
-roots-nothing w x n hints no_turn no_doubts = record {
-  here = λ turn known. absurd (none-some turn (sym no_turn ∙ known));
-  doubts = subst (λ (after : Option (List ℕ)). AreStillDoubts w x (hint_on hints n).doubts after) (sym no_doubts) tt;
-  others = λ m other. refl;
-}
 
 put-here : (pages pages' : PagesView) (n : ℕ) (page : PageView) → PutsPage pages pages' n page → page_in pages'.pages n ≡ page
 put-here pages pages' n page (in_use within is marks) = ap (λ ps. page_in ps n) is ∙ get_or-set_same pages.pages n page unused_page within

@@ -278,13 +278,6 @@ pub vacuum-step : {w : World} {s : ℕ} {after : World} → Happens w s after �
 vacuum-step passes = refl
 vacuum-step {w} _ = refl
 
--- nor makes one too new
-pub scans-step : {w : World} {s : ℕ} {after : World} → Happens w s after → (t index : ℕ) → w.too_new t index ≡ false → after.too_new t index ≡ false
-scans-step {w} {s} (begins within idle) t index may = free-scans w s t index may
-scans-step {w} {s} (begins_by_statement within idle) t index may = free-scans w s t index may
-scans-step passes t index may = may
-scans-step {w} _ t index may = may
-
 -- and a making adds one
 KeepsIndexes-made : (w : World) (index : ℕ) → KeepsIndexes w (with_made_index w index)
 KeepsIndexes-made w index i has = elim (cases_eq i index) [

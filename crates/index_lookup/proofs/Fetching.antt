@@ -10,7 +10,7 @@ use Rattle.page_slots.specs.declared.slot.Slot.{Slot}
 use Rattle.page_slots.specs.Slots.{version_at, row_at}
 use Rattle.page_slots.specs.View.{PageView}
 use Rattle.commit_status.specs.Window.{Window}
-use Rattle.hot_chain.specs.Chain.{has_aborted, first_of, IsChain, NoneSeen, Fetched, IsSeenIn}
+use Rattle.hot_chain.specs.Chain.{has_aborted, first_of, IsChain, NoneSeen, Fetched}
 use Rattle.index_entries.specs.declared.entry.Entry.{Entry}
 use Rattle.index_lookup.specs.Pages.{slots_on, version_in}
 use Rattle.index_lookup.specs.Looking.{IsNextOf, FetchedAt, FirstFound, IsSeenAt, IsFirstPlace, FirstPlace}
@@ -31,18 +31,6 @@ empty-fetched aborted seen n = (
 pub fetched-nowhere : (w : Window) (seen : Header → Type 0) (pages : List PageView) (p : Tid) → slice_get pages p.page ≡ None
     → FetchedAt w seen (map (λ (q : PageView). q.slots) pages) p None
 fetched-nowhere w seen pages p none = subst (λ slots. Fetched (has_aborted w) seen slots p.slot None) (sym (slots-none pages p.page none)) (empty-fetched (has_aborted w) seen p.slot)
-
-pub seen-on_page : (w : Window) (seen : Header → Type 0) (pages : List PageView) (p : Tid) (page : PageView) (chain : List ℕ) → slice_get pages p.page ≡ Some page
-    → IsChain (has_aborted w) page.slots p.slot chain → (n : ℕ) → IsSeenIn seen page.slots chain n
-    → IsSeenAt w seen (map (λ (q : PageView). q.slots) pages) p (record { page = p.page; slot = n })
-seen-on_page w seen pages p page chain at is n first =
-    let same = slots-there pages p.page page at in
-    record {
-      page = refl;
-      chain = chain;
-      is_chain = subst (λ slots. IsChain (has_aborted w) slots p.slot chain) (sym same) is;
-      seen_in = subst (λ slots. IsSeenIn seen slots chain n) (sym same) first;
-    }
 
 pub none-on_page : (w : Window) (seen : Header → Type 0) (pages : List PageView) (p : Tid) (page : PageView) (chain : List ℕ) → slice_get pages p.page ≡ Some page
     → IsChain (has_aborted w) page.slots p.slot chain → NoneSeen seen page.slots chain → FetchedAt w seen (map (λ (q : PageView). q.slots) pages) p None

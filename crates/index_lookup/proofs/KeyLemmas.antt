@@ -12,7 +12,7 @@ use Rattle.hot_chain.proofs.Chains.{chain-one}
 use Rattle.page_slots.specs.declared.slot.Slot.{Slot}
 use Rattle.xid_circle.specs.declared.Tid.{Tid}
 use Rattle.index_lookup.specs.Pages.{page_slots_of, slots_on}
-use Rattle.index_lookup.specs.Looking.{FetchedAt, IsSeenAt, SomeAmong, SomeAt}
+use Rattle.index_lookup.specs.Looking.{FetchedAt, SomeAmong, SomeAt}
 use Rattle.index_lookup.specs.Walking.{LiesIn}
 use Rattle.index_lookup.specs.Keys.{IsNotedVisible, PlaceShows, KeyShows, IsNextKey}
 use Rattle.index_lookup.proofs.SpanLemmas.{IsPlaceOf, lower-precedes}
@@ -25,13 +25,6 @@ none-seen w seen pages p (chain, is, none) other =
     let one = chain-one (has_aborted w) (slots_on pages p.page) p.slot other.chain chain other.is_chain is in
     let some = subst (λ c. SomeAmong seen (slots_on pages p.page) c) one other.some in
     none some.place some.version some.within some.there some.has
-
-pub place-shows : (w : Window) (seen : Header → Type 0) (pages : PagesView) (p q : Tid) → IsSeenAt w seen (page_slots_of pages) p q → PlaceShows w seen pages p
-place-shows w seen pages p q s = inr (record {
-  chain = s.chain;
-  is_chain = s.is_chain;
-  some = record { place = s.seen_in.index; version = s.seen_in.version; within = s.seen_in.first.within; there = s.seen_in.first.there; has = s.seen_in.first.is_seen };
-})
 
 pub place-hides : (w : Window) (seen : Header → Type 0) (pages : PagesView) (p : Tid) → ¬ IsNotedVisible pages.marks p.page → FetchedAt w seen (page_slots_of pages) p None → ¬ PlaceShows w seen pages p
 place-hides w seen pages p unnoted none (inl noted) = unnoted noted

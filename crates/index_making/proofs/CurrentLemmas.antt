@@ -53,9 +53,6 @@ alone-unseen aborted seen slots root h at off none =
 
 -- Where none is current.
 
-pub unrooted-lacks : (w : Window) (slots : List Slot) (root : ℕ) → is_root slots root ≡ false → LacksCurrent w slots root
-unrooted-lacks w slots root unrooted n t leads at current = true≢false (sym leads.starts ∙ unrooted)
-
 pub unseen-lacks : (w : Window) (slots : List Slot) (root : ℕ) → SeenAlong (has_aborted w) (IsCurrent w) slots root None → LacksCurrent w slots root
 unseen-lacks w slots root (chain, is, none) n t leads at current =
     let one = chain-one (has_aborted w) slots root leads.chain chain leads.is_chain is in

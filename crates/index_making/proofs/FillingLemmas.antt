@@ -67,22 +67,12 @@ unsorted batch sorted rest both moved has x = (
   λ there. (has x).1 (⊎_elim (λ first. inl (Contains-permutation batch sorted x moved first)) (λ other. inr other) there),
 )
 
-pub some-unsorted : (batch sorted : List Entry) → IsPermutation batch sorted → HoldsEntry sorted → HoldsEntry batch
-some-unsorted batch sorted moved (x, there) = (x, Contains-permutation sorted batch x (IsPermutation-sym batch sorted moved) there)
-
 -- Its entries are inserted, as far as this place.
 
 pub record Inserted (batch : List Entry) (i : ℕ) (rest now : List Entry) : Type 0 where
   pub each : (k : ℕ) (x : Entry) → k < i → slice_get batch k ≡ Some x → Contains now x
   pub kept : (x : Entry) → Contains rest x → Contains now x
   pub only : (x : Entry) → Contains now x → Contains batch x ⊎ Contains rest x
-
-pub none-inserted : (batch rest now : List Entry) → now ≡ rest → Inserted batch 0 rest now
-none-inserted batch rest now same = record {
-  each = λ k x before at. absurd (omega arith);
-  kept = λ x there. subst (λ (es : List Entry). Contains es x) (sym same) there;
-  only = λ x there. inr (subst (λ (es : List Entry). Contains es x) same there);
-}
 
 pub one-inserted : (batch : List Entry) (i : ℕ) (rest now after : List Entry) (e : Entry) → Inserted batch i rest now → slice_get batch i ≡ Some e → AddsEntry now after e
     → Inserted batch (i + 1) rest after

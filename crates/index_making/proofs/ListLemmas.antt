@@ -39,16 +39,6 @@ not-zero w pages place t first leads = true≢false (sym leads.leads.starts ∙ 
 abbrev HasEntryAt : List Entry → Tid → Type 0
 HasEntryAt entries place = (e : Entry) × Contains entries e × (e.tid ≡ place)
 
-pub none-listed : (w : Window) (pages : List (List Slot)) (number : ℕ) (entries : List Entry) → entries ≡ [] → ListsUpTo w pages number 0 0 entries
-none-listed w pages number entries none = record {
-  each = λ place t before leads. absurd (nothing place before);
-  only = λ e there. absurd (let found = subst (λ (es : List Entry). Contains es e) none there in let within = found.1 in omega arith);
-}
-  where
-    nothing : (place : Tid) → IsPlaceBefore 0 0 place → ⊥
-    nothing place (IsPlaceBefore.earlier_page lt) = absurd (omega arith)
-    nothing place (IsPlaceBefore.earlier_slot same lt) = absurd (omega arith)
-
 -- no page has a slot 0
 pub page-begun : (w : Window) (pages : List (List Slot)) (number p : ℕ) (entries : List Entry) → ListsUpTo w pages number p 0 entries → ListsUpTo w pages number p 1 entries
 page-begun w pages number p entries lists = record { each = by; only = lists.only }

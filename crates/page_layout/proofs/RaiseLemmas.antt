@@ -17,9 +17,6 @@ block-back n block out size room =
 
 -- Pointers are raised one by one.
 
-pub raise-start : (old : List ℕ) (first by : ℕ) → IsRaised old old first first by
-raise-start old first by = record { long = refl; same = λ k outside. refl; raised = λ j h k. absurd (omega arith); plain = λ j h k. absurd (omega arith) }
-
 -- those that are to come are as they were
 pub to-come : (old m : List ℕ) (first i j by : ℕ) → IsRaised old m first i by → i ≤ j → (pointer_in m j ≡ pointer_in old j) × (HasPlainWord old j → HasPlainWord m j)
 to-come old m first i j by raised_ after =

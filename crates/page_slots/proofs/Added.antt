@@ -232,14 +232,6 @@ extent-written a b count e v sound len_is room upper none =
       faultless = none;
     }
 
--- and all others lie above it
-pub all-above : (a b : List ℕ) (count i : ℕ) (e : Extent) (v : Version) → IsSound a count → e.len ≡ size_of v.row → e.from + rounded_size_of v.row ≡ upper_in a
-    → ((j : ℕ) → j < count → pointer_in b j ≡ pointer_in a j) → AreAbove b count i e
-all-above a b count i e v sound len_is room same j d h other is =
-    let end : e.from + next_multiple_of e.len 8 ≡ upper_in a = ap (λ (n : ℕ). e.from + next_multiple_of n 8) len_is ∙ room in
-    let over : upper_in a ≤ d.from = (extent-in a count j d sound h (sym (same j h) ∙ is)).over in
-    omega arith
-
 -- Where no slot holds a version, the upper bound may be anywhere behind the pointers.
 
 pointer-bare : (a b : List ℕ) (count : ℕ) (p : Pointer) → ((e : Extent) → p ≡ Pointer.Normal e → ⊥) → IsPointer a count p → IsPointer b count p

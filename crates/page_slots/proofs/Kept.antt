@@ -87,11 +87,6 @@ hints-slot_none (Normal t) h e = absurd (cc e)
 hints-slot_none (Redirect target) h e = refl
 hints-slot_none Dead h e = refl
 
--- whether another header changes hints alone is read off the one that is there
-pub hints-some : (slots : List Slot) (i : ℕ) (old h : Header) → i < length slots → option_map (λ t. t.header) (option_and_then version_of (slice_get slots i)) ≡ Some old
-    → differs_in_hints_alone (get_or slots i Unused) h ≡ same_but_hints old h
-hints-some slots i old h within e = hints-slot_some (get_or slots i Unused) old h (rw (slice_get-get_or slots i Unused within) at e)
-
 pub hints-none : (slots : List Slot) (i : ℕ) (h : Header) → i < length slots → option_map (λ t. t.header) (option_and_then version_of (slice_get slots i)) ≡ None
     → differs_in_hints_alone (get_or slots i Unused) h ≡ true
 hints-none slots i h within e = hints-slot_none (get_or slots i Unused) h (rw (slice_get-get_or slots i Unused within) at e)

@@ -1,5 +1,5 @@
 -- The bytes of a page have no fault: what is read from a page's own bytes is the page.
-use Rattle.std.proofs.Common.{◌≡◌, ℕ, zero, suc, [], ◌+◌, ◌-◌, ◌*◌, ◌/◌, ◌%◌, ◌<◌, ◌≤◌, ◌==◌, nat_lt, not, ◌||◌, Bool, true, false, ⊎_elim, List, length, Some, None, sym, ap, ◌∙◌, refl, arith}
+use Rattle.std.proofs.Common.{◌≡◌, ℕ, suc, [], ◌+◌, ◌-◌, ◌*◌, ◌/◌, ◌%◌, ◌<◌, ◌≤◌, ◌==◌, nat_lt, not, ◌||◌, Bool, true, false, ⊎_elim, List, length, Some, None, sym, ap, ◌∙◌, refl, arith}
 use Rattle.std.proofs.lemmas.Bool.Decides.{nat_tests}
 use Rattle.std.proofs.lemmas.Option.{slice_get-get_or}
 use Rattle.std.specs.Prelude.{slice_get}
@@ -134,10 +134,3 @@ accepted bytes count sound redirects =
     ∙ each-none (overlap_fault bytes) count (λ i h. overlap-never bytes count i sound h)
 
 -- A page with no slot has no redirect.
-
-empty-leads : (n target : ℕ) → redirect_at [] n ≡ Some target → ⊥
-empty-leads zero target e = absurd (cc e)
-empty-leads (suc i) target e = absurd (cc e)
-
-pub none-lead : (slots : List Slot) → slots ≡ [] → AreSoundRedirects slots
-none-lead slots none n target is = absurd (empty-leads n target (ap (λ (xs : List Slot). redirect_at xs n) (sym none) ∙ is))

@@ -111,11 +111,6 @@ placed-in_order index row (other ∷ rows) none order = elim (cases_Bool (comes_
 
 -- The front of the rows, and what is left.
 
-pub in_order-drop : (index n : ℕ) (rows : List Row) → IsInOrder index rows → IsInOrder index (drop n rows)
-in_order-drop index zero rows order = order
-in_order-drop index (suc n) [] order = tt
-in_order-drop index (suc n) (row ∷ rows) order = in_order-drop index n rows order.2
-
 row_in-drop_none : (n : ℕ) (rows : List Row) (key : ℕ) → row_of_key rows key ≡ None → row_of_key (drop n rows) key ≡ None
 row_in-drop_none zero rows key none = none
 row_in-drop_none (suc n) [] key none = refl

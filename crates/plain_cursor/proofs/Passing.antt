@@ -1,15 +1,14 @@
 -- Rows that are passed over.
-use Rattle.std.proofs.Common.{◌≡◌, ◌≢◌, ℕ, List, [], ◌∷◌, Option, Some, None, Bool, true, false, cond, nat_eq, refl, sym, ap, ◌∙◌, subst, ◌⊎◌, inl, inr}
+use Rattle.std.proofs.Common.{◌≡◌, ◌≢◌, ℕ, List, [], ◌∷◌, Option, None, Bool, true, false, cond, nat_eq, refl, sym, ap, ◌∙◌, subst, ◌⊎◌, inl, inr}
 use Rattle.std.specs.Prelude.{not}
 use Rattle.std.specs.List.{list_any, filter}
 use mathlib.Core.Path.{fun_ext}
 use Rattle.std.proofs.lemmas.Bool.{cases_eq, cases_Bool, cond-true, cond-false}
 use Rattle.tuple_header.specs.declared.version.Row.{Row}
-use Rattle.history.specs.World.{Cursor, Order}
 use Rattle.history.specs.Moves.{past}
 use Rattle.history.specs.Cursors.{without}
-use Rattle.plain_cursor.specs.Order.{KeptCursor, row_of_key, ComesBeforeAll, IsInOrder, index_of, rows_without}
-use Rattle.plain_cursor.specs.Hands.{plain_order_of, cursor_of}
+use Rattle.plain_cursor.specs.Order.{KeptCursor, row_of_key, ComesBeforeAll, IsInOrder, rows_without}
+use Rattle.plain_cursor.specs.Hands.{cursor_of}
 use Rattle.plain_cursor.proofs.Ordered.{row_in-head, row_in-tail, other_key, rest_key}
 
 kept : (test : Row → Bool) (row : Row) (rows : List Row) → test row ≡ true → filter test (row ∷ rows) ≡ row ∷ filter test rows
@@ -41,9 +40,6 @@ in_order-filter index test (row ∷ rows) order = elim (cases_Bool (test row)) [
 
 abbrev is_taken : List ℕ → ℕ → Bool
 is_taken keys key = list_any (λ taken. nat_eq taken key) keys
-
-not_taken : (b : Bool) → b ≡ false → not b ≡ true
-not_taken b is = ap not is
 
 all_none : (b : Bool) (o : Option Row) → o ≡ None → o ≡ cond b None o
 all_none true o is = is

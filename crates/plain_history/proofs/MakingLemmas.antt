@@ -1,12 +1,11 @@
 -- Who holds a key, and what the making of an index notes.
-use Rattle.std.proofs.Common.{◌≡◌, ℕ, suc, ◌+◌, ◌<◌, ◌≤◌, List, [], ◌∷◌, ◌++◌, length, drop, set, get_or, Option, Some, None, Bool, true, false, cond, nat_eq, refl, sym, ap, ◌∙◌, subst, add-one, inl, inr, arith}
+use Rattle.std.proofs.Common.{◌≡◌, ℕ, suc, ◌+◌, ◌<◌, ◌≤◌, List, [], ◌∷◌, ◌++◌, length, set, get_or, Option, Some, None, Bool, true, false, cond, nat_eq, refl, sym, ap, ◌∙◌, subst, add-one, inl, inr, arith}
 use Rattle.std.specs.Prelude.{IsSome, IsTrue}
 use Rattle.std.specs.Option.{option_map}
 use mathlib.Core.Path.{fun_ext}
 use Rattle.std.proofs.lemmas.Bool.{cases_eq, cases_lt}
 use Rattle.std.proofs.lemmas.List.{append-nil, get_or-set_same, get_or-set_other, get_or_default, get_or_past, length-set}
 use Rattle.std.proofs.lemmas.List.Elements.{Contains-push, Contains-append_left, Contains-append_right}
-use Rattle.std.proofs.Math.Seq.{drop-cons}
 use Rattle.history.specs.History.{Write, written}
 use Rattle.history.specs.World.{World, OpenSession, Holds, NoKeyIsHeld, joined, own_write, is_indexed}
 use Rattle.history.specs.Moves.{is_open_by_snapshot, with_made_index}
@@ -29,11 +28,6 @@ pub nothing_written : (levels : List (List Write)) → has_written levels ≡ fa
 nothing_written [] is = refl
 nothing_written ([] ∷ older) is = append-nil (joined older) ∙ nothing_written older is
 nothing_written ((write ∷ later) ∷ older) is = absurd (cc)
-
--- the levels from place i on
-pub has_written-drop : (levels : List (List Write)) (i : ℕ) (x : List Write) → i < length levels → x ≡ get_or levels i x → has_written (drop i levels) ≡ has_written (x ∷ drop (i + 1) levels)
-has_written-drop levels i x lt is =
-    ap has_written (drop-cons levels i x lt) ∙ (ap (λ y. has_written (y ∷ drop (suc i) levels)) (sym is) ∙ ap (λ j. has_written (x ∷ drop j levels)) (sym (add-one i)))
 
 -- who has written holds a key, and the other way round
 pub wrote_key : (session : Option OpenSession) → holds_any_key session ≡ true → (key : ℕ) × (m : OpenSession) × (session ≡ Some m) × IsSome (own_write m key)

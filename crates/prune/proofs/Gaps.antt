@@ -21,10 +21,6 @@ pub gaps-map : (Q R : ℕ → Type 0) (low bound : ℕ) (xs : List ℕ) → ((n 
 gaps-map Q R low bound [] f l = λ n over below. f n (l n over below)
 gaps-map Q R low bound (x ∷ rest) f l = (l.0, l.1, (λ n over below. f n (l.2 n over below)), gaps-map Q R x bound rest f l.3)
 
--- there is nothing between neighbours
-pub gaps-none : (Q : ℕ → Type 0) (low : ℕ) → ListsAllBut Q low [] (low + 1)
-gaps-none Q low = λ n over below. absurd (omega arith)
-
 -- a number in between is listed, or Q is so of it
 pub gaps-found : (Q : ℕ → Type 0) (low bound n : ℕ) (xs : List ℕ) → ListsAllBut Q low xs bound → low < n → n < bound
     → Q n ⊎ ((k : ℕ) × (k < length xs) × (get_or xs k 0 ≡ n))

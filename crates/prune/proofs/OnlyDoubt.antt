@@ -22,7 +22,6 @@ use Rattle.prune.specs.Pruning.{root_action, chain_action, orphan_action, IsInCh
 use Rattle.prune.specs.Marks.{NoneDead, IsSpared}
 use Rattle.prune.specs.Glances.{IsPlainAt, ArePlainBut, AreDoubts}
 use Rattle.prune.specs.OneDoubt.{BeginsIn, AreThose, first_cut}
-use Rattle.prune.proofs.Passed.{kept-alive}
 use Rattle.prune.proofs.Idle.{spared-does, nothing-lost}
 use Rattle.prune.proofs.Stays.{stays-none_dead}
 use Rattle.prune.proofs.Glancing.{starts-stays}
@@ -35,12 +34,6 @@ one-alone n m c =
     let p = place-of m (n ∷ []) c in
     let at : p.0 ≡ 0 = (let within = p.1 in omega arith) in
     sym p.2 ∙ ap (λ i. get_or (n ∷ []) i 0) at
-
-plain-alive : (w : Window) (horizon : ℕ) (slots : List Slot) (n : ℕ) → IsPlainAt w slots n → ¬ IsDeadAt w horizon slots n
-plain-alive w horizon slots n plain dead =
-    let h = dead.version.header in
-    let p = plain h (ap (option_map (λ (t : Version). t.header)) dead.there) in
-    kept-alive w horizon h.xmin.0 h p.1 refl p.0 dead.dead
 
 module _ (w : Window) (horizon : ℕ) (slots : List Slot) (n : ℕ) (few : length slots ≤ 291) (known : ArePlainBut w slots (n ∷ [])) where
   other-plain : (m : ℕ) → m ≢ n → IsPlainAt w slots m
@@ -173,9 +166,6 @@ module _ (w : Window) (horizon : ℕ) (slots : List Slot) (n : ℕ) (few : lengt
 -- of the first so many of these slots each is 0 or this one, or its version is plain
 abbrev pub IsOnlyUpTo : Window → List Slot → List ℕ → ℕ → ℕ → Type 0
 IsOnlyUpTo w slots numbers upto only = (k : ℕ) → k < upto → get_or numbers k 0 ≢ 0 → get_or numbers k 0 ≢ only → IsPlainAt w slots (get_or numbers k 0)
-
-pub only-none : (w : Window) (slots : List Slot) (numbers : List ℕ) → IsOnlyUpTo w slots numbers 0 0
-only-none w slots numbers k lt = absurd (omega arith)
 
 -- the next one is passed over
 pub only-more : (w : Window) (slots : List Slot) (numbers : List ℕ) (i only : ℕ) → (get_or numbers i 0 ≢ 0 → get_or numbers i 0 ≢ only → IsPlainAt w slots (get_or numbers i 0))

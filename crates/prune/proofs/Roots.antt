@@ -19,10 +19,6 @@ pub data IsMarkSoFar (w : Window) (horizon : ℕ) (slots : List Slot) (bound n :
   by_none : ((root : ℕ) (chain : List ℕ) → root < bound → IsInChainOf (has_aborted w) slots root chain n → NoneDead w horizon slots chain)
       → mark ≡ Orphan → IsMarkSoFar w horizon slots bound n mark
 
-pub so_far-none : (w : Window) (horizon : ℕ) (slots : List Slot) (n : ℕ) (mark : PruneVerdict) → mark ≡ Orphan → IsMarkSoFar w horizon slots 1 n mark
-so_far-none w horizon slots n mark e =
-    IsMarkSoFar.by_none (λ root chain h i. let there = (root-there slots root i.starts).0 in absurd (omega arith)) e
-
 -- the slots from one bound to another are no roots, or plainly stay
 pub so_far-jump : (w : Window) (horizon : ℕ) (slots : List Slot) (bound more n : ℕ) (mark : PruneVerdict)
     → ((root : ℕ) → bound ≤ root → root < more → is_root slots root ≡ true → PlainlyStays w horizon slots root)

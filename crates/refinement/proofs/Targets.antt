@@ -12,13 +12,12 @@ use Rattle.history.specs.World.{World}
 use Rattle.refinement.specs.Heap.{SeenSession, Heap, SightOfStatement, StatementSees}
 use Rattle.visibility.specs.Seeing.{HasCommitted, HasAborted, Reads, by_itself, by_others, Touches, deleted_by, inserter, deleter}
 use Rattle.refinement.specs.Visible.{ReaderSees, At}
-use Rattle.refinement.specs.Changes.{GivesNext, SameSight, MayRemove, IsPast}
+use Rattle.refinement.specs.Changes.{GivesNext, SameSight}
 use Rattle.refinement.specs.Agrees.{HeapAgrees}
 use Rattle.refinement.specs.Finds.{Free}
 use Rattle.refinement.proofs.Statuses.{keeps-give, none_given, IsCommitted-give}
 use Rattle.visibility.proofs.Verdicts.{VisibleBy-same}
 use Rattle.refinement.proofs.Isolations.{SameSights, statement_same, committed_sight-give}
-use Rattle.refinement.proofs.Pruning.{past_unseen, statement_reader}
 
 -- who made it has committed, or is the session itself
 pub maker_of : (h : Heap) (e : SeenSession) (old : Version) → ReaderSees h.status (StatementSees h e.isolation) e.own old → (y : ℕ) → inserter old.header ≡ Some y → HasCommitted h.status y ⊎ Contains e.own y
@@ -54,12 +53,3 @@ visible_given h w s e x place old status' sees' at gives sights agrees stood see
       | inr now ↦ absurd (none_given (h.status x) gives.fresh (subst (λ z. IsSome (h.status z)) (sym now) (agrees.given place y old stood touch)))
     ]
     back y touch (by_others sees done) = (let was = IsCommitted-give gives y done in by_others ((same y Committed was).1 sees) was)
-
--- cleaning leaves it where it is
-pub visible_stays : (h : Heap) (w : World) (s : ℕ) (e : SeenSession) (place : Tid) (old : Version) (store' : Tid → Option Version)
-    → h.session s ≡ Some e → MayRemove h.version store' (IsPast h.status h.sees h.session) → HeapAgrees h w → At h.version place old
-    → ReaderSees h.status (StatementSees h e.isolation) e.own old → At store' place old
-visible_stays h w s e place old store' at removes agrees stood seen = elim (removes.gone place old stood) [
-  | inl stays ↦ stays
-  | inr past ↦ absurd (past_unseen (statement_reader h s e e.own at (agrees.opened s e at).2.own_active) old past seen)
-]

@@ -1,5 +1,5 @@
 -- Bytes that are those of a page, or are not.
-use Rattle.std.proofs.Common.{◌≡◌, ℕ, ◌<◌, List, length, refl, arith, Option, None, Some, Ok, Err, false}
+use Rattle.std.proofs.Common.{◌≡◌, ℕ, ◌<◌, List, length, refl, arith, Option, None, Some, Ok, false}
 use Rattle.std.specs.Bool.{◌==◌}
 use Rattle.std.proofs.lemmas.Bool.Decides.{nat_tests}
 use Rattle.page_slots.specs.View.{PageView}
@@ -32,7 +32,3 @@ none_some fault e = absurd (cc)
 pub ok_page : (p q : PageView) (o : Option PageFault) → Ok q ≡ unless_fault p o → (o ≡ None) × (q ≡ p)
 ok_page p q None e = (refl, cc)
 ok_page p q (Some fault) e = absurd (cc)
-
-pub err_page : (p : PageView) (o : Option PageFault) (fault : PageFault) → Err fault ≡ unless_fault p o → o ≡ Some fault
-err_page p None fault e = absurd (cc)
-err_page p (Some other) fault e = cc

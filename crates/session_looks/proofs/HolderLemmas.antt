@@ -1,20 +1,18 @@
 -- Who holds the horizon back; where nobody does, it is the next id. And who has an id.
-use Rattle.std.proofs.Common.{◌≡◌, ◌⊎◌, ℕ, ◌+◌, ◌<◌, ◌≤◌, List, [], ◌∷◌, take, length, Option, Some, None, arith, inl, inr, ⊎_elim, refl, sym, ap, ◌∙◌, subst, slice_get}
-use Rattle.std.specs.Prelude.{Contains, ◌↔◌, IsSome, MatchOption}
+use Rattle.std.proofs.Common.{◌≡◌, ◌⊎◌, ℕ, ◌+◌, ◌<◌, ◌≤◌, List, [], ◌∷◌, take, length, None, arith, inl, inr, ⊎_elim, refl, sym, ◌∙◌, subst, slice_get}
+use Rattle.std.specs.Prelude.{Contains, ◌↔◌}
 use Rattle.std.proofs.lemmas.Bool.{cases_lt}
-use Rattle.std.proofs.lemmas.Option.{same_Some, none-some}
-use Rattle.std.proofs.lemmas.List.Elements.{Contains-append_cases}
-use Rattle.xid_circle.proofs.Members.{Contains-first, Contains-rest, Contains-one, Contains-none}
+use Rattle.std.proofs.lemmas.Option.{none-some}
+use Rattle.xid_circle.proofs.Members.{Contains-first, Contains-rest, Contains-none}
 use Rattle.commit_status.specs.Window.{next_id}
-use Rattle.snapshot.specs.Snap.{Snap, earlier, earliest}
+use Rattle.snapshot.specs.Snap.{earlier, earliest}
 use Rattle.snapshot.proofs.Earliest.{earlier-cases}
 use Rattle.calls.specs.declared.reply.Refusal.{Refusal}
 use Rattle.calls.specs.declared.reply.Refusal.TheVariants as refusal
 use Rattle.calls.specs.Bars.{BarsOpen}
-use Rattle.sessions.specs.declared.session.Session.{Session}
 use Rattle.session_steps.specs.Keeps.{IsOwned}
 use Rattle.session_steps.specs.State.{State, session_at, engine_sessions, horizon_of}
-use Rattle.sessions.specs.Session.{kept_by, kept_xmin, holds_back, held_back}
+use Rattle.sessions.specs.Session.{held_back}
 use Rattle.session_steps.proofs.Horizons.{held-cases}
 use Rattle.session_steps.proofs.OwnIdsLemmas.{open-within}
 use Rattle.session_looks.specs.Holders.{IsNoHolder, HasId}
@@ -45,39 +43,11 @@ barred-none st s refusal.NoSuchSession bars within = absurd (omega arith)
 barred-none st s refusal.NotOpen bars within = bars.1
 barred-none st s _ bars within = absurd bars
 
-pub idle-holds_nothing : (st : State) (s : ℕ) → session_at st s ≡ None → IsNoHolder st s
-idle-holds_nothing st s idle e at holds = none-some e (sym idle ∙ at)
-
-pub idle-has_none : (st : State) (x s : ℕ) → session_at st s ≡ None → ¬ HasId st x s
-idle-has_none st x s idle has = none-some has.0 (sym idle ∙ has.1)
-
-pub open-has : (st : State) (x s : ℕ) (e : Session) → session_at st s ≡ Some e → HasId st x s → Contains e.own.ids x
-open-has st x s e at has = subst (λ (f : Session). Contains f.own.ids x) (same_Some has.0 e (sym has.1 ∙ at)) has.2
-
 -- what a session holds back, by its parts
-
-pub kept-one : (o : Option Snap) (snap : Snap) (x : ℕ) → o ≡ Some snap → (snap.xmin ≡ x) ↔ Contains (kept_xmin o) x
-kept-one o snap x is = subst (λ p. (snap.xmin ≡ x) ↔ Contains (kept_xmin p) x) (sym is) (
-  λ same. subst (Contains (snap.xmin ∷ [])) same (Contains-first snap.xmin []),
-  λ c. Contains-one snap.xmin x c,
-)
-
-pub kept-none : (o : Option Snap) (x : ℕ) → o ≡ None → ¬ Contains (kept_xmin o) x
-kept-none o x is c = Contains-none x (subst (λ p. Contains (kept_xmin p) x) is c)
-
-pub first-one : (ids : List ℕ) (first x : ℕ) → slice_get ids 0 ≡ Some first → (first ≡ x) ↔ Contains (take 1 ids) x
-first-one [] first x is = absurd (none-some first is)
-first-one (y ∷ ys) first x is = (
-  λ same. subst (Contains (y ∷ [])) (same_Some y first is ∙ same) (Contains-first y []),
-  λ c. sym (same_Some y first is) ∙ Contains-one y x c,
-)
 
 pub first-none : (ids : List ℕ) (x : ℕ) → slice_get ids 0 ≡ None → ¬ Contains (take 1 ids) x
 first-none [] x is c = Contains-none x c
 first-none (y ∷ ys) x is c = none-some y (sym is)
-
-pub holds-neither : (e : Session) (x : ℕ) → ¬ Contains (kept_xmin (kept_by e.isolation)) x → ¬ Contains (take 1 e.own.ids) x → ¬ Contains (holds_back e) x
-holds-neither e x unkept other c = ⊎_elim unkept other (Contains-append_cases (kept_xmin (kept_by e.isolation)) (take 1 e.own.ids) x c)
 
 -- Who has an id.
 

@@ -1,6 +1,6 @@
 -- The sessions that are marked, where an index is made.
 use Rattle.std.proofs.Common.{◌≡◌, ◌≢◌, ℕ, suc, ◌<◌, ◌≤◌, List, [], ◌∷◌, ◌++◌, ◌+◌, length, Option, Some, None, refl, sym, ap, ◌∙◌, subst, arith}
-use Rattle.std.specs.Prelude.{Contains, MatchOption, is_some}
+use Rattle.std.specs.Prelude.{Contains, MatchOption}
 use Rattle.std.specs.Option.{option_map}
 use Rattle.std.proofs.lemmas.Option.{none-some}
 use Rattle.commit_status.specs.Window.{Window}
@@ -11,7 +11,7 @@ use Rattle.session_steps.specs.State.{State, engine_index, reader_of}
 use Rattle.sessions.specs.Session.{holds_back, held_back}
 use Rattle.sessions.specs.Places.{HoldsOpen, open_at}
 use Rattle.session_steps.specs.Keeps.{IsOwned, EngineKeeps}
-use Rattle.session_steps.specs.Making.{HasIndexOn, LacksIndexOn, SomeoneHasId, NobodyHasId}
+use Rattle.session_steps.specs.Making.{LacksIndexOn, SomeoneHasId, NobodyHasId}
 use Rattle.sessions.specs.Marks.{MarksSession, MarksPlace, MarksAll}
 
 -- The sessions are those that were, with their marks.
@@ -74,9 +74,6 @@ keeps-marked number xs ys w marks keeps = record {
 -- The index that is looked for by its number, that of the column and one.
 next-is : (c : ℕ) → c + 1 ≡ suc c
 next-is c = omega arith
-
-pub has-at : (st : State) (c : ℕ) (index : IndexView) → ¬ (3 < c) → engine_index st (c + 1) ≡ Some index → HasIndexOn st c
-has-at st c index off at = (omega (arith, off), ap is_some (ap (engine_index st) (sym (next-is c)) ∙ at))
 
 pub lacks-at : (st : State) (c : ℕ) → c ≤ 3 → engine_index st (c + 1) ≡ None → LacksIndexOn st c
 lacks-at st c off none = (omega (arith, off), ap (engine_index st) (sym (next-is c)) ∙ none)

@@ -8,7 +8,7 @@ use Rattle.tuple_header.specs.declared.version.Row.{Row}
 use Rattle.tuple_header.specs.Version.{Version}
 use Rattle.xid_circle.specs.declared.Tid.{Tid}
 use Rattle.xid_circle.specs.declared.Xid.{Xid}
-use Rattle.commit_status.specs.Window.{Window, place, status_of}
+use Rattle.commit_status.specs.Window.{place}
 use Rattle.commit_status.specs.Window as window
 use Rattle.visibility.specs.Visible as visibility
 use Rattle.index_lookup.specs.Pages.{version_in}
@@ -25,7 +25,7 @@ use Rattle.visibility.specs.Visible.{state_of}
 use Rattle.session_steps.specs.State.{State, session_at, seen, position_of, reader_of}
 use Rattle.sessions.specs.Session.{statement_snapshot}
 use Rattle.session_steps.specs.Agrees.{Agrees}
-use Rattle.session_steps.specs.Tests.{FindsPlace, IsLateBy, IsHeldUnder, IsUncontested, ConflictsWrite, RefusesInsertOfKey, RefusesChangeOfKey}
+use Rattle.session_steps.specs.Tests.{FindsPlace, IsLateBy, IsHeldUnder, IsUncontested, ConflictsWrite, RefusesInsertOfKey}
 use Rattle.session_steps.specs.Tests as tests
 use Rattle.session_steps.proofs.Owns.{reader-is}
 use Rattle.session_steps.proofs.Statements.{statement_sight, statement-sees, statement-misses}
@@ -147,11 +147,6 @@ pub delayed-insert : (st : State) (s key : ℕ) (e : Session) (r : Refusal) → 
 delayed-insert st s key e refusal.Conflict reads delays = record { session = e; reads = reads; delays = delays }
 delayed-insert st s key e (refusal.Busy o) reads delays = record { session = e; reads = reads; delays = delays }
 delayed-insert st s key e _ reads delays = absurd delays
-
-pub delayed-change : (st : State) (s key : ℕ) (e : Session) (p : Tid) (r : Refusal) → tests.ReadsPlace st s e key (Some p) → ConflictsWrite st e key r → RefusesChangeOfKey st s key r
-delayed-change st s key e p refusal.Conflict reads delays = (p, record { session = e; reads = reads; delays = delays })
-delayed-change st s key e p (refusal.Busy o) reads delays = (p, record { session = e; reads = reads; delays = delays })
-delayed-change st s key e p _ reads delays = absurd delays
 
 -- What a session that may act, and reads this of the key, may do.
 

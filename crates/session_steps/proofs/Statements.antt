@@ -2,12 +2,11 @@
 use Rattle.std.proofs.Common.{◌≡◌, ℕ, List, Option, Some, None, refl, sym, ap, ◌∙◌, subst, ◌⊎◌, inl, inr}
 use Rattle.std.specs.Prelude.{◌↔◌, IsSome}
 use Rattle.std.proofs.lemmas.Option.{same_Some, none-some}
-use Rattle.tuple_header.specs.declared.version.Header.{Header}
 use Rattle.tuple_header.specs.Version.{Version}
 use Rattle.commit_status.specs.declared.status.Status.TheVariants.{Committed}
 use Rattle.commit_status.specs.Window.{Window, IsWindow, next_id}
 use Rattle.snapshot.specs.Snap.{Snap, Sees, empty_at}
-use Rattle.visibility.specs.Seeing.{Reads, VisibleBy}
+use Rattle.visibility.specs.Seeing.{Reads}
 use Rattle.visibility.specs.Visible.{state_of, ReadsIn, IsVisible, IsNewerCommitIn}
 use Rattle.visibility.proofs.Makers.{state-some}
 use Rattle.visibility.proofs.Statements.{given-before, statement-reads}
@@ -26,13 +25,6 @@ statement_sight st i = relation.StatementSees (seen st) (isolation_seen i)
 
 abbrev pub cursor_sight : State → SessionIsolation → ℕ → Type 0
 cursor_sight st i = relation.CursorSees (seen st) (isolation_seen i)
-
--- what sees the same ids sees the same versions
-same-visible : (A B : ℕ → Type 0) (h : Header) → ((x : ℕ) → A x ↔ B x) → VisibleBy A h ↔ VisibleBy B h
-same-visible A B h same = (
-  λ v. record { made = λ x is. (same x).0 (v.made x is); kept = λ x is reads. v.kept x is ((same x).1 reads) },
-  λ v. record { made = λ x is. (same x).1 (v.made x is); kept = λ x is reads. v.kept x is ((same x).0 reads) },
-)
 
 module _ (st : State) (is : IsWindow st.heap.statuses) where
   statement-counts : (i : SessionIsolation) (own : List ℕ) (x : ℕ) → ReadsIn st.heap.statuses (statement_snapshot st.heap.statuses i) own x ↔ Reads (state_of st.heap.statuses) (statement_sight st i) own x
@@ -82,11 +74,6 @@ KeepsForCursor e = IsByStatement e.isolation → IsSome (kept_by e.isolation) �
 
 pub for-same : (e now : Session) → now.isolation ≡ e.isolation → now.cursor ≡ e.cursor → KeepsForCursor e → KeepsForCursor now
 for-same e now reads cursor h by kept = subst (λ o. IsSome o) (sym cursor) (h (subst (λ i. IsByStatement i) reads by) (subst (λ i. IsSome (kept_by i)) reads kept))
-
--- by snapshot nothing else is kept
-pub keeping-snapshot : (i : SessionIsolation) (kept other : Option Snap) → ¬ IsByStatement i → keeping kept i ≡ keeping other i
-keeping-snapshot (BySnapshot snap) kept other not = refl
-keeping-snapshot (ByStatement old) kept other not = absurd (not tt)
 
 -- by statement nothing is kept where nothing is taken
 pub kept-after : (i : SessionIsolation) (taken : Option Snap) (snap : Snap) → kept_by (keeping taken i) ≡ Some snap → (kept_by i ≡ Some snap) ⊎ (taken ≡ Some snap)

@@ -1,14 +1,11 @@
 -- How many rows or keys a reply has.
-use Rattle.std.proofs.Common.{◌≤◌, ℕ, min, max, List, length, Vec, ap, arith}
-use Rattle.std.specs.declared.alloc.Global.{Global}
+use Rattle.std.proofs.Common.{◌≤◌, ℕ, min, max, List, length, ap, arith}
 use Rattle.tuple_header.specs.declared.version.Row.{Row}
 use Rattle.tuple_header.specs.declared.version.TheConstants.{MOST_SLOTS}
-use Rattle.history.specs.World.{World}
 use Rattle.calls.specs.declared.step.Step.{Step}
 use Rattle.calls.specs.declared.step.Step.TheVariants as step
 use Rattle.calls.specs.declared.reply.Reply.{Reply}
 use Rattle.calls.specs.declared.reply.Reply.TheVariants as reply
-use Rattle.refinement.specs.Allowed.{Allows}
 use Rattle.table_indexes.specs.Indexes.{IndexesView, entries_in}
 use Rattle.table_scans.specs.declared.progress.Scan.{Scan}
 use Rattle.table_scans.specs.declared.progress.Scan.TheVariants.{Index, Heap}
@@ -22,20 +19,6 @@ use Rattle.shared_heap.proofs.Scanned.{few-scanned, few-keys_scanned}
 -- no index has more entries than this
 abbrev pub HasNoMore : IndexesView → ℕ → Type 0
 HasNoMore indexes most = (i : ℕ) → length (entries_in indexes i) ≤ most
-
--- no step but a cursor's or that of a page is answered rows, or keys
-pub data AsksForRows : Step → Type 0 where
-  next : (s n : ℕ) → AsksForRows (step.Next s n)
-  page : (s p : ℕ) → AsksForRows (step.TakePage s p)
-
-no_rows : (w : World) (step : Step) (rows : Vec Row Global) → Allows w step (reply.Rows rows) → AsksForRows step
-no_rows w (step.Next s n) rows allows = next s n
-no_rows w (step.TakePage s p) rows allows = page s p
-no_rows w _ rows allows = absurd allows
-
-no_keys : (w : World) (step : Step) (keys : Vec ℕ Global) → Allows w step (reply.Keys keys) → AsksForRows step
-no_keys w (step.Next s n) keys allows = next s n
-no_keys w _ keys allows = absurd allows
 
 few : (t : Sight) (scan : Scan) (n most : ℕ) (rows : List Row) (after : Scan) → HasNoMore t.heap.indexes most → Takes t scan n rows after
     → length rows ≤ max (min (max n 1) most) MOST_SLOTS
@@ -64,11 +47,6 @@ room-page old s p room enough w new (reply.Rows rows) agrees follows exact =
     let same = ap length are.2 in omega (arith, few, same, enough)
 room-page old s p room enough w new (reply.Keys keys) agrees follows exact = absurd exact.0.core
 room-page old s p room enough w new _ agrees follows exact = tt
-
-pub room-other : (old : WaitingView) (step : Step) (room : ℕ) → (AsksForRows step → ⊥) → HasRoomFor old step room
-room-other old step room other w new (reply.Rows rows) agrees follows exact = absurd (other (no_rows w step rows (follows w agrees).0))
-room-other old step room other w new (reply.Keys keys) agrees follows exact = absurd (other (no_keys w step keys (follows w agrees).0))
-room-other old step room other w new _ agrees follows exact = tt
 
 fits-more : (reply : Reply) (n m : ℕ) → n ≤ m → ListFits reply n → ListFits reply m
 fits-more (reply.Rows rows) n m more fits = omega arith

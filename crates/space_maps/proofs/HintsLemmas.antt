@@ -1,8 +1,8 @@
 -- What hints say after one of them changes, one is added, or an epoch ends.
-use Rattle.std.proofs.Common.{◌≡◌, ◌∙◌, ℕ, zero, suc, ◌<◌, ◌≤◌, inl, inr, ⊎_elim, ◌⊎◌, List, [], ◌∷◌, ◌++◌, map, set, length, Option, Some, None, refl, sym, ap, subst, arith, slice_index_or}
+use Rattle.std.proofs.Common.{◌≡◌, ◌∙◌, ℕ, ◌<◌, ◌≤◌, inl, inr, ⊎_elim, ◌⊎◌, List, [], ◌∷◌, ◌++◌, map, set, length, Option, Some, None, refl, sym, ap, subst, arith, slice_index_or}
 use Rattle.std.specs.List.{All}
 use Rattle.std.proofs.lemmas.Bool.{cases_lt, cases_eq, eq-eqb, ne_eqb}
-use Rattle.std.proofs.lemmas.List.{map-set, get_or-map, get_or_past, get_or-set_same, get_or-set_other, get_or_default, length-map, length-set, map-append}
+use Rattle.std.proofs.lemmas.List.{map-set, get_or-map, get_or_past, get_or-set_same, get_or-set_other, get_or_default, length-map, length-set}
 use Rattle.space_maps.specs.Hints.{PageHint, nothing_known, hint_on, hint_in, AddsDoubt}
 use Rattle.space_maps.specs.declared.prune_hints.PruneHint.{PruneHint}
 
@@ -32,19 +32,6 @@ pub pages-set : (now : ℕ) (hints : List PruneHint) (n : ℕ) (turn : Option �
     → pages_in now (set hints n (record { epoch = now; turn = turn; doubts = doubts })) ≡ set (pages_in now hints) n (record { turn = turn; doubts = doubts })
 pages-set now hints n turn doubts =
     map-set (says now) hints n (record { epoch = now; turn = turn; doubts = doubts }) ∙ ap (set (pages_in now hints) n) (says-now now turn doubts)
-
-unknown-added : (hints : List PageHint) (n : ℕ) → hint_on (hints ++ nothing_known ∷ []) n ≡ hint_on hints n
-unknown-added [] zero = refl
-unknown-added [] (suc n) = refl
-unknown-added (h ∷ hs) zero = refl
-unknown-added (h ∷ hs) (suc n) = unknown-added hs n
-
--- one that says nothing is added
-pub pages-push : (now : ℕ) (hints : List PruneHint) (n : ℕ)
-    → hint_on (pages_in now (hints ++ nothing now ∷ [])) n ≡ hint_on (pages_in now hints) n
-pages-push now hints n =
-    ap (λ pages. hint_on pages n) (map-append (says now) hints (nothing now ∷ []) ∙ ap (λ t. pages_in now hints ++ t ∷ []) (says-now now None None))
-    ∙ unknown-added (pages_in now hints) n
 
 -- in a later epoch all say nothing
 pub pages-later : (now later : ℕ) (hints : List PruneHint) → now < later → All (λ (hint : PruneHint). hint.epoch ≤ now) hints

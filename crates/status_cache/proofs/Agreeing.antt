@@ -21,7 +21,7 @@ use Rattle.visibility.proofs.Makers.{state-some, state-is}
 use Rattle.std.specs.Map.{lookup}
 use Rattle.status_cache.proofs.HeldLemmas.{same-number}
 use Rattle.status_cache.specs.declared.cache.TheConstants.{MOST_STATUSES}
-use Rattle.status_cache.specs.Held.{HaveEnded, CacheAgrees, KeepsCache, CachesStatus, is_put, is_left, held_from}
+use Rattle.status_cache.specs.Held.{HaveEnded, CacheAgrees, CachesStatus, is_put, is_left, held_from}
 
 -- what has ended is remembered
 pub ended-state : (w : Window) (x : ℕ) (status : Status) → status ≢ InProgress → status_of w x ≡ status → state_of w x ≡ Some status
@@ -91,7 +91,3 @@ truncating-keeps w v c held is iv up t agrees e there =
     late : IsUpToNext w e.0 → is_before e.0 c ≡ false → (turns w.first e.0 < turns w.first c) ⊎ (turns w.first c ≤ turns w.first e.0) → turns w.first c ≤ turns w.first e.0
     late ue other (inl less) = absurd (let yes = precedes-before e.0 c ((precedes-turns w e.0 c is ue up).1 less) in cc)
     late ue other (inr ge) = ge
-
--- a cache that holds nothing agrees with any table
-pub nothing-keeps : (held : List (ℕ × Status)) (w : Window) → held ≡ [] → KeepsCache (Some held) w
-nothing-keeps held w is = subst (λ held. KeepsCache (Some held) w) (sym is) (λ e there. absurd (Contains-nil e there), λ e there. absurd (Contains-nil e there))

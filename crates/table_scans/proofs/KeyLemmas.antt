@@ -1,5 +1,5 @@
 -- Keys are met on a scan over keys alone, key by key, and listed or written to places.
-use Rattle.std.proofs.Common.{◌≡◌, ℕ, suc, ◌+◌, ◌<◌, ◌≤◌, List, [], ◌∷◌, ◌++◌, length, set, get_or, refl, sym, ap, ◌∙◌, subst, arith}
+use Rattle.std.proofs.Common.{◌≡◌, ℕ, ◌+◌, ◌<◌, ◌≤◌, List, [], ◌∷◌, ◌++◌, length, set, get_or, refl, sym, ap, ◌∙◌, subst, arith}
 use Rattle.std.proofs.lemmas.List.{length-append}
 use Rattle.tuple_header.specs.declared.row_place.RowPlace.{RowPlace}
 use Rattle.index_lookup.specs.declared.index_scan.IndexPosition.{IndexPosition}
@@ -54,11 +54,6 @@ pub no-key_taken : (t : Sight) (range left : KeyRange) (most : ℕ) (keys : List
 no-key_taken t range left most keys h none some = subst (NoKeyIsIn t) (no-key_scanned h.scans none) (h.all (omega arith))
 
 -- In places.
-
-places-keyed : (keys : List ℕ) (places : List RowPlace) → length (places_with_keys keys places) ≡ length places
-places-keyed [] places = refl
-places-keyed (key ∷ keys) [] = refl
-places-keyed (key ∷ keys) (place ∷ places) = ap suc (places-keyed keys places)
 
 -- the next key is written to the place behind them
 keyed-push : (keys : List ℕ) (places : List RowPlace) (key : ℕ) (d : RowPlace) → length keys < length places

@@ -1,5 +1,5 @@
 -- Rows of some slots, slot by slot.
-use Rattle.std.proofs.Common.{◌≡◌, ℕ, ◌+◌, List, [], ◌∷◌, ◌++◌, length, Option, Some, None, sym, ap, ◌∙◌, append-nil}
+use Rattle.std.proofs.Common.{◌≡◌, ℕ, ◌+◌, List, [], ◌∷◌, ◌++◌, length, Option, Some, sym, ap, ◌∙◌, append-nil}
 use Rattle.std.proofs.lemmas.Grind.{flat_map-append}
 use Rattle.std.proofs.lemmas.List.{length-append}
 use Rattle.tuple_header.specs.declared.version.Row.{Row}
@@ -15,10 +15,6 @@ rows_at-more slots numbers n =
 -- there is a version in it
 pub rows_at-row : (slots : List Slot) (numbers : List ℕ) (n : ℕ) (row : Row) → row_at slots n ≡ Some row → rows_at slots (numbers ++ n ∷ []) ≡ rows_at slots numbers ++ row ∷ []
 rows_at-row slots numbers n row is = rows_at-more slots numbers n ∙ ap (λ (o : Option Row). rows_at slots numbers ++ rows_of o) is
-
--- or none
-pub rows_at-none : (slots : List Slot) (numbers : List ℕ) (n : ℕ) → row_at slots n ≡ None → rows_at slots (numbers ++ n ∷ []) ≡ rows_at slots numbers
-rows_at-none slots numbers n is = rows_at-more slots numbers n ∙ ap (λ (o : Option Row). rows_at slots numbers ++ rows_of o) is ∙ append-nil (rows_at slots numbers)
 
 pub has-more : (slots : List Slot) (numbers : List ℕ) (n : ℕ) (row : Row) → row_at slots n ≡ Some row → HasRows slots numbers → HasRows slots (numbers ++ n ∷ [])
 has-more slots numbers n row is has =

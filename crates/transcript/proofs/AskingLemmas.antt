@@ -1,5 +1,5 @@
 -- What a line asks for.
-use Rattle.std.proofs.Common.{◌≡◌, ℕ, List, refl, ap, ◌∙◌, sym, subst, Option, None, Some, true, false, ◌⊎◌, inl, inr}
+use Rattle.std.proofs.Common.{◌≡◌, ℕ, List, refl, ap, ◌∙◌, sym, None, Some, ◌⊎◌, inl, inr}
 use Rattle.std.proofs.lemmas.Option.{none-some, same_Some}
 use Rattle.calls.specs.declared.step.Step.{Step}
 use Rattle.calls.specs.declared.step.Step.TheVariants as step
@@ -12,16 +12,13 @@ use Rattle.transcript.specs.declared.begins.Begins.{Begins}
 use Rattle.transcript.specs.declared.begins.Begins.TheVariants.{AsWritten, ByStatement, BySnapshot}
 use Rattle.transcript.specs.declared.question.Question.{Question}
 use Rattle.transcript.specs.declared.question.Question.TheVariants as question
-use Rattle.transcript.specs.Transcripts.{AsksFor, IsLook, IsQuestion, judged_as, step_of_line, is_view}
+use Rattle.transcript.specs.Transcripts.{AsksFor, IsLook, IsQuestion, judged_as, step_of_line}
 use Rattle.transcript.specs.Judging.{IsAskedBy}
 
 same_step : (begins : Begins) → step.VacuumStep ≡ judged_as begins step.VacuumStep
 same_step AsWritten = refl
 same_step ByStatement = refl
 same_step BySnapshot = refl
-
-pub asks_step : (begins : Begins) (asked : List ℕ) (own new : Step) → Spells asked (Some (Do own)) → new ≡ judged_as begins own → IsAskedBy begins asked (Some (question.Step new))
-asks_step begins asked own new says is = (own, (Do own, says, refl), is)
 
 pub asks_finish : (begins : Begins) (asked : List ℕ) → Spells asked (Some VacuumFinish) → IsAskedBy begins asked (Some (question.Step step.VacuumStep))
 asks_finish begins asked says = (step.VacuumStep, (VacuumFinish, says, refl), same_step begins)
@@ -32,20 +29,6 @@ no_step VacuumFinish a b = absurd (b refl)
 no_step Ids a b = refl
 no_step (Page p) a b = refl
 no_step (Entries i) a b = refl
-
-pub asks_look : (begins : Begins) (asked : List ℕ) (line : Line) → Spells asked (Some line) → ((own : Step) → line ≡ Do own → ⊥) → (line ≡ VacuumFinish → ⊥) → IsAskedBy begins asked (Some question.Look)
-asks_look begins asked line says a b = inl (line, says, no_step line a b)
-
-pub asks_view : (begins : Begins) (asked : List ℕ) → Spells asked None → is_view asked ≡ true → IsAskedBy begins asked (Some question.Look)
-asks_view begins asked none view = inr (none, view)
-
-asks_none : (asked : List ℕ) → Spells asked None → is_view asked ≡ false → IsQuestion asked → ⊥
-asks_none asked none view (inl step) = none step.1.0 step.1.1.0 step.1.1.1
-asks_none asked none view (inr (inl look)) = none look.0 look.1.0 look.1.1
-asks_none asked none view (inr (inr other)) = let e : true ≡ false = sym other.1 ∙ view in cc e
-
-pub asks_nothing : (begins : Begins) (asked : List ℕ) → Spells asked None → is_view asked ≡ false → IsAskedBy begins asked None
-asks_nothing begins asked none view = asks_none asked none view
 
 -- a line that asks for a step is no look
 pub no_look : (asked : List ℕ) (own : Step) → AsksFor asked own → IsLook asked → ⊥

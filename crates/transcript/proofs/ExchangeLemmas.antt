@@ -1,8 +1,8 @@
 -- Exchanges that are judged, one after another.
-use Rattle.std.proofs.Common.{◌≡◌, ℕ, ◌+◌, ◌-◌, ◌<◌, ◌≤◌, List, [], ◌∷◌, ◌++◌, length, take, drop, refl, ap, append_assoc, length-append, length-drop, ◌∙◌, sym, subst, arith, Option, None, Some, true, false, Bool, ◌⊎◌, inl, inr, codes, position, Result, Ok, Err}
-use Rattle.std.specs.List.{flat_map, AllByRecursion}
+use Rattle.std.proofs.Common.{◌≡◌, ℕ, ◌+◌, ◌-◌, ◌<◌, ◌≤◌, List, [], ◌∷◌, ◌++◌, length, take, drop, refl, ap, append_assoc, length-append, length-drop, ◌∙◌, sym, subst, arith, Option, None, Some, false, Bool, ◌⊎◌, inl, inr, codes, Result, Ok, Err}
+use Rattle.std.specs.List.{AllByRecursion}
 use Rattle.std.proofs.lemmas.Option.{none-some, same_Some}
-use Rattle.std.proofs.lemmas.List.{append-nil, drop_all, take-append-drop, length-take-le}
+use Rattle.std.proofs.lemmas.List.{append-nil, take-append-drop, length-take-le}
 use Rattle.std.proofs.lemmas.Grind.{flat_map-append}
 use Rattle.std.proofs.Math.Seq.{take-append_seam, drop-append-add}
 use Rattle.history.specs.World.{World}
@@ -23,9 +23,9 @@ use Rattle.transcript.specs.declared.fault.Fault.{Fault}
 use Rattle.transcript.specs.declared.fault.Fault.TheVariants as fault
 use Rattle.transcript.specs.declared.question.Question.{Question}
 use Rattle.transcript.specs.declared.question.Question.TheVariants as question
-use Rattle.transcript.specs.Transcripts.{Exchange, IsExchange, IsOneAnswer, IsQuestion, IsWrong, IsBadQuestion, IsBadAnswer, MayBe, AsksFor, judged_as, exchange_text, exchanges_text, is_next_or_end, step_said, reply_said, step_judged, reply_judged, steps_judged, replies_judged, IsAllowedExchange, CountsLetOff, StandsIn, IsHeard, right, amiss, AreHeard, nothing, further, allowed_text, wrong_text, end_text, line_ends}
+use Rattle.transcript.specs.Transcripts.{Exchange, IsExchange, IsQuestion, IsWrong, MayBe, judged_as, exchange_text, exchanges_text, is_next_or_end, step_said, reply_said, step_judged, reply_judged, steps_judged, replies_judged, IsAllowedExchange, CountsLetOff, IsHeard, right, amiss, AreHeard, nothing, further, wrong_text, line_ends}
 use Rattle.transcript.specs.Cutting.{question_in, answer_in}
-use Rattle.transcript.specs.Judging.{IsAskedBy, JudgesAnswer, GoesOnAs, GoesOnBy, IsNextExchange, IsPastExchange, MatchesExchange, EndsExchanges, AreExchanges, EndsAll, AreAllExchanges}
+use Rattle.transcript.specs.Judging.{IsAskedBy, JudgesAnswer, GoesOnAs, GoesOnBy, IsNextExchange, IsPastExchange, MatchesExchange, EndsExchanges, AreExchanges}
 use Rattle.transcript.proofs.CuttingLaws.{question_says, question_in-text, answer_says, answer_in-text}
 use Rattle.transcript.proofs.AskingLemmas.{no_look, is_question}
 
@@ -340,15 +340,4 @@ pub ends_fault : (begins : Begins) (w now : World) (text : List ℕ) (from at al
     → AreExchanges begins w text from (Err e) old out
 ends_fault begins w now text from at allowed open_ e old out h m = exchanges_end begins w now text from at allowed open_ (Err e) old out h m
 
-pub ends_allowed : (begins : Begins) (w now : World) (text : List ℕ) (from at allowed open_ : ℕ) (old out : List ℕ) → (h : Progress begins w now text from at allowed 0 open_ []) → length text ≤ at
-    → out ≡ old ++ allowed_text allowed open_ → AreExchanges begins w text from (Ok true) old out
-ends_allowed begins w now text from at allowed open_ old out h over out_is =
-    let count : allowed ≡ length (steps_judged h.xs) = let c = h.count in omega arith in
-    exchanges_end begins w now text from at allowed open_ (Ok true) old out h (drop_all at text over, out_is ∙ ap (λ k. old ++ allowed_text k open_) count)
-
 -- To the end.
-
-pub all_end : (begins : Begins) (w now : World) (text : List ℕ) (from at allowed wrong open_ : ℕ) (told : List ℕ) (result : Result Bool Fault) (old out : List ℕ) → Progress begins w now text from at allowed wrong open_ told
-    → EndsAll text at allowed wrong open_ result (old ++ told) out → AreAllExchanges begins w text from result old out
-all_end begins w now text from at allowed wrong open_ told result old out h ends =
-    record { xs = h.xs; allowed = allowed; wrong = wrong; open_ = open_; told = told; heard = h.heard; count = h.count; run = h.run; at = at; text_is = h.text_is; ends = ends }

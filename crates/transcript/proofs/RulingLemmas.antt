@@ -1,5 +1,5 @@
 -- What is said of an answer, by the replies that it may stand for.
-use Rattle.std.proofs.Common.{◌≡◌, ℕ, ◌+◌, ◌^◌, ◌<◌, List, refl, ap, ◌∙◌, sym, subst, arith, Option, None, Some, true, false, Bool, ◌⊎◌, inl, inr, codes}
+use Rattle.std.proofs.Common.{◌≡◌, ℕ, ◌+◌, ◌^◌, ◌<◌, List, refl, ◌∙◌, sym, subst, arith, None, Some, true, false, Bool, ◌⊎◌, inl, inr, codes}
 use Rattle.std.specs.Str.{bytes_eq}
 use Rattle.std.proofs.lemmas.Bool.{cases_lt}
 use Rattle.std.proofs.lemmas.Slice.Eq.{bytes_eq-Decides}
@@ -8,29 +8,21 @@ use Rattle.calls.specs.declared.step.Step.{Step}
 use Rattle.calls.specs.declared.reply.Reply.{Reply}
 use Rattle.calls.specs.declared.reply.Reply.TheVariants as reply
 use Rattle.calls.specs.declared.reply.Refusal.TheVariants as refusal
-use Rattle.refinement.specs.Allowed.{AllowsReply, after_reply}
-use Rattle.judge.specs.Rulings.{Judges}
-use Rattle.judge.specs.declared.judge.Ruling.{Ruling}
-use Rattle.judge.specs.declared.judge.Ruling.TheVariants.{Allowed, Broken}
-use Rattle.judge.specs.declared.due.Due.{Due}
-use Rattle.judge.specs.declared.due.Due.TheVariants.{Alone, Or, Open}
+use Rattle.refinement.specs.Allowed.{AllowsReply}
+use Rattle.judge.specs.declared.judge.Ruling.TheVariants.{Allowed}
 use Rattle.judge.specs.declared.why.Why.{Why}
 use Rattle.judge.specs.Reasons.{Breaks, TellsDue}
 use Rattle.reply_text.specs.Replies.{SpellsReply}
 use Rattle.reply_text.proofs.OnceLaws.{no_bare_busy, told_once}
 use Rattle.transcript.specs.declared.ruling.Verdict.{Verdict}
 use Rattle.transcript.specs.declared.ruling.Verdict.TheVariants as verdict
-use Rattle.transcript.specs.Transcripts.{MayBe, StandsIn, IsLetOff, CountsLetOff}
+use Rattle.transcript.specs.Transcripts.{MayBe, IsLetOff, CountsLetOff}
 use Rattle.one_answer.specs.OneAnswer.{IsLeftOpen}
 use Rattle.judge.proofs.Reasoning.{not_of}
 use Rattle.std.specs.Prelude.{IsTrue, ◌↔◌}
 use Rattle.calls.specs.declared.reply.Refusal.{Refusal}
-use Rattle.transcript.specs.Judging.{JudgesReply, JudgesAnswer, JudgesBusy, NamesBusy, GoesOnAs}
+use Rattle.transcript.specs.Judging.{JudgesReply, JudgesAnswer, JudgesBusy, NamesBusy}
 use Rattle.transcript.proofs.TellingLemmas.{allows_told}
-
--- a reply that is not allowed, in a world that stayed
-pub still_broken : (w v : World) (step : Step) (a : Reply) → v ≡ w → ¬ AllowsReply w step a → ¬ AllowsReply v step a
-still_broken w v step a e isnt = subst (λ (u : World). ¬ AllowsReply u step a) (sym e) isnt
 
 pub says_why : (w v : World) (step : Step) (a : Reply) (why : Why) → v ≡ w → ¬ AllowsReply w step a → Breaks why.rule v step a → TellsDue v step why.due → JudgesReply w step a (verdict.Wrong why) v
 says_why w v step a why e isnt breaks due = (isnt, e, subst (λ (u : World). Breaks why.rule u step a) e breaks, subst (λ (u : World). TellsDue u step why.due) e due)
@@ -84,16 +76,3 @@ by_reply w new step answer a (verdict.Wrong why) test spells h = (a, inl spells,
     never r (inr b) = absurd (not_busy answer test b.0)
 
 -- The history goes on by a reply that is allowed.
-
-pub went_on : (w new : World) (step : Step) (a : Reply) (ruling : Ruling) → AllowsReply w step a → Judges w step a ruling new → new ≡ after_reply w step a
-went_on w new step a Allowed allows told = told.1
-went_on w new step a Broken allows told = absurd (told.0 allows)
-
-pub goes_as_alone : (w new : World) (step : Step) (a : Reply) → TellsDue w step (Alone a) → new ≡ after_reply w step a → GoesOnAs w step (Alone a) new
-goes_as_alone w new step a due e = (a, refl, due.0, e)
-
-pub goes_as_or : (w new : World) (step : Step) (a : Reply) → TellsDue w step (Or a) → new ≡ after_reply w step a → GoesOnAs w step (Or a) new
-goes_as_or w new step a due e = (a, refl, due.0, e)
-
-pub goes_as_any : (w new : World) (step : Step) (a : Reply) → AllowsReply w step a → new ≡ after_reply w step a → GoesOnAs w step Open new
-goes_as_any w new step a allows e = (a, allows, allows, e)

@@ -1,6 +1,6 @@
 -- A transcript from its first line to its end.
-use Rattle.std.proofs.Common.{◌≡◌, ℕ, ◌+◌, ◌≤◌, List, [], ◌∷◌, ◌++◌, length, take, drop, refl, ap, append_assoc, length-append, ◌∙◌, sym, subst, arith, Option, None, Some, true, false, Bool, ◌⊎◌, inl, inr, Result, Ok, Err, IfSome}
-use Rattle.std.specs.Io.KnownBytes.{Appends, Keeps}
+use Rattle.std.proofs.Common.{◌≡◌, ℕ, ◌+◌, ◌≤◌, List, [], ◌∷◌, ◌++◌, length, take, drop, refl, ap, append_assoc, length-append, ◌∙◌, sym, subst, arith, Option, None, Some, true, false, Bool, ◌⊎◌, inr, Result, Ok, Err, IfSome}
+use Rattle.std.specs.Io.KnownBytes.{Keeps}
 use Rattle.std.proofs.lemmas.Option.{none-some, same_Some}
 use Rattle.std.proofs.lemmas.List.{append-nil, take-append-drop}
 use Rattle.std.proofs.Math.Seq.{take-append_seam}
@@ -13,11 +13,10 @@ use Rattle.script_text.specs.Reading.{cut_at}
 use Rattle.script_text.proofs.HeadingLaws.{Free-heading, heading_once}
 use Rattle.script_text.proofs.NumberLaws.{cut_at_says, cut_at-free}
 use Rattle.transcript.specs.declared.begins.Begins.{Begins}
-use Rattle.transcript.specs.declared.begins.Until.{Until}
 use Rattle.transcript.specs.declared.begins.Until.TheVariants.{FirstWrong, End}
 use Rattle.transcript.specs.declared.fault.Fault.{Fault}
 use Rattle.transcript.specs.declared.fault.Fault.TheVariants.{BadLine, Input, Output, NoMemory}
-use Rattle.transcript.specs.Transcripts.{Exchange, AreAllowed, AreHeard, AreJudged, IsWrong, IsBadFirst, JudgesText, TranscriptOutcome, transcript_text, exchange_text, exchanges_text, allowed_text, line_ends, IsBadExchange, steps_judged, replies_judged}
+use Rattle.transcript.specs.Transcripts.{Exchange, AreAllowed, AreHeard, AreJudged, IsBadFirst, JudgesText, transcript_text, exchanges_text, allowed_text, line_ends, IsBadExchange, steps_judged, replies_judged}
 use Rattle.transcript.specs.Judging.{AreExchanges, AreAllExchanges, MatchesExchange}
 use Rattle.transcript.proofs.ExchangeLemmas.{heard_right}
 
@@ -150,17 +149,6 @@ judges_all begins s w text from (Err NoMemory) old out h are fits e first none =
 Keeps-refl : (a : Option (List ℕ)) → Keeps a a
 Keeps-refl None = tt
 Keeps-refl (Some xs) = refl
-
--- a fault comes before anything is written
-pub outcome_of_fault : (begins : Begins) (until : Until) (e : Fault) (input out : List ℕ) (before : Option (List ℕ)) → JudgesText begins until (Err e) input out → TranscriptOutcome begins until (Err e) input before before
-outcome_of_fault begins FirstWrong (BadLine n) input out before h = (h, Keeps-refl before)
-outcome_of_fault begins End (BadLine n) input out before h = (h, Keeps-refl before)
-outcome_of_fault begins FirstWrong Input input out before h = Keeps-refl before
-outcome_of_fault begins End Input input out before h = Keeps-refl before
-outcome_of_fault begins FirstWrong Output input out before h = tt
-outcome_of_fault begins End Output input out before h = tt
-outcome_of_fault begins FirstWrong NoMemory input out before h = Keeps-refl before
-outcome_of_fault begins End NoMemory input out before h = Keeps-refl before
 
 -- the input that was read is the text
 pub known_text : (A : List ℕ → Type 0) (input : Option (List ℕ)) (old text : List ℕ) → old ≡ [] → IfSome input (λ xs. text ≡ old ++ xs) → A text → IfSome input (λ xs. A xs)

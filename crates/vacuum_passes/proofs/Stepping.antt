@@ -114,9 +114,6 @@ phase-some : (ys : List Tid) → ys ≢ [] → phase.Free ≡ phase_left ys
 phase-some [] some = absurd (some refl)
 phase-some (y ∷ ys) some = refl
 
-pub left-none : (n : ℕ) (xs : List Tid) → length xs ≤ n → phase.Heap ≡ phase_left (drop n xs)
-left-none n xs past = ap phase_left (sym (drop_all n xs past))
-
 pub left-some : (n : ℕ) (xs : List Tid) → n < length xs → phase.Free ≡ phase_left (drop n xs)
 left-some n xs within = phase-some (drop n xs) (drop-some n xs within)
 

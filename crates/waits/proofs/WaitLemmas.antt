@@ -53,7 +53,3 @@ pub set-quiet : (count s : ℕ) → set (replicate {A = Option ℕ} count None) 
 set-quiet zero s = refl
 set-quiet (suc count) zero = refl
 set-quiet (suc count) (suc s) = ap (λ waits. None ∷ waits) (set-quiet count s)
-
-pub map-quiet : (p : ℕ → Bool) (count : ℕ) → map (kept_where p) (replicate count None) ≡ replicate count None
-map-quiet p zero = refl
-map-quiet p (suc count) = ap (λ waits. None ∷ waits) (map-quiet p count)
