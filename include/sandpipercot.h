@@ -411,6 +411,9 @@ uint32_t sandpiper_session_of(struct sandpiper *table, uint8_t session, struct s
  * where there are no more. */
 uint32_t sandpiper_own_id(struct sandpiper *table, uint8_t session, size_t n, uint32_t *id);
 uint32_t sandpiper_listed_id(struct sandpiper *table, uint8_t session, size_t n, uint32_t *id);
+/* How many own ids the session had at a savepoint: 0 stands for the newest, 1 for the one before. Those behind came since. FOUND, or NO_ROW
+ * where there is no such savepoint. */
+uint32_t sandpiper_ids_at_savepoint(struct sandpiper *table, uint8_t session, size_t savepoint, size_t *count);
 
 enum sandpiper_holder {
     SANDPIPER_NEXT_ID = 0,     /* nobody holds it back: the horizon is the next id */

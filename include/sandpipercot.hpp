@@ -362,6 +362,18 @@ public:
     // Its own ids, in the order of giving; and those that its snapshot lists.
     std::vector<std::uint32_t> ids() const { return all(sandpiper_own_id); }
     std::vector<std::uint32_t> listed_ids() const { return all(sandpiper_listed_id); }
+    // Its own ids level by level, the oldest first: those of level n came since savepoint n.
+    std::vector<std::vector<std::uint32_t>> ids_by_level() const {
+        const auto mine = ids();
+        std::vector<std::vector<std::uint32_t>> levels;
+        std::size_t from, to = mine.size();
+        while (ask(sandpiper_ids_at_savepoint, levels.size(), &from) == Status::Found) {
+            levels.emplace_back(mine.begin() + from, mine.begin() + to);
+            to = from;
+        }
+        levels.emplace_back(mine.begin(), mine.begin() + to);
+        return {levels.rbegin(), levels.rend()};
+    }
 
     // A page, counted from 0, as it is now, with what the session sees of it now.
     Ticket take_page(std::uint32_t page) const {

@@ -37,12 +37,19 @@ def text_of(path: str) -> str:
         return file.read()
 
 
+def is_of(name: str, line: str) -> bool:
+    """Whether a line goes on with the lemma of this name: one of its equations, or a bracket that closes what it began."""
+    return line.startswith(("}", "]", ")")) or line.split()[0] == name
+
+
 def lemmas_in(path: str) -> Iterator[Lemma]:
     """The lemmas of a file. A definition has no line of its own that goes on with `=`, or ends in a type of types."""
     lines = text_of(path).split("\n")
     heads = [(at, HEAD.match(line)) for at, line in enumerate(lines) if HEAD.match(line)]
     for (at, head), (after, _) in zip(heads, [*heads[1:], (len(lines), None)]):
         first = next((n for n in range(at + 1, after) if lines[n][:1].strip()), after)
+        # (what a `module` behind it holds is not its own)
+        after = next((n for n in range(first, after) if lines[n][:1].strip() and not is_of(head[2], lines[n])), after)
         statement = " ".join(" ".join([lines[at][head.end() :], *lines[at + 1 : first]]).split())
         if "abbrev" not in head[1] and "unfoldable" not in head[1] and not statement.endswith("Type 0"):
             yield Lemma(path, at + 1, head[2], statement, range(at, after))

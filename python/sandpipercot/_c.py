@@ -164,6 +164,7 @@ ARGUMENTS: Dict[str, List[Any]] = {
     "explain": [POINTER, SESSION, POINTER, c_size_t, POINTER],
     "session_of": [POINTER, SESSION, POINTER],
     "own_id": [POINTER, SESSION, c_size_t, POINTER],
+    "ids_at_savepoint": [POINTER, SESSION, c_size_t, POINTER],
     "listed_id": [POINTER, SESSION, c_size_t, POINTER],
     "horizon_of": [POINTER, POINTER],
     "id_of": [POINTER, c_uint32, POINTER],

@@ -203,13 +203,17 @@ class Snapshot:
 
 @dataclass(frozen=True)
 class SessionState:
-    """An open session: how it reads, whether it has failed, its savepoints, its own ids, its snapshot, its cursor, for whom it waits."""
+    """An open session: how it reads, whether it has failed, its savepoints, its own ids, its snapshot, its cursor, for whom it waits.
+
+    levels has its own ids level by level, the oldest first: those of level n came since savepoint n.
+    """
 
     session: int
     is_by_statement: bool
     has_failed: bool
     savepoints: int
     ids: Tuple[int, ...]
+    levels: Tuple[Tuple[int, ...], ...]
     snapshot: Optional[Snapshot]
     cursor: CursorKind
     waits_for: Optional[int]
@@ -375,6 +379,16 @@ class Looks:
             ids.append(place.value)
         return tuple(ids)
 
+    def _levels(self, session: int, savepoints: int, ids: Tuple[int, ...]) -> Tuple[Tuple[int, ...], ...]:
+        """The own ids from each savepoint on to the next, and before them those from before the first."""
+        place = ctypes.c_size_t()
+        bounds = [0]
+        for savepoint in reversed(range(savepoints)):
+            self._asks("ids_at_savepoint", session, savepoint, ctypes.addressof(place))
+            bounds.append(place.value)
+        bounds.append(len(ids))
+        return tuple(ids[first:last] for first, last in zip(bounds, bounds[1:]))
+
     def state_of(self, session: int) -> SessionState:
         told = _c.Session()
         self._asks("session_of", session, ctypes.addressof(told))
@@ -383,9 +397,9 @@ class Looks:
             snapshot = Snapshot(kept.xmin, kept.xmax, kept.is_overflowed, self._ids("listed_id", session, kept.listed))
         ids = self._ids("own_id", session, told.ids)
         waits_for = told.waits_for if told.is_waiting else None
-        return SessionState(
-            session, told.is_by_statement, told.has_failed, told.savepoints, ids, snapshot, CursorKind(told.cursor), waits_for
-        )
+        levels = self._levels(session, told.savepoints, ids)
+        kind = CursorKind(told.cursor)
+        return SessionState(session, told.is_by_statement, told.has_failed, told.savepoints, ids, levels, snapshot, kind, waits_for)
 
     def horizon(self) -> Horizon:
         told = _c.Horizon()

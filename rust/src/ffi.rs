@@ -155,6 +155,7 @@ extern "C" {
     pub fn sandpiper_explain(table: *mut Handle, session: u8, entry: *const SlotPlace, n: usize, shown: *mut Shown) -> u32;
     pub fn sandpiper_session_of(table: *mut Handle, session: u8, shown: *mut Session) -> u32;
     pub fn sandpiper_own_id(table: *mut Handle, session: u8, n: usize, id: *mut u32) -> u32;
+    pub fn sandpiper_ids_at_savepoint(table: *mut Handle, session: u8, savepoint: usize, count: *mut usize) -> u32;
     pub fn sandpiper_listed_id(table: *mut Handle, session: u8, n: usize, id: *mut u32) -> u32;
     pub fn sandpiper_horizon_of(table: *mut Handle, horizon: *mut Horizon) -> u32;
     pub fn sandpiper_id_of(table: *mut Handle, id: u32, shown: *mut Id) -> u32;

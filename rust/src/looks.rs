@@ -291,6 +291,17 @@ impl Session<'_> {
         self.all(ffi::sandpiper_own_id)
     }
 
+    /// Its own ids level by level, the oldest first: those of level n came since savepoint n.
+    pub fn ids_by_level(&self) -> Result<Vec<Vec<u32>>, Refused> {
+        let (mut rest, mut levels, mut from) = (self.ids()?, Vec::new(), 0);
+        while told(unsafe { ffi::sandpiper_ids_at_savepoint(self.handle(), self.number, levels.len(), &mut from) })? == FOUND {
+            levels.push(rest.split_off(from));
+        }
+        levels.push(rest);
+        levels.reverse();
+        Ok(levels)
+    }
+
     /// The snapshot that it keeps, if it keeps one.
     pub fn snapshot(&self) -> Result<Option<Snapshot>, Refused> {
         let it = self.info()?.snapshot;

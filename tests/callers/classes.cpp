@@ -233,6 +233,9 @@ static void check_looks() {
     writer.insert({2, {}, ""});
     CHECK(writer.ids() == std::vector<std::uint32_t>{6} && table.status_of(6).is_owned && table.status_of(6).session == 1);
     CHECK(table.begin().listed_ids() == std::vector<std::uint32_t>{6});
+    const std::vector<std::vector<std::uint32_t>> of_levels = {{6}, {7, 8}};
+    writer.savepoint(), writer.savepoint(), writer.insert({3, {}, ""}), writer.release();
+    CHECK(writer.ids_by_level() == of_levels);
     writer.abort(), reader.reset();
     const Plan plan = table.plan(0);
     CHECK(plan.actions.size() == 3 && plan.actions[0].kind == SANDPIPER_LEAD && plan.actions[0].target == 3);

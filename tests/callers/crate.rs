@@ -160,6 +160,11 @@ fn check_looks() -> Result<(), Refused> {
     assert_eq!(waiting.insert(&row(2, 0, b"")), Err(Refused::Busy(1)));
     assert_eq!((waiting.waits_for()?, waiting.snapshot()?.expect("one").listed), (Some(1), vec![6]));
     assert_eq!((writer.ids()?, table.status_of(6)?, table.status_of(3)?), (vec![6], (IdStatus::Running, Some(1)), (IdStatus::Committed, None)));
+    writer.savepoint()?;
+    writer.savepoint()?;
+    writer.insert(&row(3, 0, b""))?;
+    writer.release()?;
+    assert_eq!(writer.ids_by_level()?, [vec![6], vec![7, 8]]);
     assert_eq!(waiting.insert(&row(1, 0, b"")), Err(Refused::AlreadyThere));
     assert!(!waiting.has_failed()?);
     drop((reader, writer, waiting));

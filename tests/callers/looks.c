@@ -76,6 +76,32 @@ static void a_session_is_shown(void) {
     CHECK(sandpiper_close(&t) == SANDPIPER_DONE);
 }
 
+/* How many own ids there were at the newest savepoint and at the one before, or -1; and how many there are. */
+static bool has_ids(long newest, long before, size_t now) {
+    struct sandpiper_session shown;
+    const long due[] = {newest, before};
+    for (size_t savepoint = 0; savepoint < 2; savepoint++) {
+        size_t count = 77;
+        const uint32_t status = sandpiper_ids_at_savepoint(&t, 2, savepoint, &count);
+        if (due[savepoint] < 0 ? status != SANDPIPER_NO_ROW || count != 77 : status != SANDPIPER_FOUND || count != (size_t)due[savepoint])
+            return false;
+    }
+    return sandpiper_session_of(&t, 2, &shown) == SANDPIPER_FOUND && shown.ids == now;
+}
+
+/* As in PostgreSQL a savepoint's first write gives each level below an id first, a return takes back what came since, and what was released
+ * belongs to the level below. */
+static void own_ids_are_shown_by_level(void) {
+    open_table();
+    CHECK(has_ids(-1, -1, 1) && sandpiper_savepoint(&t, 2) == SANDPIPER_DONE && has_ids(1, -1, 1));
+    CHECK(sandpiper_savepoint(&t, 2) == SANDPIPER_DONE && has_ids(1, 1, 1));
+    write_row(2, 3, 0, true);
+    CHECK(has_ids(2, 1, 3) && sandpiper_rollback_to(&t, 2) == SANDPIPER_DONE && has_ids(2, 1, 2));
+    write_row(2, 3, 0, true);
+    CHECK(has_ids(2, 1, 3) && sandpiper_release(&t, 2) == SANDPIPER_DONE && has_ids(1, -1, 3));
+    CHECK(sandpiper_close(&t) == SANDPIPER_DONE);
+}
+
 static void the_horizon_and_fates_are_shown(void) {
     struct sandpiper_horizon horizon;
     struct sandpiper_fate fate;
@@ -133,7 +159,7 @@ static void what_is_refused_writes_nothing(void) {
     struct sandpiper_vacuum vacuum = {7, 7, 7, 7, 7, 7, 7};
     struct sandpiper_id id = {7, true, 7};
     struct sandpiper_action action = {7, 7, 7};
-    size_t count = 7;
+    size_t count = 7, ids = 7;
     uint64_t change = 7;
     uint32_t number = 7;
     memset(&shown, 1, sizeof shown), memcpy(&shown_before, &shown, sizeof shown);
@@ -145,6 +171,7 @@ static void what_is_refused_writes_nothing(void) {
             CHECK(sandpiper_explain(&t, sessions[i], &place, 0, &shown) == status);
             CHECK(sandpiper_session_of(&t, sessions[i], &session) == status);
             CHECK(sandpiper_own_id(&t, sessions[i], 0, &number) == status && sandpiper_listed_id(&t, sessions[i], 0, &number) == status);
+            CHECK(sandpiper_ids_at_savepoint(&t, sessions[i], 0, &ids) == status && ids == 7);
         }
         const uint32_t none = is_open ? SANDPIPER_NO_SUCH_PAGE : SANDPIPER_NO_ENGINE;
         CHECK(sandpiper_fate_of(&t, 0, 1, &fate) == none && sandpiper_fate_of(&t, UINT32_MAX, UINT16_MAX, &fate) == none);
@@ -162,6 +189,7 @@ static void what_is_refused_writes_nothing(void) {
 int main(void) {
     a_key_is_explained();
     a_session_is_shown();
+    own_ids_are_shown_by_level();
     the_horizon_and_fates_are_shown();
     a_plan_is_what_a_pruning_does();
     what_is_refused_writes_nothing();

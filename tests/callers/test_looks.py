@@ -261,6 +261,13 @@ class LooksTest(unittest.TestCase):
             session.insert(Row(1))
             self.assertEqual(table.status_of(3), sp.IdStatus(3, IdStatusKind.ID_RUNNING, 0))
             self.assertEqual(session.ids, (3,))
+            with session.savepoint():
+                session.savepoint()
+                session.insert(Row(2))
+                self.assertEqual(session.state().levels, ((3,), (4,), (5,)))
+                session.release()
+                self.assertEqual(session.state().levels, ((3,), (4, 5)))
+            self.assertEqual(session.state().levels, ((3, 4, 5),))
             session.abort()
             for call in (lambda: session.explain(1), lambda: session.ids, lambda: session.snapshot, session.state):
                 with self.assertRaises(sp.NotOpen):

@@ -1,6 +1,6 @@
 -- An open session, as C reads it.
 use Rattle.std.specs.Prelude.{◌≡◌, ℕ, Bool, true, false, length, Option, Some, None, slice_get}
-use Rattle.std.specs.Option.{is_some, unwrap_or}
+use Rattle.std.specs.Option.{is_some, option_map, unwrap_or}
 use Rattle.xid_circle.specs.Numbers.{SessionNo, Count}
 use Rattle.snapshot.specs.Snap.{Snap}
 use Rattle.table_scans.specs.declared.progress.CursorScan.{CursorScan}
@@ -53,6 +53,12 @@ pub record IsOwnId (st : State) (s : SessionNo) (n : Count) (id : Option ℕ) : 
   pub session : Session
   pub there : session_at st s ≡ Some session
   pub is_id : id ≡ slice_get session.own.ids n
+
+-- it is open, and had so many ids of its own at this savepoint, 0 the newest, or has no such savepoint
+pub record AreIdsAt (st : State) (s : SessionNo) (savepoint : Count) (count : Option ℕ) : Type 0 where
+  pub session : Session
+  pub there : session_at st s ≡ Some session
+  pub is_count : count ≡ option_map length (slice_get session.own.saved savepoint)
 
 -- what a snapshot lists in this place, if there is one
 abbrev pub listed_in : Option Snap → Count → Option ℕ

@@ -27,7 +27,9 @@ pub use page::{SandpiperPage, SandpiperSlot, head_of_page, of_slot, slot_of_page
 pub use piece::{SandpiperPiece, of_piece};
 pub use plan::{SandpiperAction, action_of, put_actions};
 pub use reason::{SandpiperReason, SandpiperShown, explanation};
-pub use session::{SandpiperSession, SandpiperSnapshot, listed_id, own_id, session_in};
+pub use session::{
+    SandpiperSession, SandpiperSnapshot, ids_at_savepoint, listed_id, own_id, session_in,
+};
 pub use settings::{SandpiperSettings, settings_of};
 pub use state::{SandpiperState, of_engine};
 pub use vacuum::{SandpiperVacuum, vacuum_in};

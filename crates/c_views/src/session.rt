@@ -4,7 +4,7 @@ ghost use Rattle.std.specs.Prelude.{◌≡◌, MatchResult};
 ghost use Rattle.calls.specs.Bars.{BarsOpen};
 ghost use Rattle.session_steps.specs.State.{engine_sessions};
 ghost use Rattle.sessions.specs.Session.{kept_by};
-ghost use Rattle.c_views.specs.Sessions.{reads_by_statement, number_of_cursor, shown_snapshot, shown_session, listed_in, IsSessionShown, IsOwnId, IsListedId};
+ghost use Rattle.c_views.specs.Sessions.{reads_by_statement, number_of_cursor, shown_snapshot, shown_session, listed_in, IsSessionShown, IsOwnId, AreIdsAt, IsListedId};
 
 use session_core::{Engine, Refusal, Session, SessionIsolation};
 use table_scans::{CursorScan, Scan};
@@ -127,6 +127,21 @@ pub fn own_id(engine: &Engine, session: u8, n: usize) -> Result<Option<u32>, Ref
             Some(id) => Ok(Some(id.0)),
             None => Ok(None),
         },
+        Err(refusal) => Err(refusal),
+    }
+}
+
+/// How many ids of its own the session had at a savepoint, if it has so many savepoints: 0 stands for the newest, 1 for the one before.
+pub fn ids_at_savepoint(
+    engine: &Engine,
+    session: u8,
+    savepoint: usize,
+) -> Result<Option<usize>, Refusal>
+    ensures { MatchResult result (AreIdsAt engine.now.engine.core session savepoint)
+        (λ refusal. BarsOpen (engine_sessions engine.now.engine.core) session refusal) }
+{
+    match engine.session(session) {
+        Ok(open) => Ok(open.own.ids_at(savepoint)),
         Err(refusal) => Err(refusal),
     }
 }

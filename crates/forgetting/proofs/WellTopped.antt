@@ -1,15 +1,18 @@
 -- Topmost parents when ids finish, and where they stand.
-use Rattle.std.proofs.Common.{◌≡◌, ◌≢◌, ℕ, ◌<◌, ◌≤◌, ◌^◌, ◌⊎◌, List, length, Some, arith, inl, inr, ⊎_elim, sym, ap, ◌∙◌, subst}
+use Rattle.std.proofs.Common.{◌≡◌, ◌≢◌, ℕ, ◌<◌, ◌≤◌, ◌^◌, ◌⊎◌, List, length, Some, None, arith, inl, inr, ⊎_elim, refl, sym, ap, ◌∙◌, subst}
 use Rattle.std.specs.Prelude.{Contains, IsSome}
+use Rattle.std.proofs.lemmas.Bool.{cases_eq}
+use Rattle.std.proofs.lemmas.Bool.Decides.{nat_tests}
 use Rattle.commit_status.specs.declared.status.Status.{Status}
 use Rattle.commit_status.specs.declared.status.Status.TheVariants.{InProgress, Committed}
-use Rattle.commit_status.specs.Window.{Window, IsWindow, IsGiven, IsActive, IsCommitted, IsGivenBefore, place, status_of, top_of}
+use Rattle.commit_status.specs.Window.{Window, IsWindow, IsGiven, IsActive, IsCommitted, IsInProgress, IsGivenBefore, turns, place, status_of, top_of}
 use Rattle.commit_status.specs.Changes.{Finishes}
-use Rattle.commit_status.proofs.Places.{at-from_place, place-one}
+use Rattle.commit_status.proofs.Places.{IsAt, at-from_place, place-from_at, place-one, some-from_is, is-from_some}
+use Rattle.commit_status.proofs.Ancestors.{top-before}
 use Rattle.commit_status.proofs.Finishing.{finishes-top}
 use Rattle.commit_status.proofs.ChangesLemmas.{finishes-place}
 use Rattle.forgetting.specs.Truncating.{IsWellTopped}
-use Rattle.forgetting.proofs.Near.{turns-apart}
+use Rattle.forgetting.proofs.Near.{turns-apart, before-within}
 
 -- of two ids of a window the one is the other, or stands before it
 apart : (w : Window) (t x i j : ℕ) → IsWindow w → place w x ≡ Some i → place w t ≡ Some j → j ≤ i → (j ≡ i) ⊎ (j ≢ i) → (t ≡ x) ⊎ IsGivenBefore t x
@@ -22,6 +25,24 @@ apart w t x i j is here there order (inr other) =
     let short = is.short in
     let within = a.within in
     inr (record { normal = b.normal; fits = b.fits; before = omega (arith, between, order, other); near = omega (arith, between, limit, short, within) })
+
+-- a topmost parent in the window is the id itself, or was given before it
+pub given-near : (w : Window) (x : ℕ) → IsWindow w → IsGiven w x → IsGiven w (top_of w x) → (top_of w x ≡ x) ⊎ IsGivenBefore (top_of w x) x
+given-near w x is here there =
+    let i = some-from_is (place w x) here in
+    let j = some-from_is (place w (top_of w x)) there in
+    apart w (top_of w x) x i.0 j.0 is i.1 j.1 (top-before w x i.0 j.0 is i.1 j.1) (cases_eq j.0 i.0)
+
+-- what was given before an id, and is in the window, stands before it there
+pub before-place : (w : Window) (t x i j : ℕ) → IsWindow w → place w x ≡ Some i → place w t ≡ Some j → (t ≡ x) ⊎ IsGivenBefore t x → j ≤ i
+before-place w t x i j is here there (inl same) = let e : Some j ≡ Some i = sym there ∙ (ap (place w) same ∙ here) in let n : j ≡ i = cc in omega arith
+before-place w t x i j is here there (inr before) =
+    let a = at-from_place w.first (length w.entries) x i here in
+    let b = at-from_place w.first (length w.entries) t j there in
+    let limit = is.limit in
+    let short = is.short in
+    before-within w.first t x i j (length w.entries) is.normal is.fits b.normal b.fits a.normal a.fits b.turn a.turn b.within a.within (omega (arith, limit, short))
+    before.before before.near
 
 module _ (w v : Window) (ids : List ℕ) (end : Status) (ended : end ≢ InProgress) (f : Finishes w v ids end) where
   -- an id that is in progress then was before, and is none of these

@@ -1,5 +1,5 @@
 -- Dead slots of a page become unused, one after another.
-use Rattle.std.proofs.Common.{◌≡◌, ◌≢◌, ◌∙◌, ℕ, zero, suc, ◌+◌, ◌<◌, ◌≤◌, true, false, List, [], ◌∷◌, ◌++◌, length, map, take, get_or, Some, sym, ap, refl, subst, ⊎_elim, arith}
+use Rattle.std.proofs.Common.{◌≡◌, ◌≢◌, ◌∙◌, ℕ, zero, suc, ◌+◌, ◌<◌, ◌≤◌, true, false, List, [], ◌∷◌, ◌++◌, length, map, take, get_or, Option, Some, sym, ap, refl, subst, ⊎_elim, arith}
 use Rattle.std.specs.Prelude.{Contains, nat_eq}
 use Rattle.std.specs.List.{AllPairs, list_any}
 use Rattle.std.proofs.lemmas.Bool.{cases_Bool}
@@ -31,6 +31,9 @@ free-none slots n alive = record {
 }
 
 -- One more.
+
+unused-alive : (o : Option Slot) → o ≡ Some Unused → o ≢ Some Dead
+unused-alive o unused dead = let e : Some Unused ≡ Some Dead = sym unused ∙ dead in cc
 
 module _ (a b c : List Slot) (ns : List ℕ) (n : ℕ) (f : FreesSlots a b ns) (g : FreesSlots b c (n ∷ [])) where
   -- a slot that was named before

@@ -1,5 +1,5 @@
 -- A walk along a chain that tests each version as it comes: what it has not seen so far, and where it is.
-use Rattle.std.proofs.Common.{◌≡◌, ℕ, zero, suc, ◌+◌, ◌-◌, ◌<◌, ◌≤◌, Bool, true, false, ◌&&◌, if◌then◌else◌, nat_eq, is_some, List, [], ◌∷◌, ◌++◌, length, get_or, Option, Some, None, arith, ⊎_elim, length-append, refl, sym, ap, ◌∙◌, subst}
+use Rattle.std.proofs.Common.{◌≡◌, ℕ, zero, suc, ◌+◌, ◌-◌, ◌<◌, ◌≤◌, Bool, true, false, ◌&&◌, if◌then◌else◌, nat_eq, is_some, List, [], ◌∷◌, ◌++◌, length, get_or, slice_get, Option, Some, None, arith, ⊎_elim, length-append, refl, sym, ap, ◌∙◌, subst}
 use Rattle.std.specs.Option.{option_and_then, option_map}
 use Rattle.std.specs.List.{list_any}
 use Rattle.std.proofs.lemmas.Bool.{cases_lt}
@@ -7,10 +7,10 @@ use Rattle.std.proofs.lemmas.Option.{same_Some, slice_get-get_or, slice_get_past
 use Rattle.tuple_header.specs.Version.{Version}
 use Rattle.tuple_header.specs.declared.version.Header.{Header}
 use Rattle.page_slots.specs.declared.slot.Slot.{Slot}
-use Rattle.page_slots.specs.declared.slot.Slot.TheVariants.{Normal}
+use Rattle.page_slots.specs.declared.slot.Slot.TheVariants.{Unused, Normal, Redirect, Dead}
 use Rattle.page_slots.specs.Slots.{slot_at, version_at, header_at}
 use Rattle.page_slots.proofs.SlotLemmas.{version-from_header, slot_at-from_version_at, there-from_slot_at}
-use Rattle.hot_chain.specs.Chain.{first_of, is_made_by, successor, next_in_chain, IsChain, IsEnd, NoneSeen, IsSeenIn}
+use Rattle.hot_chain.specs.Chain.{start_in, first_of, is_made_by, successor, next_in_chain, IsChain, IsEnd, NoneSeen, IsSeenIn}
 use Rattle.hot_chain.proofs.Chains.{by-test, any-place}
 use Rattle.hot_chain.proofs.Seen.{seen-here}
 use Rattle.hot_chain.proofs.Walks.{Walk, walk-none, walk-more, walk-room, chain-from_walk}
@@ -46,6 +46,16 @@ successor-within aborted slots h m e =
 next-within : (aborted : ℕ → Bool) (slots : List Slot) (o : Option Header) (m : ℕ) → option_and_then (successor aborted slots) o ≡ Some m → m ≤ length slots
 next-within aborted slots None m e = absurd (cc)
 next-within aborted slots (Some h) m e = successor-within aborted slots h m e
+
+first-within : (slots : List Slot) (n : ℕ) (o : Option Slot) (m : ℕ) → slot_at slots n ≡ o → option_and_then (start_in slots n) o ≡ Some m → m ≤ length slots
+first-within slots n None m at e = absurd (cc)
+first-within slots n (Some Unused) m at e = absurd (cc)
+first-within slots n (Some (Normal t)) m at e = subst (λ k. k ≤ length slots) (same_Some n m e) (there-from_slot_at slots n (Normal t) at).1
+first-within slots n (Some (Redirect target)) m at e =
+    let c = chosen (is_some (version_at slots target)) target m e in
+    let v = version-there (version_at slots target) c.0 in
+    subst (λ k. k ≤ length slots) c.1 (version-within slots target v.0 v.1)
+first-within slots n (Some Dead) m at e = absurd (cc)
 
 module _ (aborted : ℕ → Bool) (slots : List Slot) (n : ℕ) (few : length slots ≤ 291) where
   small : (k m : ℕ) → next_in_chain aborted slots k ≡ Some m → m < 292

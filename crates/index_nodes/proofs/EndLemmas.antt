@@ -5,15 +5,37 @@ use Rattle.index_entries.specs.declared.entry.Entry.{Entry}
 use Rattle.index_nodes.specs.declared.nodes.TreePosition.{TreePosition}
 use Rattle.index_entries.specs.Order.{EntryPrecedes, IsAscending}
 use Rattle.index_entries.specs.Sets.{IsOf, IsEndAt, IsLastOf}
-use Rattle.index_entries.specs.Lists.{rank}
+use Rattle.index_entries.specs.Lists.{concatenated, rank, EntryPlace}
 use Rattle.index_nodes.specs.Nodes.{all, list_place, rank_in, IsPositionIn}
 use Rattle.index_nodes.specs.Rows.{inner_is}
 use Rattle.index_entries.proofs.OrderLemmas.{not_before_itself, Precedes-not_back}
 use Rattle.index_entries.proofs.SetLemmas.{place_of, same_place, ascending-at}
 use Rattle.index_entries.proofs.LookUpLemmas.{between_alike}
+use Rattle.index_nodes.proofs.JoinedLemmas.{IsPlaceIn, start, entry_in_list, behind_list}
 use Rattle.index_nodes.proofs.RowLemmas.{list_at, place_in}
 
 -- The next one among all.
+
+end_by_case : (ys : List Entry) (e : Entry) (j : ℕ) (o : Option Entry) → ((n : Entry) → o ≡ Some n → slice_get ys (j + 1) ≡ Some n)
+    → IsSomeAnd o (λ n. ¬ IsOf e.value e.key n) → IsEndAt ys e j
+end_by_case ys e j None next end = absurd end
+end_by_case ys e j (Some n) next end = subst (λ (o : Option Entry). IsSomeAnd o (λ n. ¬ IsOf e.value e.key n)) (sym (next n refl)) end
+
+end_moved : (xs ys : List Entry) (e : Entry) (i j : ℕ) → ((n : Entry) → slice_get xs (i + 1) ≡ Some n → slice_get ys (j + 1) ≡ Some n) → IsEndAt xs e i → IsEndAt ys e j
+end_moved xs ys e i j next end = end_by_case ys e j (slice_get xs (i + 1)) next end
+
+next_in_list : (ls : List (List Entry)) (p : EntryPlace) (l : List Entry) (n : Entry) → slice_get ls p.list ≡ Some l → slice_get l (p.entry + 1) ≡ Some n
+    → slice_get (concatenated ls) (rank ls p + 1) ≡ Some n
+next_in_list ls p l n at in_l =
+    let is : rank ls p + 1 ≡ start ls p.list + (p.entry + 1) = omega arith in
+    ap (slice_get (concatenated ls)) is ∙ entry_in_list ls (record { list = p.list; entry = p.entry + 1 }) l n at in_l
+
+second_in_next : (ls : List (List Entry)) (p : EntryPlace) (l m : List Entry) (n : Entry) → IsPlaceIn ls p → slice_get ls p.list ≡ Some l → slice_get l p.entry ≡ None
+    → slice_get ls (p.list + 1) ≡ Some m → slice_get m 1 ≡ Some n → slice_get (concatenated ls) (rank ls p + 1) ≡ Some n
+second_in_next ls p l m n in_range at none next in_m =
+    let behind = behind_list ls p l in_range at none in
+    let is : rank ls p + 1 ≡ start ls (p.list + 1) + 1 = omega (arith, behind) in
+    ap (slice_get (concatenated ls)) is ∙ entry_in_list ls (record { list = p.list + 1; entry = 1 }) m n next in_m
 
 module _ {N S : Type 0} (entries : N → List Entry) (rank : N → S → ℕ) where
   pub end_here : (nodes : List N) (position : TreePosition S) (n : N) (e : Entry) → slice_get nodes position.node ≡ Some n → IsEndAt (entries n) e (rank n position.inner)

@@ -1,5 +1,5 @@
 -- What a change of nodes does to all entries: halves of a branch.
-use Rattle.std.proofs.Common.{◌≡◌, ◌∙◌, ℕ, zero, suc, ◌+◌, ◌-◌, ◌<◌, ◌≤◌, Option, List, [], ◌∷◌, ◌++◌, length, map, slice_get, IfSome, sym, ap, refl, subst, arith}
+use Rattle.std.proofs.Common.{◌≡◌, ◌∙◌, ℕ, zero, suc, ◌+◌, ◌-◌, ◌<◌, ◌≤◌, Option, List, [], ◌∷◌, ◌++◌, length, map, take, slice_get, IfSome, sym, ap, refl, subst, arith}
 use Rattle.std.specs.List.{All}
 use Rattle.std.proofs.lemmas.List.{length-append, take-append-le, map-append}
 use Rattle.std.proofs.lemmas.List.Elements.{All-tail}
@@ -29,6 +29,24 @@ get_behind [] ys k = let is : 0 + k ≡ k = omega arith in ap (slice_get ys) is
 get_behind (x ∷ xs) ys k =
     let next : suc (length xs) + k ≡ suc (length xs + k) = omega arith in
     ap (slice_get (x ∷ (xs ++ ys))) next ∙ get_behind xs ys k
+
+get_back : {X : Type 0} (xs ys : List X) (i n : ℕ) → length xs ≡ n → n ≤ i → slice_get (xs ++ ys) i ≡ slice_get ys (i - n)
+get_back xs ys i n size past =
+    let is : i ≡ length xs + (i - n) = omega arith in
+    ap (slice_get (xs ++ ys)) is ∙ get_behind xs ys (i - n)
+
+start_behind : (l u : List (List Entry)) (i : ℕ) → start (l ++ u) (length l + i) ≡ length (concatenated l) + start u i
+start_behind [] u i =
+    let same : 0 + i ≡ i = omega arith in
+    let whole : start u (0 + i) ≡ start u i = ap (start u) same in
+    omega arith
+start_behind (m ∷ l) u i =
+    let size = length-append m (concatenated l) in
+    let next : suc (length l) + i ≡ suc (length l + i) = omega arith in
+    let whole : start (m ∷ (l ++ u)) (suc (length l) + i) ≡ length m + start (l ++ u) (length l + i) =
+    ap (start (m ∷ (l ++ u))) next ∙ length-append m (concatenated (take (length l + i) (l ++ u))) in
+    let rest = start_behind l u i in
+    omega arith
 
 module _ {N S : Type 0} (entries : N → List Entry) (rank : N → S → ℕ) (l u : List N) (node : ℕ) (inner : S) where
   pub rank_front : node < length l → rank_in entries rank (l ++ u) (record { node = node; inner = inner }) ≡ rank_in entries rank l (record { node = node; inner = inner })

@@ -1,15 +1,15 @@
 -- What a sweep does in a node among others.
-use Rattle.std.proofs.Common.{◌≡◌, ◌∙◌, ℕ, zero, suc, ◌+◌, ◌-◌, ◌<◌, ◌≤◌, ◌⊎◌, inl, inr, ⊎_elim, ◌↔◌, List, [], ◌∷◌, ◌++◌, length, take, drop, map, get_or, Bool, true, Option, Some, None, slice_get, slice_set, IfSome, IfNone, ◌≢◌, sym, ap, refl, subst, arith}
-use Rattle.std.specs.List.{remove}
+use Rattle.std.proofs.Common.{◌≡◌, ◌∙◌, ℕ, zero, suc, ◌+◌, ◌-◌, ◌<◌, ◌≤◌, ◌⊎◌, inl, inr, ⊎_elim, ◌↔◌, List, [], ◌∷◌, ◌++◌, length, take, drop, map, get_or, Bool, true, false, Option, Some, None, slice_get, slice_set, IfSome, IfNone, ◌≢◌, sym, ap, refl, subst, arith}
+use Rattle.std.specs.List.{filter, remove}
 use Rattle.std.proofs.lemmas.Bool.{cases_lt, cases_eq}
-use Rattle.std.proofs.lemmas.List.{append_assoc, take_all, drop_all}
+use Rattle.std.proofs.lemmas.List.{append_assoc, append-nil, length-append, length-drop, length-take-le, take-append-drop, take_all, drop_all}
 use Rattle.std.proofs.lemmas.List.Edits.{length-remove, get_or-remove_below, get_or-remove_above}
-use Rattle.std.proofs.lemmas.Option.{slice_get-get_or, slice_get_within, get_or_from_slice_get}
+use Rattle.std.proofs.lemmas.Option.{slice_get-get_or, slice_get_within, slice_get_past, get_or_from_slice_get}
 use Rattle.xid_circle.specs.declared.Tid.{Tid}
 use Rattle.index_entries.specs.declared.entry.Entry.{Entry}
 use Rattle.index_entries.specs.declared.node.Swept.{Swept}
 use Rattle.index_nodes.specs.declared.nodes.TreePosition.{TreePosition}
-use Rattle.index_entries.specs.Lists.{concatenated}
+use Rattle.index_entries.specs.Lists.{concatenated, stays}
 use Rattle.index_nodes.specs.Nodes.{all, rank_in, before_node, AreNeat, AreNeatBut, IsPositionIn, IsBehindIn}
 use Rattle.index_nodes.specs.Rows.{inner_is, some_with}
 use Rattle.index_entries.specs.Sweeps.{IsSwept}
@@ -64,6 +64,34 @@ module _ {N : Type 0} (entries : N → List Entry) where
     some_behind some [] i neat within = absurd (omega arith)
     some_behind some (m ∷ nodes) zero neat within = some_with entries IsNeat size some nodes (λ k d lt. neat (suc k) d (omega arith)) (omega arith)
     some_behind some (m ∷ nodes) (suc i) neat within = some_behind some nodes i (λ k d lt. neat (suc k) d (omega arith)) (omega arith)
+
+-- what is swept in the middle is swept in all
+pub swept_among : {S T : Type 0} (es es' prefix back : List Entry) (rank : ℕ) (dead : List Tid) (swept : Swept S) (now : Swept T) → IsSwept es es' rank dead swept
+    → now.last ≡ swept.last → now.removed ≡ swept.removed → ((now.more ≡ true) ↔ ((swept.more ≡ true) ⊎ (0 < length back)))
+    → IsSwept (prefix ++ (es ++ back)) (prefix ++ (es' ++ back)) (length prefix + rank) dead now
+swept_among es es' prefix back rank dead swept now s last removed more = record {
+  prefix = prefix ++ s.prefix;
+  piece = s.piece;
+  back = s.back ++ back;
+  was = parted es s.piece s.was;
+  is = parted es' (filter (stays dead) s.piece) s.is;
+  begins = length-append prefix s.prefix ∙ ap (λ n. length prefix + n) s.begins;
+  last = s.last ∙ ap Some (sym last);
+  removed = ap (λ n. n + length (filter (stays dead) s.piece)) removed ∙ s.removed;
+  more = (
+    λ h. ⊎_elim (λ inner. omega (arith, whole, s.more.0 inner)) (λ outer. omega (arith, whole, outer)) (more.0 h),
+    λ h. more.1 (elim (cases_lt 0 (length back)) [ inl some ↦ inr some | inr none ↦ inl (s.more.1 (omega (arith, whole, h, none))) ]),
+  );
+}
+  where
+    whole : length (s.back ++ back) ≡ length s.back + length back
+    whole = length-append s.back back
+
+    parted : (xs here : List Entry) → xs ≡ s.prefix ++ (here ++ s.back) → prefix ++ (xs ++ back) ≡ (prefix ++ s.prefix) ++ (here ++ (s.back ++ back))
+    parted xs here is =
+        ap (λ xs. prefix ++ (xs ++ back)) is
+        ∙ ap (λ xs. prefix ++ xs) (append_assoc s.prefix (here ++ s.back) back ∙ ap (λ xs. s.prefix ++ xs) (append_assoc here s.back back))
+        ∙ sym (append_assoc prefix s.prefix (here ++ (s.back ++ back)))
 
 module _ {N S : Type 0} (entries : N → List Entry) (rank : N → S → ℕ) where
   pub rank_among : (nodes : List N) (position : TreePosition S) (n : N) → slice_get nodes position.node ≡ Some n

@@ -1,6 +1,6 @@
 -- What becomes of a root and of the first version of its chain, in order of slots.
-use Rattle.std.proofs.Common.{◌≡◌, ◌≢◌, ℕ, ◌<◌, ◌≤◌, ◌==◌, nat_lt, if◌then◌else◌, List, [], ◌∷◌, Some, None, arith, ⊎_elim, sym, ◌∙◌, subst}
-use Rattle.std.proofs.lemmas.Bool.{cases_lt, lt-ltb, le-ltb, cond-true, cond-false}
+use Rattle.std.proofs.Common.{◌≡◌, ◌≢◌, ℕ, ◌<◌, ◌≤◌, ◌==◌, nat_lt, if◌then◌else◌, List, [], ◌∷◌, Some, None, arith, ⊎_elim, sym, ◌∙◌, refl, subst}
+use Rattle.std.proofs.lemmas.Bool.{cases_lt, lt-ltb, le-ltb, eq-eqb, ne_eqb, cond-true, cond-false}
 use Rattle.prune_actions.specs.declared.Action.{Action}
 use Rattle.prune_actions.specs.declared.Action.TheVariants as action
 use Rattle.prune.specs.Actions.{HasTarget, CanDo, CanApply, AreInOrder, action_of}
@@ -13,6 +13,12 @@ pub record NamesBoth (count root start : ℕ) (a : Action) (acts : List (ℕ × 
   pub at_root : action_of acts root ≡ Some a
   pub at_start : start ≢ root → action_of acts start ≡ Some action.Unuse
   pub elsewhere : (m : ℕ) → m ≢ root → m ≢ start → action_of acts m ≡ None
+
+named-here : (n : ℕ) (a : Action) (rest : List (ℕ × Action)) → action_of ((n, a) ∷ rest) n ≡ Some a
+named-here n a rest = cond-true (n == n) (Some a) (action_of rest n) (eq-eqb n n refl)
+
+named-later : (n m : ℕ) (a : Action) (rest : List (ℕ × Action)) → m ≢ n → action_of ((n, a) ∷ rest) m ≡ action_of rest m
+named-later n m a rest other = cond-false (n == m) (Some a) (action_of rest m) (ne_eqb n m (λ e. other (sym e)))
 
 module _ (count root start : ℕ) (a : Action) (root_there : (1 ≤ root) × (root ≤ count)) (start_there : (1 ≤ start) × (start ≤ count)) (target : HasTarget count a) where
   root_can : CanDo count root a

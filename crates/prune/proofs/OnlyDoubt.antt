@@ -22,6 +22,7 @@ use Rattle.prune.specs.Pruning.{root_action, chain_action, orphan_action, IsInCh
 use Rattle.prune.specs.Marks.{NoneDead, IsSpared}
 use Rattle.prune.specs.Glances.{IsPlainAt, ArePlainBut, AreDoubts}
 use Rattle.prune.specs.OneDoubt.{BeginsIn, AreThose, first_cut}
+use Rattle.prune.proofs.Passed.{kept-alive}
 use Rattle.prune.proofs.Idle.{spared-does, nothing-lost}
 use Rattle.prune.proofs.Stays.{stays-none_dead}
 use Rattle.prune.proofs.Glancing.{starts-stays}
@@ -34,6 +35,12 @@ one-alone n m c =
     let p = place-of m (n ∷ []) c in
     let at : p.0 ≡ 0 = (let within = p.1 in omega arith) in
     sym p.2 ∙ ap (λ i. get_or (n ∷ []) i 0) at
+
+plain-alive : (w : Window) (horizon : ℕ) (slots : List Slot) (n : ℕ) → IsPlainAt w slots n → ¬ IsDeadAt w horizon slots n
+plain-alive w horizon slots n plain dead =
+    let h = dead.version.header in
+    let p = plain h (ap (option_map (λ (t : Version). t.header)) dead.there) in
+    kept-alive w horizon h.xmin.0 h p.1 refl p.0 dead.dead
 
 module _ (w : Window) (horizon : ℕ) (slots : List Slot) (n : ℕ) (few : length slots ≤ 291) (known : ArePlainBut w slots (n ∷ [])) where
   other-plain : (m : ℕ) → m ≢ n → IsPlainAt w slots m

@@ -9,6 +9,7 @@ use Rattle.page_slots.specs.Slots.{slot_at, version_at, version_of, SlotIsThere}
 use Rattle.page_slots.proofs.SlotLemmas.{there-from_slot_at, version_at-from_slot_at, slot_at-from_version_at}
 use Rattle.tuple_header.specs.Version.{Version}
 use Rattle.xid_circle.specs.Following.{ReachesIn}
+use Rattle.commit_status.specs.declared.status.Status.TheVariants.{Committed, Aborted}
 use Rattle.commit_status.specs.Window.{Window, IsCommitted, IsAborted}
 use Rattle.visibility.specs.Visible.{IsFrozen}
 use Rattle.hot_chain.specs.Chain.{has_aborted, is_root, is_root_in, IsChain}
@@ -18,6 +19,7 @@ use Rattle.prune.specs.Cutting.{IsCut}
 use Rattle.prune.specs.Pruning.{root_action}
 use Rattle.prune.specs.Thinning.{IsShortened, IsThinned, StaysOrGoes}
 use Rattle.sound_page.specs.Links.{Reaches, link}
+use Rattle.sound_page.specs.Readers.{IsPageReader}
 use Rattle.sound_page.specs.Sound.{chain_start_in, chain_start_of, IsIn, IsTarget, SoundPage, lead, KeepsRoots, KeepsChains}
 use Rattle.sound_page.proofs.Links.{IsLink, link-of, member-version}
 use Rattle.sound_page.proofs.ChainPlaces.{chain-first, reaches-places}
@@ -53,6 +55,14 @@ entry-after w slots after root zero chain starts c within is =
     ap (chain_start_in root) is ∙ first-entry slots root (get_or chain 0 0) starts (sym c.start ∙ slice_get-get_or chain 0 0 within)
 entry-after w slots after root (suc prefix) chain starts c within is =
     ap (chain_start_in root) (is ∙ ap (λ (o : Option ℕ). acted (slot_at slots root) (root_action (suc prefix) o)) (slice_get-get_or chain (suc prefix) 0 within))
+
+-- who counts what is committed is a reader
+committed-reader : (w : Window) (horizon : ℕ) (slots : List Slot) → SoundPage w slots → IsPageReader w horizon slots (IsCommitted w)
+committed-reader w horizon slots sound = record {
+  past = λ x done before. done;
+  none_aborted = λ x gone done. let e : Aborted ≡ Committed = sym gone ∙ done in absurd (cc);
+  in_order = λ n t at deleted counted. sound.made n t at deleted;
+}
 
 module _ (w : Window) (horizon : ℕ) (slots after : List Slot) (sound : SoundPage w slots) (p : IsThinned w horizon slots after) where
   -- what becomes of a root and its chain

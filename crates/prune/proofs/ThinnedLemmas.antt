@@ -1,12 +1,13 @@
 -- What stays of a sound page where a prefix of each chain goes.
 use Rattle.std.proofs.Common.{◌≡◌, ℕ, zero, suc, ◌+◌, ◌<◌, ◌≤◌, ◌&&◌, Bool, true, false, if◌then◌else◌, List, length, get_or, Option, Some, None, arith, ⊎_elim, sym, ap, ◌∙◌, refl, slice_get}
 use Rattle.std.specs.Option.{option_and_then, option_map}
-use Rattle.std.proofs.lemmas.Bool.{cases_lt, cases_eq}
+use Rattle.std.proofs.lemmas.Bool.{cases_lt, cases_eq, cases_Bool}
 use Rattle.std.proofs.lemmas.Option.{none-some}
 use Rattle.xid_circle.specs.Following.{ReachesIn}
 use Rattle.page_slots.specs.declared.slot.Slot.{Slot}
 use Rattle.page_slots.specs.Slots.{slot_at, version_at, version_of, header_at}
 use Rattle.tuple_header.specs.Version.{Version}
+use Rattle.tuple_header.specs.Marks.{is_heap_only}
 use Rattle.tuple_header.specs.declared.version.Header.{Header}
 use Rattle.commit_status.specs.Window.{Window}
 use Rattle.hot_chain.specs.Chain.{has_aborted, is_replaced, is_made_by, is_root, successor, IsChain}
@@ -15,8 +16,10 @@ use Rattle.prune.specs.Pruning.{root_action}
 use Rattle.prune.specs.Thinning.{IsShortened, IsThinned}
 use Rattle.sound_page.specs.Links.{link}
 use Rattle.sound_page.specs.Sound.{SoundPage}
-use Rattle.sound_page.proofs.Links.{link-of}
-use Rattle.sound_page.proofs.SoundChains.{exact}
+use Rattle.sound_page.proofs.Links.{IsLink, link-of}
+use Rattle.sound_page.proofs.ChainPlaces.{place-of, first-normal, chain-first}
+use Rattle.sound_page.proofs.SoundChains.{chain-exists, exact, in-leads, plain-root}
+use Rattle.sound_page.proofs.Undone.{aborted-has}
 
 -- The places of a chain.
 
@@ -49,6 +52,27 @@ pub record HasHome (w : Window) (slots : List Slot) (n : ℕ) : Type 0 where
   pub place : ℕ
   pub within : place < length chain
   pub is : get_or chain place 0 ≡ n
+
+-- a version from which a link leads on is in a chain
+pub link-home : (w : Window) (slots : List Slot) (n k : ℕ) → SoundPage w slots → link w slots n ≡ Some k → HasHome w slots n
+link-home w slots n k sound next = ⊎_elim
+    (λ heap_only. ⊎_elim
+    (λ u.
+    let e : false ≡ true = sym l.live ∙ aborted-has w l.old.header.xmax.0 (sound.undone n l.old l.from u.0 u.1 l.deleter) in
+    absurd (cc))
+    (λ r.
+    let leads = in-leads w slots r.root n sound r.leads in
+    let p = place-of n leads.chain leads.holds in
+    record { root = r.root; chain = leads.chain; starts = leads.starts; is_chain = leads.is_chain; place = p.0; within = p.1; is = p.2 })
+    (sound.owned n l.old l.from heap_only))
+    (λ plain.
+    let own = chain-exists (has_aborted w) slots n sound.few in
+    let first = chain-first (has_aborted w) slots n n own.chain own.is (first-normal slots n l.old l.from) in
+    record { root = n; chain = own.chain; starts = plain-root slots n l.old l.from plain; is_chain = own.is; place = 0; within = first.0; is = first.1 })
+    (cases_Bool (is_heap_only l.old.header))
+  where
+    l : IsLink (has_aborted w) slots n k
+    l = link-of (has_aborted w) slots n k next
 
 module _ (w : Window) (horizon : ℕ) (slots after : List Slot) (sound : SoundPage w slots) (p : IsThinned w horizon slots after) where
   -- where a version stays, the next one does

@@ -3,17 +3,18 @@ use Rattle.std.proofs.Common.{◌≡◌, ℕ, List, [], ◌∷◌, ◌++◌, len
 use Rattle.std.specs.Prelude.{IsSome, Contains}
 use Rattle.std.specs.Option.{is_some}
 use Rattle.std.proofs.lemmas.Bool.{both_ways}
+use Rattle.std.proofs.lemmas.Option.{slice_get_within}
 use Rattle.xid_circle.specs.declared.Tid.{Tid}
 use Rattle.tuple_header.specs.declared.version.Row.{Row}
 use Rattle.tuple_header.specs.Version.{Version}
 use Rattle.commit_status.specs.declared.status.Status.{Status}
 use Rattle.commit_status.specs.declared.status.Status.TheVariants.{Committed}
-use Rattle.history.specs.History.{Write, Transaction, committed, written, own_or}
+use Rattle.history.specs.History.{Write, Transaction, committed, written, own_or, IsLate}
 use Rattle.history.specs.World.{OpenSession, joined, own_write}
 use Rattle.refinement.specs.Heap.{SeenSession}
 use Rattle.history.proofs.HistoryLemmas.{written-append, IsSome-or_second}
 use Rattle.visibility.specs.Seeing.{HasCommitted, Reads, by_itself, by_others, VisibleBy, Touches, inserter, deleter}
-use Rattle.refinement.specs.Visible.{IsFreshSnapshot, At}
+use Rattle.refinement.specs.Visible.{HasMissed, IsFreshSnapshot, At}
 use Rattle.refinement.specs.Changes.{FinishesIds, SameSight}
 use Rattle.refinement.proofs.Readers.{ReaderAgrees-same}
 use Rattle.refinement.specs.Agrees.{Shows, ReaderAgrees, LevelsAgree, Traced, LevelTraces, SessionAgrees}
@@ -35,6 +36,13 @@ own_or-some (Some r) p q some = refl
 pub own_or-none : (o : Option (Option Row)) (p : Option Row) → ¬ IsSome o → own_or o p ≡ p
 own_or-none None p none = refl
 own_or-none (Some r) p none = absurd (none refl)
+
+-- Of one that reads by statement nothing is late, and nothing is missed.
+pub none_missed : {status : ℕ → Option Status} (v : Version) → ¬ HasMissed status (λ x. HasCommitted status x) v
+none_missed v missed = missed.1.2 missed.1.1
+
+pub none_late : (history : List Transaction) (k : ℕ) → ¬ IsLate history (length history) k
+none_late history k late = let within = slice_get_within history late.0 late.1 late.3 in let from = late.2 in absurd (omega arith)
 
 -- Another session commits, whose ids these are: the reader that has these ids of its own, and has written this, sees what it has
 -- written itself as before, and of every other key what a new session sees.

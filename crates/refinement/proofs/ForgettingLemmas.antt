@@ -23,6 +23,9 @@ use Rattle.refinement.specs.Settling.{ForgetsIds}
 committed-stays : Committed ≢ Aborted
 committed-stays e = absurd (cc)
 
+running-stays : InProgress ≢ Aborted
+running-stays e = absurd (cc)
+
 module _ (h : Heap) (status' : ℕ → Option Status) (sees' : Snap → ℕ → Type 0) (f : ForgetsIds h status' sees') where
   -- what is known of an id afterwards was known
   known : (x : ℕ) (s : Status) → status' x ≡ Some s → h.status x ≡ Some s

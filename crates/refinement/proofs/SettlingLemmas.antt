@@ -25,6 +25,9 @@ aborted_not_committed status x aborted done = cc
 aborted_not_active : (status : ℕ → Option Status) (x : ℕ) → HasAborted status x → IsRunning status x → ⊥
 aborted_not_active status x aborted active = cc
 
+committed_not_active : (status : ℕ → Option Status) (x : ℕ) → HasCommitted status x → IsRunning status x → ⊥
+committed_not_active status x done active = cc
+
 module _ (h : Heap) where
   -- every snapshot that is kept sees the id
   abbrev IsSeenByAll : ℕ → Type 0

@@ -4,6 +4,7 @@ use Rattle.std.specs.List.{filter, All}
 use Rattle.std.proofs.lemmas.Bool.{cases_lt}
 use Rattle.std.proofs.lemmas.List.{length-append}
 use Rattle.std.proofs.lemmas.List.Elements.{Contains-get_or, All-contains, All-filter, All-contains_itself, filter_passes, Contains-append_left, Contains-append_right, Contains-append_cases}
+use Rattle.std.proofs.lemmas.List.Kept.{AllPairs-cons}
 use Rattle.std.proofs.lemmas.Option.{slice_get_within}
 use Rattle.xid_circle.specs.declared.Tid.{Tid}
 use Rattle.xid_circle.proofs.Members.{Contains-none}
@@ -21,7 +22,7 @@ use Rattle.index_entries.specs.Sweeps.{IsSwept}
 use Rattle.root_index.specs.Trees.{Tree, tree_entries, among, IsNeatTree, SetAside, IsSoundIndex}
 use Rattle.root_index.specs.Pieces.{RemovesPiece}
 use Rattle.root_index.specs.View.{free_places}
-use Rattle.index_entries.proofs.OrderLemmas.{Precedes-not_back, not_before_itself, ascending-tail}
+use Rattle.index_entries.proofs.OrderLemmas.{Precedes-not_back, not_before_itself, ascending-tail, ascending-head}
 use Rattle.index_nodes.proofs.RowEditLemmas.{get_front, get_behind}
 use Rattle.index_entries.proofs.SetLemmas.{place_of, ascending-at, same_place, kept, stays-is, Contains-from_place}
 
@@ -37,6 +38,30 @@ filtered test xs e h = (
   All-contains (Contains xs) (filter test xs) e (All-filter test (Contains xs) xs (All-contains_itself xs)) h,
   All-contains (λ x. test x ≡ true) (filter test xs) e (filter_passes test xs) h,
 )
+
+among_both : (xs xs' ys : List Entry) → ((e : Entry) → Contains xs e → Contains xs' e) → (e : Entry) → Contains (xs ++ ys) e → Contains (xs' ++ ys) e
+among_both xs xs' ys more e h =
+    ⊎_elim (λ first. Contains-append_left xs' ys e (more e first)) (λ second. Contains-append_right xs' ys e second) (Contains-append_cases xs ys e h)
+
+ascending_filtered : (test : Entry → Bool) (piece back : List Entry) → IsAscending (piece ++ back) → IsAscending (filter test piece ++ back)
+ascending_filtered test [] back up = up
+ascending_filtered test (x ∷ piece) back up = by_case (test x) refl (ascending_filtered test piece back (ascending-tail x (piece ++ back) up))
+  where
+    later : All (EntryPrecedes x) (filter test piece ++ back)
+    later = all-from (EntryPrecedes x) (filter test piece ++ back)
+        (λ e h. ascending-head x e (piece ++ back) up (among_both (filter test piece) piece back (λ e there. (filtered test piece e there).0) e h))
+
+    by_case : (b : Bool) → test x ≡ b → IsAscending (filter test piece ++ back) → IsAscending (filter test (x ∷ piece) ++ back)
+    by_case true is rest = rw is (AllPairs-cons EntryPrecedes x (filter test piece ++ back) later rest)
+    by_case false is rest = rw is rest
+
+ascending_front : (prefix xs ys : List Entry) → IsAscending (prefix ++ xs) → IsAscending ys → ((e : Entry) → Contains ys e → Contains xs e) → IsAscending (prefix ++ ys)
+ascending_front [] xs ys up up_ys more = up_ys
+ascending_front (x ∷ prefix) xs ys up up_ys more =
+    AllPairs-cons EntryPrecedes x (prefix ++ ys)
+    (all-from (EntryPrecedes x) (prefix ++ ys) (λ e h. ascending-head x e (prefix ++ xs) up
+    (⊎_elim (λ first. Contains-append_left prefix xs e first) (λ second. Contains-append_right prefix xs e (more e second)) (Contains-append_cases prefix ys e h))))
+    (ascending_front prefix xs ys (ascending-tail x (prefix ++ xs) up) up_ys more)
 
 module _ (prefix piece back : List Entry) (dead : List Tid) (up : IsAscending (prefix ++ (piece ++ back))) where
   up_rest : IsAscending (piece ++ back)

@@ -19,7 +19,7 @@ use Rattle.c_views.specs.declared.vacuum.SandpiperVacuum.{SandpiperVacuum}
 use Rattle.c_views.specs.declared.id.SandpiperId.{SandpiperId}
 use Rattle.c_views.specs.Entries.{tid_of, IsEntryAfter}
 use Rattle.c_views.specs.Reasons.{IsShownTo}
-use Rattle.c_views.specs.Sessions.{IsSessionShown, IsOwnId, IsListedId}
+use Rattle.c_views.specs.Sessions.{IsSessionShown, IsOwnId, AreIdsAt, IsListedId}
 use Rattle.c_views.specs.Horizon.{IsHorizonShown}
 use Rattle.c_views.specs.Fates.{IsFateShown}
 use Rattle.c_views.specs.Actions.{with_actions}
@@ -86,7 +86,7 @@ ShowsSessionBy (Some held) s old code new = ShowsSession held.engine s old code 
 abbrev pub ShowsSessionOf : Sandpiper → SessionNo → SandpiperSession → (code : ℕ) → SandpiperSession → Type 0
 ShowsSessionOf table s old code new = ShowsSessionBy (held_by table) s old code new
 
--- an id of an open session: one of its own, or one that its snapshot lists
+-- an id of an open session: one of its own, or one that its snapshot lists; or how many of its own it had at a savepoint
 pub record ShowsId (st : State) (s : SessionNo) (is_id : Option ℕ → Type 0) (old code new : ℕ) : Type 0 where
   pub answer : Result (Option ℕ) Refusal
   pub is_answer : MatchResult answer is_id (IsNotOpen st s)
@@ -98,6 +98,13 @@ OwnIdBy (Some held) s n old code new = ShowsId (core_of held) s (IsOwnId (core_o
 
 abbrev pub OwnIdOf : Sandpiper → SessionNo → Count → (old code new : ℕ) → Type 0
 OwnIdOf table s n old code new = OwnIdBy (held_by table) s n old code new
+
+abbrev pub IdsAtBy : Option Held → SessionNo → Count → (old code new : ℕ) → Type 0
+IdsAtBy None s savepoint old code new = Tells None status.NoEngine old code new
+IdsAtBy (Some held) s savepoint old code new = ShowsId (core_of held) s (AreIdsAt (core_of held) s savepoint) old code new
+
+abbrev pub IdsAtOf : Sandpiper → SessionNo → Count → (old code new : ℕ) → Type 0
+IdsAtOf table s savepoint old code new = IdsAtBy (held_by table) s savepoint old code new
 
 abbrev pub ListedIdBy : Option Held → SessionNo → Count → (old code new : ℕ) → Type 0
 ListedIdBy None s n old code new = Tells None status.NoEngine old code new

@@ -2,15 +2,15 @@
 
 ghost use Rattle.std.specs.Prelude.{◌≡◌};
 ghost use Rattle.std.specs.Option.{option_map};
-ghost use Rattle.c_views.specs.Sessions.{IsOwnId, IsListedId};
+ghost use Rattle.c_views.specs.Sessions.{IsOwnId, AreIdsAt, IsListedId};
 ghost use Rattle.sandpiper_c.specs.Calls.{StaysAsIs};
-ghost use Rattle.sandpiper_c.specs.Looks.{Tells, TellsOrRefuses, NextEntryBy, NextEntryOf, Explains, ExplainsOf, TellsSession, ShowsSession, ShowsSessionOf, ShowsId, OwnIdOf, ListedIdOf, ShowsHorizonOf, ShowsFate, FateOf, VacuumOf, IdOf};
+ghost use Rattle.sandpiper_c.specs.Looks.{Tells, TellsOrRefuses, NextEntryBy, NextEntryOf, Explains, ExplainsOf, TellsSession, ShowsSession, ShowsSessionOf, ShowsId, OwnIdOf, IdsAtOf, ListedIdOf, ShowsHorizonOf, ShowsFate, FateOf, VacuumOf, IdOf};
 
 use c_handles::{CallStatus, Sandpiper};
 use c_views::{
     SandpiperFate, SandpiperHorizon, SandpiperId, SandpiperPlace, SandpiperSession, SandpiperShown,
-    SandpiperVacuum, explanation, fate_at, horizon_in, id_in, listed_id, next_entry, own_id,
-    session_in, vacuum_in,
+    SandpiperVacuum, explanation, fate_at, horizon_in, id_in, ids_at_savepoint, listed_id,
+    next_entry, own_id, session_in, vacuum_in,
 };
 use session_core::{Engine, Refusal};
 use std::alloc::Global;
@@ -162,6 +162,36 @@ pub extern "C" fn sandpiper_own_id(
     match table.take(alloc) {
         Some(held) => {
             let code = show_own_id(&held.engine, session, n, id);
+            table.put(held);
+            code
+        }
+        None => CallStatus::NoEngine.number(),
+    }
+}
+
+/// How many own ids there were, for the engine.
+fn show_ids_at(engine: &Engine, session: u8, savepoint: usize, count: &mut usize) -> u32
+    ensures { ShowsId engine.now.engine.core session
+        (AreIdsAt engine.now.engine.core session savepoint) count.old result count.new }
+{
+    tell_or_refuse(ids_at_savepoint(engine, session, savepoint), count)
+}
+
+/// Writes to `count` how many own ids an open session had at a savepoint, 0 the newest, if it has so many savepoints.
+#[unsafe(no_mangle)]
+pub extern "C" fn sandpiper_ids_at_savepoint(
+    alloc: Global,
+    table: &mut Sandpiper,
+    session: u8,
+    savepoint: usize,
+    count: &mut usize,
+) -> u32
+    ensures stays { StaysAsIs table.old table.new }
+    ensures ids { IdsAtOf table.old session savepoint count.old result count.new }
+{
+    match table.take(alloc) {
+        Some(held) => {
+            let code = show_ids_at(&held.engine, session, savepoint, count);
             table.put(held);
             code
         }

@@ -1,13 +1,16 @@
 -- Steps of the reader's loops.
-use Rattle.std.proofs.Common.{◌≡◌, ℕ, ◌+◌, ◌-◌, ◌*◌, ◌%◌, ◌<◌, ◌≤◌, suc, zero, List, [], ◌∷◌, ◌++◌, length, get_or, drop, refl, ap, arith, drop-cons, add-one, ◌∙◌, sym, ◌&&◌, if◌then◌else◌, None, Some, Option, append_assoc}
+use Rattle.std.proofs.Common.{◌≡◌, ℕ, ◌+◌, ◌-◌, ◌*◌, ◌%◌, ◌<◌, ◌≤◌, suc, zero, List, [], ◌∷◌, ◌++◌, length, get_or, drop, refl, ap, arith, drop-cons, add-one, ◌∙◌, sym, ◌&&◌, nat_le, if◌then◌else◌, None, Some, Option, append_assoc}
 use Rattle.std.proofs.lemmas.List.{drop_all, append-nil}
 use Rattle.std.specs.Option.{option_map}
 use Rattle.std.proofs.lemmas.Option.{same_Some}
 use Rattle.prune_actions.specs.declared.Action.{Action}
 use Rattle.script_text.proofs.NumberLaws.{bound}
+use Rattle.std.specs.Char.{is_ascii_digit}
 use Rattle.script_text.specs.Reading.{◌>>=◌, digits_on, pairs_of, nibble_of, pair_and, action_of, actions_of}
 
 -- the digit at i is read next
+pub digits_on-drop : (max n : ℕ) (w : List ℕ) (i : ℕ) → i < length w
+    → digits_on max n (drop i w) ≡ (if is_ascii_digit (get_or w i 0) && nat_le (10 * n + (get_or w i 0 - 48)) max then digits_on max (10 * n + (get_or w i 0 - 48)) (drop (i + 1) w) else None)
 unfolding digits_on
 digits_on-drop max n w i h = rw (add-one, drop-cons w i 0, digits_on) refl
 

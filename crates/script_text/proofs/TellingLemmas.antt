@@ -2,7 +2,11 @@
 use Rattle.std.proofs.Common.{◌≡◌, ℕ, ◌+◌, List, ◌++◌, refl, add-one, ap, append_assoc, sym, ◌∙◌}
 use Rattle.page_slots.specs.Slots.{slot_at}
 use Rattle.page_slots.specs.declared.slot.Slot.{Slot}
+use Rattle.script_text.specs.Answers.{slot_lines, slot_line_text}
 use Rattle.script_text.specs.Inspected.{inspected_lines, inspected_line}
+
+pub slot_lines-more : (n : ℕ) (slots : List Slot) → slot_lines (n + 1) slots ≡ slot_lines n slots ++ slot_line_text (n + 1) (slot_at slots (n + 1))
+slot_lines-more n slots = rw add-one refl
 
 pub ruleset slot_lemmas = (slot_lines-more)
 

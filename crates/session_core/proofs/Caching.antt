@@ -7,14 +7,18 @@ use Rattle.std.proofs.lemmas.List.Elements.{Contains-append_right}
 use Rattle.tuple_header.specs.declared.version.Row.{Row}
 use Rattle.commit_status.specs.declared.status.Status.{Status}
 use Rattle.commit_status.specs.declared.status.Status.TheVariants.{InProgress, Committed, Aborted}
-use Rattle.commit_status.specs.Window.{IdEntry, Window, IsWindow, IsActive, status_of}
-use Rattle.commit_status.specs.Changes.{Finishes}
+use Rattle.commit_status.specs.Window.{IdEntry, Window, IsWindow, IsActive, status_in, status_of}
+use Rattle.commit_status.specs.Changes.{Gives, Finishes, given_entry}
+use Rattle.commit_status.proofs.Places.{place-lt}
+use Rattle.commit_status.proofs.ChangesLemmas.{entry-at}
+use Rattle.commit_status.proofs.Giving.{gives-place_old, finished-place}
 use Rattle.visibility.specs.Visible.{state_of}
+use Rattle.visibility.proofs.Makers.{state-some}
 use Rattle.status_cache.specs.Held.{KeepsCache, held_from}
-use Rattle.status_cache.proofs.Agreeing.{from-held, truncating-keeps}
+use Rattle.status_cache.proofs.Agreeing.{ended-state, from-held, truncating-keeps}
 use Rattle.snapshot.specs.Own.{Own}
 use Rattle.heap_write.specs.Heap.{HeapView}
-use Rattle.write_ids.specs.Ids.{TakesIds}
+use Rattle.write_ids.specs.Ids.{GivesUnder, TakesIds}
 use Rattle.heap_write.specs.declared.heap.WriteFault.{WriteFault}
 use Rattle.heap_write.specs.declared.heap.WriteFault.TheVariants as fault
 use Rattle.calls.specs.declared.step.Step.{Step}
@@ -54,6 +58,16 @@ pushed : (xs : List IdEntry) (y : IdEntry) (i : ℕ) → i < length xs → slice
 pushed [] y i h = absurd (omega arith)
 pushed (x ∷ xs) y zero h = refl
 pushed (x ∷ xs) y (suc i) h = pushed xs y i (omega arith)
+
+stays-gives : (w v : Window) (parent : Option ℕ) → Gives w v parent → EndedStays w v
+stays-gives w v parent gives x status ended was =
+    let at = finished-place w x (λ active. ended (sym was ∙ active)) in
+    ap status_in (entry-at v x at.0 (gives-place_old w v parent x at.0 gives at.1) ∙ ap (λ es. slice_get es at.0) gives.entries
+    ∙ pushed w.entries (given_entry parent) at.0 (place-lt w x at.0 at.1) ∙ sym (entry-at w x at.0 at.1)) ∙ was
+
+stays-given : (xs : List ℕ) (w v : Window) (parent : Option ℕ) → GivesUnder w parent xs v → EndedStays w v
+stays-given [] w v parent gives = stays-same w v gives
+stays-given (x ∷ xs) w v parent gives = stays-on w gives.0 v (stays-gives w gives.0 parent gives.2) (stays-given xs gives.0 v (Some x) gives.3)
 
 -- A step of a session, a prune or a plan.
 
@@ -106,6 +120,15 @@ module _ (old new : State) where
     change-stays (Changes.applies p plan a) = by-step (StepsBetween.applies p (horizon_of old) plan.change plan.actions a.heap)
 
 -- The cache.
+
+pub cache-stays : (cache : Option (List (ℕ × Status))) (w v : Window) → EndedStays w v → KeepsCache cache w → KeepsCache cache v
+cache-stays None w v stays keeps = tt
+cache-stays (Some held) w v stays keeps = (
+  keeps.0,
+  λ e there.
+      let ended = keeps.0 e there in
+      ended-state v e.0 e.1 ended (stays e.0 e.1 ended (state-some w e.0 e.1 (keeps.1 e there)).1),
+)
 
 module _ (cache : Option (List (ℕ × Status))) (old new : State) where
   pub same-keeps : new.heap.statuses ≡ old.heap.statuses → KeepsCache cache old.heap.statuses → KeepsCache cache new.heap.statuses

@@ -1,5 +1,5 @@
 -- The making of an index, and what it does to a vacuum that runs.
-use Rattle.std.proofs.Common.{◌≡◌, ℕ, false, Option, None, sym, ap, ◌∙◌}
+use Rattle.std.proofs.Common.{◌≡◌, ℕ, false, Option, Some, None, refl, sym, ap, ◌∙◌}
 use Rattle.std.specs.Prelude.{IsSome}
 use Rattle.std.specs.Option.{option_map}
 use Rattle.calls.specs.declared.reply.Reply.TheVariants as reply
@@ -14,6 +14,13 @@ use Rattle.vacuum_engine.specs.Exact.{ExactCreateIndex}
 -- an engine by its parts
 abbrev engine_of : State → Option VacuumView → EngineView
 engine_of st o = record { core = st; vacuum = o }
+
+engine-is : (e : EngineView) (st : State) (o : Option VacuumView) → e.core ≡ st → e.vacuum ≡ o → e ≡ engine_of st o
+engine-is e st o same has = ap (λ (x : State). engine_of x e.vacuum) same ∙ ap (λ (x : Option VacuumView). engine_of st x) has
+
+none-unless_some : (o : Option VacuumView) → ¬ IsSome o → o ≡ None
+none-unless_some None off = refl
+none-unless_some (Some v) off = absurd (off refl)
 
 module _ (old new : EngineView) (c : ℕ) (vacuum : new.vacuum ≡ option_map (disturbed false) old.vacuum) where
   pub create-barred : IsSome old.vacuum × LacksIndexOn old.core c → new.core ≡ old.core → ExactCreateIndex old c (reply.Refused refusal.VacuumRunning) new

@@ -1,5 +1,5 @@
 -- A session's step by a call of its own.
-use Rattle.std.proofs.Common.{◌≡◌, ◌∙◌, ℕ, true, false, List, Option, Some, None, set, refl, sym, ap, subst}
+use Rattle.std.proofs.Common.{◌≡◌, ◌∙◌, ℕ, true, false, List, Option, Some, None, Ok, Err, set, refl, sym, ap, subst}
 use Rattle.std.specs.Prelude.{Result, IfErr}
 use Rattle.std.specs.Option.{option_map}
 use Rattle.tuple_header.specs.declared.version.Row.{Row}
@@ -21,6 +21,13 @@ use Rattle.session_core.specs.State.{WaitingView, with_waits}
 use Rattle.session_core.specs.Notes.{gives_back, NotesWait}
 use Rattle.session_core.proofs.Noting.{Follows, noted-follows}
 use Rattle.session_core.proofs.Stepping.{beside-exact}
+
+-- what bars from a look is not Busy
+notes-found : (parts : WaitingView) (s : ℕ) (found : Result (Option Row) Refusal) (ended : List (Option ℕ)) → IfErr found (BarsReady (engine_sessions parts.engine.core) s) → ended ≡ set parts.waits s None
+    → NotesWait parts s false (found_reply found) (record { engine = parts.engine; waits = ended }) (found_reply found)
+notes-found parts s (Ok row) ended refused is = (refl, ap (with_waits parts.engine) is)
+notes-found parts s (Err (refusal.Busy o)) ended refused is = absurd refused
+notes-found parts s (Err r) ended refused is = (refl, ap (with_waits parts.engine) is)
 
 -- the engine was disturbed, its core did the step, and the reply was noted
 module _ (old parts mid : WaitingView) (same : parts ≡ mid) (core : mid.engine.core ≡ old.engine.core) (vacuum : mid.engine.vacuum ≡ option_map (disturbed true) old.engine.vacuum) (waits : mid.waits ≡ old.waits) where

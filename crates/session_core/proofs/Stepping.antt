@@ -1,5 +1,5 @@
 -- A step that is no vacuum's, beside one that may be running.
-use Rattle.std.proofs.Common.{◌≡◌, false, Option, Some, None, sym, ap, ◌∙◌, subst, ⊎_elim}
+use Rattle.std.proofs.Common.{◌≡◌, ℕ, false, Option, Some, None, sym, ap, ◌∙◌, subst, ⊎_elim}
 use Rattle.std.specs.Prelude.{MatchOption}
 use Rattle.xid_circle.specs.declared.Xid.{Xid}
 use Rattle.heap_write.specs.Heap.{HeapView}
@@ -22,6 +22,10 @@ beside-exact old new (step.CreateIndex c) reply off exact = absurd (cc off)
 beside-exact old new step reply off exact = exact
 
 -- Its end.
+
+-- where nothing is left to do nothing changes
+ended-same : (h h' : HeapView) (v : VacuumView) (horizon : ℕ) → Steps h h' v horizon None None → h' ≡ h
+ended-same h h' v horizon (Steps.ends is over none same) = same
 
 module _ (old new : EngineView) (v : VacuumView) (mid : State) (running : old.vacuum ≡ Some v) (works : VacuumWorks old.core mid v None None) (gone : new.vacuum ≡ None) where
   heap-same : mid.heap ≡ old.core.heap

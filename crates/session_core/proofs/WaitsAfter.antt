@@ -1,9 +1,9 @@
 -- Who waits after a step, in the engine and in the world.
-use Rattle.std.proofs.Common.{◌≡◌, ℕ, suc, List, [], ◌∷◌, length, map, set, Option, Some, None, not, cond, nat_eq, refl, sym, ap, ◌∙◌}
+use Rattle.std.proofs.Common.{◌≡◌, ℕ, suc, List, [], ◌∷◌, length, map, set, Option, Some, None, Bool, true, false, not, cond, nat_eq, refl, sym, ap, ◌∙◌}
 use Rattle.std.proofs.Math.ListN.{length-set}
 use Rattle.history.specs.World.{World}
 use Rattle.history.specs.Cursors.{kept_where}
-use Rattle.history.specs.Moves.{stepped, awaited_no_more}
+use Rattle.history.specs.Moves.{stepped, awaited_no_more, with_made_index}
 use Rattle.calls.specs.declared.step.Step.{Step}
 use Rattle.calls.specs.declared.step.Step.TheVariants as step
 use Rattle.calls.specs.declared.reply.Reply.{Reply}
@@ -34,6 +34,16 @@ length-given_back step waits = refl
 pub length-freed : (step : Step) (reply : Reply) (waits : List (Option ℕ)) → length (freed step reply waits) ≡ length waits
 length-freed step (reply.Refused r) waits = refl
 length-freed step reply waits = length-given_back step waits
+
+-- an index is made, or is there
+index-waits : (w : World) (index : ℕ) (b : Bool) (t : ℕ) → (cond b w (with_made_index w index)).waits_for t ≡ w.waits_for t
+index-waits w index true t = refl
+index-waits w index false t = refl
+
+-- a step that gives back no key leaves the waits, whatever the reply
+freed-as : (step : Step) (reply : Reply) (waits : List (Option ℕ)) → ((xs : List (Option ℕ)) → given_back step xs ≡ xs) → freed step reply waits ≡ waits
+freed-as step (reply.Refused r) waits none = refl
+freed-as step reply waits none = none waits
 
 module _ (waits : List (Option ℕ)) (w : World) (same : (t : ℕ) → wait_in waits t ≡ w.waits_for t) where
   pub ended-stepped : (s t : ℕ) → wait_in (set waits s None) t ≡ (stepped w s).waits_for t

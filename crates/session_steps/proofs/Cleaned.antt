@@ -4,9 +4,9 @@ use Rattle.refinement.proofs.Runs.{unmade}
 use Rattle.sound_entries.specs.Since.{IsExactSince}
 use Rattle.table_indexes.specs.Indexes.{since_at}
 use Rattle.session_steps.proofs.InUse.{marks-stay, scans-still, agree}
-use Rattle.std.proofs.Common.{◌≡◌, ◌≢◌, ℕ, zero, suc, ◌≤◌, List, Option, Some, false, refl, sym, ap, ◌∙◌, subst, ◌⊎◌, inl, inr, arith}
-use Rattle.std.specs.Prelude.{Contains}
-use Rattle.std.proofs.lemmas.Option.{same_Some}
+use Rattle.std.proofs.Common.{◌≡◌, ◌≢◌, ℕ, zero, suc, ◌≤◌, List, Option, Some, None, false, refl, sym, ap, ◌∙◌, subst, ◌⊎◌, inl, inr, arith}
+use Rattle.std.specs.Prelude.{Contains, IsSome}
+use Rattle.std.proofs.lemmas.Option.{same_Some, none-some}
 use Rattle.xid_circle.specs.declared.Tid.{Tid}
 use Rattle.xid_circle.specs.Following.{ReachesIn}
 use Rattle.tuple_header.specs.Version.{Version}
@@ -34,7 +34,7 @@ use Rattle.table_integrity.specs.Table.{StaysSoundTable}
 use Rattle.table_integrity.proofs.Places.{RemovesOn, prunes-stand, applies-stand}
 use Rattle.table_integrity.proofs.Keeping.{pruned-stays, applied-stays}
 use Rattle.history.specs.History.{Write}
-use Rattle.history.specs.World.{World, OpenSession, joined}
+use Rattle.history.specs.World.{World, OpenSession, joined, start_now}
 use Rattle.calls.specs.declared.step.Step.TheVariants as step
 use Rattle.calls.specs.declared.reply.Reply.TheVariants as reply
 use Rattle.calls.specs.declared.reply.Refusal.{Refusal}
@@ -44,14 +44,19 @@ use Rattle.calls.specs.declared.settings.Settings.{Settings}
 use Rattle.refinement.specs.Agrees as relation_agrees
 use Rattle.visibility.specs.Seeing as readers
 use Rattle.refinement.specs.Changes as change
+use Rattle.refinement.proofs.Readers.{Levels-top}
 use Rattle.refinement.proofs.Follows as theory
 use Rattle.sessions.specs.declared.session.Session.{Session}
-use Rattle.session_steps.specs.State.{State, seen, seen_in, horizon_of}
+use Rattle.sessions.specs.declared.session.SessionIsolation.{SessionIsolation}
+use Rattle.sessions.specs.declared.session.SessionIsolation.TheVariants.{BySnapshot, ByStatement}
+use Rattle.session_steps.specs.State.{State, session_at, seen, seen_in, reader_of, horizon_of}
+use Rattle.sessions.specs.Session.{kept_by, IsByStatement}
 use Rattle.session_steps.specs.Agrees.{Agrees, Follows}
 use Rattle.session_steps.specs.Exact.{Cleans, AppliesPlan}
-use Rattle.session_steps.proofs.Statements.{kept-at}
+use Rattle.session_steps.proofs.Owns.{reader-is}
+use Rattle.session_steps.proofs.Statements.{statement_sight, cursor_sight, kept-at}
 use Rattle.session_steps.proofs.Horizons.{upto-horizon, below-xmin}
-use Rattle.session_steps.proofs.Follows.{Follows-same}
+use Rattle.session_steps.proofs.Follows.{Follows-same, some-position}
 
 not-zero : (x : ℕ) → 3 ≤ x → x ≢ 0
 not-zero x normal is = absurd (omega arith)
@@ -88,6 +93,31 @@ record KeptReader (st : State) (w : World) (snap : Snap) : Type 0 where
 -- a session reads its view so
 abbrev ReadsView : State → World → Session → OpenSession → (ℕ → Type 0) → ℕ → Type 0
 ReadsView st w e m sees start = relation_agrees.ReaderAgrees (state_of st.heap.statuses) (seen st).version w.history sees start e.own.ids (joined m.levels)
+
+kept-reader : (st : State) (w : World) → Agrees st w → (s : ℕ) (e : Session) (snap : Snap) → session_at st s ≡ Some e → kept_by e.isolation ≡ Some snap → KeptReader st w snap
+kept-reader st w agrees s e snap at kept = of e.isolation refl
+  where
+    found : (m : OpenSession) × (w.session s ≡ Some m)
+        × relation_agrees.SessionAgrees (state_of st.heap.statuses) (seen st).version w.history (statement_sight st e.isolation) (start_now w.history m) (cursor_sight st e.isolation) (reader_of e) m
+    found = agrees.found.opened s (reader_of e) (reader-is st s e at)
+
+    reads-by : (t : Snap) (start : ℕ) → t ≡ snap → ReadsView st w e found.0 (λ x. Sees t st.heap.statuses x) start → KeptReader st w snap
+    reads-by t start same reads = record {
+      own = e.own.ids;
+      active = found.2.own_active;
+      start = start;
+      writes = joined found.0.levels;
+      reads = subst (λ (t : Snap). ReadsView st w e found.0 (λ x. Sees t st.heap.statuses x) start) same reads;
+    }
+
+    of : (i : SessionIsolation) → e.isolation ≡ i → KeptReader st w snap
+    of (BySnapshot t) is = reads-by t (start_now w.history found.0) (same_Some t snap (ap kept_by (sym is) ∙ kept))
+        (subst (λ (i : SessionIsolation). ReadsView st w e found.0 (statement_sight st i) (start_now w.history found.0)) is (Levels-top e.own.ids e.own.saved found.0.levels found.2.levels))
+    of (ByStatement None) is = absurd (none-some snap (ap kept_by (sym is) ∙ kept))
+    of (ByStatement (Some t)) is =
+        let some = (agrees.sound.sessions s e at).for_cursor (subst (λ i. IsByStatement i) (sym is) tt) (subst (λ o. IsSome o) (sym kept) refl) in
+        let c = found.2.cursor_reads (some-position e.cursor some) in
+        reads-by t c.start (same_Some t snap (ap kept_by (sym is) ∙ kept)) (subst (λ (i : SessionIsolation). ReadsView st w e found.0 (cursor_sight st i) c.start) is c.reads)
 
 -- Who reads a version's deletion reads its making: so what comes before such a version in a chain, nobody reads either.
 

@@ -105,6 +105,9 @@ Follows-open_heap_no_memory st s e at sound bare by =
 
 -- A session's cursor moves, and nothing else changes.
 
+keeps-cursor : (st : State) (e : Session) (cursor : CursorScan) → SessionKeeps st.heap.statuses e → SessionKeeps st.heap.statuses (with_cursor (Some cursor) e)
+keeps-cursor st e cursor h = record { snapshot = h.snapshot; for_cursor = λ by kept. refl; topmost = h.topmost; prefixes = h.prefixes; distinct = h.distinct }
+
 module _ (st st' : State) (s : ℕ) (e : Session) (cursor : CursorScan) (at : session_at st s ≡ Some e) (is : st' ≡ put_session st s (map_session (with_cursor (Some cursor)) (session_at st s))) where
   pub moved : st' ≡ put_session st s (Some (with_cursor (Some cursor) e))
   moved = is ∙ ap (λ o. put_session st s (map_session (with_cursor (Some cursor)) o)) at
@@ -120,6 +123,16 @@ module _ (st st' : State) (s : ℕ) (e : Session) (cursor : CursorScan) (at : se
 
 abbrev pub with_both : Option CursorScan → Option Snap → Session → Session
 with_both cursor kept e = with_kept kept (with_cursor cursor e)
+
+-- by statement it keeps one only where it has a cursor
+for-both : (i : SessionIsolation) (cursor : Option CursorScan) (kept : Option Snap) → (IsSome kept → IsSome cursor) → IsByStatement (keeping kept i) → IsSome (kept_by (keeping kept i)) → IsSome cursor
+for-both (BySnapshot snap) cursor kept some by keeps = absurd by
+for-both (ByStatement old) cursor kept some by keeps = some keeps
+
+-- by snapshot it reads as before
+still-by_snapshot : (i : SessionIsolation) (kept : Option Snap) (snap : Snap) → keeping kept i ≡ BySnapshot snap → i ≡ BySnapshot snap
+still-by_snapshot (BySnapshot own) kept snap is = is
+still-by_snapshot (ByStatement old) kept snap is = absurd (cc)
 
 module _ (st : State) (w : World) (s : ℕ) (e : Session) (cursor : Option CursorScan) (kept : Option Snap) (at : session_at st s ≡ Some e) (agrees : Agrees st w) (fresh : (snap : Snap) → kept ≡ Some snap → snap ≡ now_taken st) where
   keeps-both : (IsSome kept → IsSome cursor) → SessionKeeps st.heap.statuses (with_both cursor kept e)

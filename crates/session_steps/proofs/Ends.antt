@@ -1,15 +1,17 @@
 -- What the end of a session keeps, and its return to a savepoint: ids that it has are finished.
 use Rattle.std.proofs.Common.{◌≡◌, ◌≢◌, ℕ, ◌<◌, ◌≤◌, List, [], ◌∷◌, ◌++◌, length, set, Option, Some, None, refl, sym, ap, ◌∙◌, subst, ◌⊎◌, inl, inr}
 use Rattle.std.proofs.Math.ListN.{length-set}
-use Rattle.std.specs.Prelude.{Contains}
-use Rattle.std.proofs.lemmas.Bool.{cases_eq}
+use Rattle.std.specs.Prelude.{Contains, IsSome}
+use Rattle.std.proofs.lemmas.Bool.{cases_Bool, cases_eq}
 use Rattle.std.proofs.lemmas.Option.{none-some, same_Some}
 use Rattle.std.proofs.lemmas.List.Elements.{Contains-append_left, Contains-append_right, Contains-append_cases}
 use Rattle.xid_circle.specs.declared.Tid.{Tid}
 use Rattle.tuple_header.specs.Version.{Version}
+use Rattle.tuple_header.specs.Marks.{is_frozen}
+use Rattle.visibility.specs.Visible.{IsFrozen}
 use Rattle.commit_status.specs.declared.status.Status.{Status}
 use Rattle.commit_status.specs.declared.status.Status.TheVariants.{InProgress, Committed, Aborted}
-use Rattle.commit_status.specs.Window.{Window, IsWindow, turns, top_of}
+use Rattle.commit_status.specs.Window.{Window, IsWindow, IsInProgress, turns, top_of}
 use Rattle.commit_status.specs.Window as window
 use Rattle.commit_status.specs.Changes.{Finishes}
 use Rattle.commit_status.proofs.Finishing.{finishes-top, finishes-upto}
@@ -21,7 +23,8 @@ use Rattle.heap_write.specs.Heap.{slots_of}
 use Rattle.table_integrity.specs.Table.{StaysSoundTable}
 use Rattle.table_integrity.specs.Laws as laws
 use Rattle.table_integrity.proofs.Keeping.{committed-stays, aborted-stays}
-use Rattle.history.specs.World.{World, start_now}
+use Rattle.history.specs.History.{Write, Transaction}
+use Rattle.history.specs.World.{World, joined, start_now}
 use Rattle.refinement.specs.Heap as relation
 use Rattle.visibility.specs.Seeing.{HasCommitted, IsRunning, Reads, by_itself, by_others, deleted_by, inserter, deleter}
 use Rattle.refinement.specs.Visible.{At}
@@ -78,6 +81,24 @@ keeps-finish w v ids end e f h = record {
 }
 
 -- Who deletes what: whoever reads the deletion reads the making.
+
+status-cases : (o : Option Status) → IsSome o → (o ≡ Some InProgress) ⊎ ((o ≡ Some Committed) ⊎ (o ≡ Some Aborted))
+status-cases None some = cc
+status-cases (Some InProgress) some = inl refl
+status-cases (Some Committed) some = inr (inl refl)
+status-cases (Some Aborted) some = inr (inr refl)
+
+frozen-cases : (t : Version) → IsFrozen t.header ⊎ (¬ IsFrozen t.header)
+frozen-cases t = elim (cases_Bool (is_frozen t.header)) [ inl frozen ↦ inl frozen | inr thawed ↦ inr (λ frozen. cc) ]
+
+-- the session as it was at its newest savepoint
+newest-reader : (status : ℕ → Option Status) (store : Tid → Option Version) (history : List Transaction) (sees : ℕ → Type 0) (start : ℕ) (own before : List ℕ) (saved all : List (List ℕ)) (levels : List (List Write))
+    → all ≡ before ∷ saved → theory.LevelsAgree status store history sees start own all levels → (writes : List Write) × theory.ReaderAgrees status store history sees start before writes
+newest-reader status store history sees start own before saved all levels is h = of levels (subst (λ all. theory.LevelsAgree status store history sees start own all levels) is h)
+  where
+    of : (levels : List (List Write)) → theory.LevelsAgree status store history sees start own (before ∷ saved) levels → (writes : List Write) × theory.ReaderAgrees status store history sees start before writes
+    of [] h = absurd h
+    of (ws ∷ levels) h = (joined levels, Levels-top before saved levels h.2)
 
 module _ (st : State) (w : World) (agrees : Agrees st w) where
   -- what reads the version at a place, read by a session with these ids of its own

@@ -1,31 +1,36 @@
 -- A session writes under the id of its newest level, or under a new one: what that keeps, whatever it writes.
-use Rattle.std.proofs.Common.{◌≡◌, ℕ, List, [], ◌∷◌, ◌++◌, length, set, Option, Some, None, slice_get, refl, sym, ap, ◌∙◌, subst, ◌⊎◌, inl, inr}
+use Rattle.std.proofs.Common.{◌≡◌, ℕ, List, [], ◌∷◌, ◌++◌, length, set, Option, Some, None, slice_get, refl, sym, ap, ◌∙◌, subst, ◌⊎◌, inl, inr, append_assoc, arith}
 use Rattle.std.proofs.Math.ListN.{length-set}
 use Rattle.std.specs.Prelude.{Contains}
 use Rattle.std.specs.Option.{option_map}
 use Rattle.std.proofs.lemmas.Bool.{cases_eq}
-use Rattle.std.proofs.lemmas.Option.{same_Some}
+use Rattle.std.proofs.lemmas.Option.{same_Some, none-some}
+use Rattle.std.proofs.lemmas.List.{append-nil}
 use Rattle.std.proofs.lemmas.List.Elements.{Contains-append_cases}
+use Rattle.xid_circle.proofs.Members.{Contains-none}
 use Rattle.page_slots.specs.declared.slot.Slot.{Slot}
-use Rattle.commit_status.specs.Window.{Window, IsWindow, IsActive, IsGiven, IsGivenBefore, IsUpToNext, top_of}
+use Rattle.commit_status.specs.Window.{Window, IsWindow, IsActive, IsCommitted, IsGiven, IsGivenBefore, IsUpToNext, top_of, place}
+use Rattle.commit_status.proofs.Places.{place-lt, some-from_is, is-from_some}
 use Rattle.commit_status.proofs.Ancestors.{top-same}
-use Rattle.snapshot.specs.Own.{Own, ArePrefixes, AreDistinct, unassigned_levels, current_xid}
+use Rattle.commit_status.proofs.Giving.{finished-place}
+use Rattle.snapshot.specs.Own.{Own, ArePrefixes, AreDistinct, unassigned_levels, current_xid, saved_with_each}
 use Rattle.snapshot.specs.Snap.{Snap, Sees}
 use Rattle.snapshot.specs.Laws.{IsInWindow}
 use Rattle.snapshot.proofs.Sights.{sees-top}
-use Rattle.snapshot.proofs.Levels.{level-mine, level-newest, unassigned_levels-given, prefixes-given}
+use Rattle.snapshot.proofs.Levels.{level-among, level-mine, level-none, level-some, level-newest, unassigned_levels-given, prefixes-given}
 use Rattle.visibility.proofs.Makers.{active-to}
 use Rattle.heap_write.specs.Heap.{HeapView}
 use Rattle.write_ids.specs.Ids.{SameIds, GivesUnder, TakesIds}
 use Rattle.forgetting.specs.Truncating.{IsWellTopped}
-use Rattle.write_ids.proofs.GivenIds.{given-first, given-top_old, given-new, given-distinct}
+use Rattle.forgetting.proofs.WellTopped.{before-place}
+use Rattle.write_ids.proofs.GivenIds.{given-window, given-place, given-earlier, given-first, given-status, given-top_old, given-new, given-distinct, given-top, given-top_first}
 use Rattle.table_integrity.specs.Table.{StaysSoundTable}
 use Rattle.session_steps.proofs.InUse.{scans-still, scans-as, scans-put}
 use Rattle.table_indexes.specs.Indexes.{since_at}
 use Rattle.history.specs.World.{World}
 use Rattle.refinement.specs.Heap as relation
 use Rattle.refinement.specs.Agrees as theory
-use Rattle.refinement.specs.Changes.{GivesEach, with_ids}
+use Rattle.refinement.specs.Changes.{GivesEach, with_id, with_ids}
 use Rattle.refinement.proofs.Itself.{IsCurrent}
 use Rattle.refinement.proofs.Isolations.{SameSights}
 use Rattle.refinement.proofs.Steps.{OnlyIs}
@@ -40,6 +45,7 @@ use Rattle.session_steps.specs.Keeps.{OwnIdsKeep, EngineKeeps}
 use Rattle.sessions.specs.Places.{open_at}
 use Rattle.session_steps.specs.Agrees.{Agrees, Sound, SessionKeeps, SessionScans}
 use Rattle.sound_entries.specs.Since.{IsExactSince}
+use Rattle.sound_entries.proofs.Since.{giving-since}
 use Rattle.session_steps.specs.Writes.{SameSession}
 use Rattle.session_steps.proofs.OwnIdsLemmas.{open-within, open-set_same, open-set_other, open-set_cases, distinct-both, keep-same, keep-given}
 use Rattle.session_steps.proofs.StateLemmas.{only-set}
@@ -138,6 +144,21 @@ keeps-give xs w v parent e is gives there h = record {
   distinct = h.distinct;
 }
 
+first-append : (ids xs : List ℕ) (top : ℕ) → slice_get ids 0 ≡ Some top → slice_get (ids ++ xs) 0 ≡ Some top
+first-append [] xs top at = absurd (none-some top at)
+first-append (y ∷ ids) xs top at = at
+
+-- each new id has the topmost parent of those that were there, or the first of the new ones
+new-topmost : (ids xs : List ℕ) (saved : List (List ℕ)) (w v : Window) (y : ℕ) → ArePrefixes ids saved → IsWindow v → GivesUnder w (current_xid ids saved) xs v → ((x : ℕ) → Contains ids x → IsGiven w x)
+    → ((x : ℕ) → Contains ids x → slice_get ids 0 ≡ Some (top_of w x)) → Contains xs y → slice_get (ids ++ xs) 0 ≡ Some (top_of v y)
+new-topmost [] [] saved w v y prefixes is gives there tops among = absurd (Contains-none y among)
+new-topmost [] (x ∷ xs) saved w v y prefixes is gives there tops among =
+    ap Some (sym (given-top_first x xs w v y (subst (λ o. GivesUnder w o (x ∷ xs) v) (level-none saved prefixes) gives) is among))
+new-topmost (z ∷ ids) xs saved w v y prefixes is gives there tops among =
+    let level = level-some z ids saved prefixes in
+    let mine = level-among (z ∷ ids) saved level.0 prefixes level.1 in
+    tops level.0 mine ∙ ap Some (sym (given-top xs w v level.0 y (subst (λ o. GivesUnder w o xs v) level.1 gives) is (there level.0 mine) among))
+
 module _ (w v : Window) (e : Session) (own : Own) (x : ℕ) (is : IsWindow v) (takes : TakesIds w v e.own own x) (there : (x : ℕ) → Contains e.own.ids x → IsGiven w x) (h : SessionKeeps w e) where
   prefixes-taken : ArePrefixes own.ids own.saved
   prefixes-taken = rw (takes.ids, takes.saved) (prefixes-given takes.given e.own.ids e.own.saved h.prefixes takes.count)
@@ -171,6 +192,35 @@ module _ (w v : Window) (e : Session) (own : Own) (x : ℕ) (is : IsWindow v) (t
     mine = level-mine own.ids own.saved x unassigned_levels-taken takes.newest;
     newest = λ before at. level-newest own.ids own.saved x prefixes-taken distinct-taken unassigned_levels-taken takes.newest before at;
   }
+
+-- a topmost parent that is in progress was before: it stands before its child, so it isn't one of the new ids
+tops-given : (xs : List ℕ) (w v : Window) (parent : Option ℕ) → IsWindow v → GivesUnder w parent xs v → ((x : ℕ) → IsCommitted w x → IsWellTopped w x) → (x : ℕ) → IsCommitted v x → IsWellTopped v x
+tops-given xs w v parent is gives tops x done =
+    let was : IsCommitted w x = sym (given-status xs w v parent x gives is) ∙ done in
+    let at = finished-place w x (λ going. cc) in
+    let top : top_of v x ≡ top_of w x = given-top_old xs w v parent x gives is (is-from_some (place w x) at.0 at.1) in
+    record {
+      finished = λ active. let active' = subst (IsActive v) top active in
+          let there = some-from_is (place v (top_of w x)) active'.is_given in
+          let before = before-place v (top_of w x) x at.0 there.0 is (given-place xs w v parent x at.0 gives at.1) there.1 (tops x was).near in
+          (tops x was).finished (record {
+            is_given = is-from_some (place w (top_of w x)) there.0 (given-earlier xs w v parent (top_of w x) there.0 gives there.1 (let within = place-lt w x at.0 at.1 in omega arith));
+            unfinished = sym (given-status xs w v parent (top_of w x) gives is) ∙ active'.unfinished;
+          });
+      near = subst (λ t. (t ≡ x) ⊎ IsGivenBefore t x) (sym top) (tops x was).near;
+    }
+
+-- the limit of ids stays
+given-stop_age : (xs : List ℕ) (w v : Window) (parent : Option ℕ) → GivesUnder w parent xs v → v.stop_age ≡ w.stop_age
+given-stop_age [] w v parent g = ap (λ (w : Window). w.stop_age) g
+given-stop_age (x ∷ xs) w v parent g = given-stop_age xs g.0 v (Some x) g.3 ∙ g.2.stop_age
+
+-- what was exact from an id on still is
+since-given : (xs : List ℕ) (w v : Window) (parent since : Option ℕ) → IsWindow v → GivesUnder w parent xs v → IsExactSince w since → IsExactSince v since
+since-given [] w v parent since is gives exact = subst (λ v. IsExactSince v since) (sym gives) exact
+since-given (x ∷ xs) w v parent since is gives exact =
+    since-given xs gives.0 v (Some x) since is gives.3
+    (giving-since w gives.0 parent since (given-window (x ∷ xs) w v parent gives is) (given-window xs gives.0 v (Some x) gives.3 is) gives.2 exact)
 
 -- The engine after a write, or after one that failed.
 
@@ -229,6 +279,10 @@ module _ (st : State) (w : World) (h : HeapView) (s : ℕ) (e e' : Session) (at 
       }
 
 -- What readers see of a session that takes ids.
+
+with_ids-is : (xs : List ℕ) (r : relation.SeenSession) → with_ids xs r ≡ record r { own = r.own ++ xs; saved = saved_with_each xs r.saved }
+with_ids-is [] r = rw (append-nil r.own) refl
+with_ids-is (x ∷ xs) r = with_ids-is xs (with_id (length xs) x r) ∙ ap (λ ids. record r { own = ids; saved = saved_with_each (x ∷ xs) r.saved }) (append_assoc r.own (x ∷ []) xs)
 
 module _ (st : State) (w : World) (v : Window) (s : ℕ) (e : Session) (own : Own) (x : ℕ) (at : session_at st s ≡ Some e) (takes : TakesIds st.heap.statuses v e.own own x) (window : IsWindow v) (agrees : Agrees st w) where
   pub reader-taken : reader_of (with_own e own) ≡ with_ids takes.given (reader_of e)

@@ -1,6 +1,7 @@
 -- A scan of the heap is a walk, as the relation has it.
 use Rattle.std.proofs.Common.{◌≡◌, ℕ, zero, suc, ◌+◌, ◌<◌, ◌≤◌, List, [], ◌∷◌, length, map, Some, sym, ap, ◌∙◌, inl, inr, arith}
 use Rattle.std.specs.Prelude.{◌↔◌}
+use Rattle.std.proofs.lemmas.Bool.{cases_lt}
 use Rattle.std.proofs.lemmas.Option.{none-some}
 use Rattle.xid_circle.specs.declared.Tid.{Tid}
 use Rattle.tuple_header.specs.declared.version.Row.{Row}
@@ -21,6 +22,7 @@ use Rattle.table_scans.specs.Takes.{IsAtEnd, TakesPage, TakesPart}
 use Rattle.sessions.specs.declared.session.Session.{Session}
 use Rattle.session_steps.specs.State.{State, seen}
 use Rattle.session_steps.specs.Takes.{session_sight}
+use Rattle.session_steps.proofs.Statements.{cursor-sees}
 use Rattle.session_steps.proofs.AtCursor.{seen_by, NoneToCome, SomeToCome, first-row}
 
 -- a walk from the one place up to the other meets these rows, which the session sees
@@ -39,6 +41,13 @@ page-within (p ∷ ps) (suc n) slot v is = let within = page-within ps n slot v 
 pub page-from : (p q : Tid) → IsFrom p q → p.page ≤ q.page
 page-from p q (inl lt) = omega arith
 page-from p q (inr (same, le)) = omega arith
+
+page-onward : (p q : Tid) → IsFrom (start_of (p.page + 1)) q → IsFrom p q
+page-onward p q (inl later) = inl (let lt : p.page + 1 < q.page = later in omega arith)
+page-onward p q (inr (same, le)) = inl (let is : p.page + 1 ≡ q.page = same in omega arith)
+
+later-page : (p q : Tid) → p.page < q.page → IsFrom (start_of (p.page + 1)) q
+later-page p q lt = elim (cases_lt (p.page + 1) q.page) [ inl further ↦ inl further | inr near ↦ inr (omega arith, omega arith) ]
 
 -- whoever sees these versions by their headers
 module _ (st : State) (sees : Header → Type 0) (those : Version → Type 0) (same : (v : Version) → sees v.header ↔ those v) where
@@ -66,6 +75,10 @@ module _ (st : State) (sees : Header → Type 0) (those : Version → Type 0) (s
   scans-gather-by {from} (heap_passes p rows scans none) = Gathers-pass_slot (none-stands p none) (scans-gather-by scans)
   scans-gather-by {from} (heap_finds p rows row scans shows) = Gathers-one row (row-stands p row shows) (scans-gather-by scans)
   scans-gather-by {from} (heap_turns p rows scans none) = walk-turns from p rows none (scans-gather-by scans)
+
+-- the session's cursor does
+pub scans-gather : (st : State) (e : Session) → IsWindow st.heap.statuses → {from to : Tid} {rows : List Row} → ScansHeap (session_sight st e) from to rows → WalksHeap st e from to rows
+scans-gather st e window scans = scans-gather-by st (session_sight st e).sees (seen_by st e) (cursor-sees st window e.isolation e.own.ids) scans
 
 -- What is taken is met on a walk.
 

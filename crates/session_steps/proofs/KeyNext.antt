@@ -2,7 +2,10 @@
 use Rattle.std.proofs.Common.{◌≡◌, ℕ, ◌<◌, ◌^◌, max, List, length, Some, false, refl, sym, ap, ◌∙◌, subst, arith}
 use Rattle.std.specs.Prelude.{Vec}
 use Rattle.std.specs.declared.alloc.Global.{Global}
+use Rattle.std.proofs.lemmas.List.{length-map}
 use denote.RawPtr.{null_ptr}
+use Rattle.tuple_header.specs.declared.version.Row.{Row}
+use Rattle.history.specs.Cursors.{keys_of}
 use Rattle.calls.specs.declared.step.Step.TheVariants as step
 use Rattle.calls.specs.declared.reply.Reply.TheVariants as reply
 use Rattle.refinement.specs.Allowed.{Allows, next}
@@ -23,6 +26,10 @@ use Rattle.session_steps.proofs.Follows.{led-same}
 use Rattle.session_steps.proofs.AtCursor.{IsAtCursor}
 use Rattle.session_steps.proofs.CursorSteps.{moved, only-cursor, sound-cursor}
 use Rattle.session_steps.proofs.KeyWalks.{still-within, within-comes, keys-walk, none-left}
+
+-- there are as many keys as rows
+as-many : (keys : List ℕ) (rows : List Row) → keys ≡ keys_of rows → length rows ≡ length keys
+as-many keys rows are = sym (ap length are ∙ length-map rows (λ (r : Row). r.key))
 
 module _ (st st' : State) (s n : ℕ) (e : Session) (range left : KeyRange) (keys : Vec ℕ Global) (at : session_at st s ≡ Some e) (sound : e.failed ≡ false) (opened : e.cursor ≡ Some (Keys range))
     (is : st' ≡ put_session st s (map_session (with_cursor (Some (Keys left))) (session_at st s))) where

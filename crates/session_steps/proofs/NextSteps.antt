@@ -1,12 +1,14 @@
 -- A session asks its cursor for rows, or for keys: whatever the answer, the engine follows the history.
-use Rattle.std.proofs.Common.{◌≡◌, ℕ, ◌+◌, ◌<◌, ◌^◌, max, List, length, Some, false, refl, sym, ap, ◌∙◌, subst, arith}
+use Rattle.std.proofs.Common.{◌≡◌, ℕ, ◌+◌, ◌<◌, ◌^◌, max, List, length, Option, Some, false, refl, sym, ap, ◌∙◌, subst, arith}
 use Rattle.std.specs.Prelude.{Vec}
 use Rattle.std.specs.declared.alloc.Global.{Global}
 use denote.RawPtr.{null_ptr}
 use Rattle.xid_circle.specs.declared.Tid.{Tid}
 use Rattle.tuple_header.specs.declared.version.Row.{Row}
-use Rattle.commit_status.specs.Window.{IsWindow}
+use Rattle.commit_status.specs.Window.{Window, IsWindow}
 use Rattle.index_lookup.specs.declared.index_scan.IndexRange.{IndexRange}
+use Rattle.snapshot.specs.Snap.{Snap}
+use Rattle.table_indexes.specs.Indexes.{IndexesView, IsInUse, since_at}
 use Rattle.history.specs.World.{World}
 use Rattle.calls.specs.declared.step.Step.TheVariants as step
 use Rattle.calls.specs.declared.reply.Reply.TheVariants as reply
@@ -23,11 +25,14 @@ use Rattle.table_scans.specs.Keys.{NoKeyIsIn, MeetsSomeKey}
 use Rattle.table_scans.specs.Takes.{IsAtEnd, MeetsSome, TakesRows, Takes, TakesUpTo, TakesSome}
 use Rattle.refinement.proofs.Runs.{unmade}
 use Rattle.sessions.specs.declared.session.Session.{Session}
+use Rattle.sessions.specs.declared.session.SessionIsolation.{SessionIsolation}
+use Rattle.sound_entries.specs.Since.{MayScanSince}
 use Rattle.table_scans.specs.declared.progress.CursorScan.{CursorScan}
 use Rattle.table_scans.specs.declared.progress.CursorScan.TheVariants.{Rows, Keys}
 use Rattle.table_scans.specs.declared.progress.Scan.{Scan}
 use Rattle.table_scans.specs.declared.progress.Scan.TheVariants.{Index, Heap}
 use Rattle.session_steps.specs.State.{State, session_at, put_session, map_session, with_cursor, seen, seen_position, position_of, reader_of, engine_sessions}
+use Rattle.sessions.specs.Session.{kept_by}
 use Rattle.session_steps.specs.Agrees.{Agrees, Follows, KeepsAllTargets, NotesHold}
 use Rattle.session_steps.specs.Takes.{session_sight, HandsOutBy}
 use Rattle.session_steps.specs.NextRows.{ExactNextRows}
@@ -118,6 +123,18 @@ module _ (st st' : State) (s n : ℕ) (e : Session) (after : CursorScan) (rows :
 
   only-at : (position : Position) → position_of (Some after) ≡ Some position → OnlyIs (seen st).session (seen now).session s (Some (record (reader_of e) { cursor = Some position }))
   only-at position same = subst (λ p. OnlyIs (seen st).session (seen now).session s (Some (record (reader_of e) { cursor = p }))) same (only-cursor st st' s e after at is)
+
+-- where the cursor is after a walk in an index
+walked-to : (span left : IndexRange) → left ≡ record span { last = left.last } → position_of (Some (Rows (Index left))) ≡ Some (in_index span.index span.low span.high (seen_position left.last))
+walked-to span left same = ap (λ (sp : IndexRange). Some (in_index sp.index sp.low sp.high (seen_position left.last))) same
+
+-- it goes along the same index
+along-left : (w : Window) (indexes : IndexesView) (isolation : SessionIsolation) (cursor : Option CursorScan) (span left : IndexRange) → left ≡ record span { last = left.last } → cursor ≡ Some (Rows (Index span))
+    → GoesAlong w indexes isolation cursor → GoesAlong w indexes isolation (Some (Rows (Index left)))
+along-left w indexes isolation cursor span left same opened along other is =
+    let here : left ≡ other = cc in
+    let number : span.index ≡ other.index = sym (ap (λ (sp : IndexRange). sp.index) same) ∙ ap (λ (sp : IndexRange). sp.index) here in
+    subst (λ n. IsInUse indexes n × ((snap : Snap) → kept_by isolation ≡ Some snap → MayScanSince w (since_at indexes n) snap)) number (along span opened)
 
 module _ (st st' : State) (s n : ℕ) (e : Session) (rows : Vec Row Global) (at : session_at st s ≡ Some e) (sound : e.failed ≡ false) (some : 0 < length rows.items) where
   Follows-rows_in_index : (span left : IndexRange) → e.cursor ≡ Some (Rows (Index span)) → TakesRows (session_sight st e) span left (max 1 n) rows.items

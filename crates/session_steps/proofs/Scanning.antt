@@ -1,8 +1,10 @@
 -- By which snapshots an index may be scanned: those of sessions for which it is not too new, of cursors, and those that are taken now.
-use Rattle.std.proofs.Common.{◌≡◌, ℕ, List, Option, Some, None, false, refl, sym, subst}
+use Rattle.std.proofs.Common.{◌≡◌, ℕ, List, Option, Some, None, false, refl, sym, subst, arith}
 use Rattle.std.specs.Prelude.{Contains}
 use Rattle.std.proofs.lemmas.Option.{same_Some}
-use Rattle.commit_status.specs.Window.{Window, IsActive, next_id}
+use Rattle.xid_circle.proofs.Members.{Contains-none}
+use Rattle.commit_status.specs.Window.{Window, IsWindow, IsActive, next_id}
+use Rattle.commit_status.proofs.Places.{upto-next}
 use Rattle.snapshot.specs.Snap.{Snap, empty_at}
 use Rattle.snapshot.specs.Laws.{IsInWindow}
 use Rattle.sound_entries.specs.Leading.{SeesNoExcused}
@@ -20,6 +22,13 @@ use Rattle.session_steps.specs.Agrees.{Agrees}
 use Rattle.sound_entries.specs.Since.{MayScanSince}
 use Rattle.sound_entries.proofs.Since.{scan-unexcused, begin-scan}
 use Rattle.session_steps.proofs.Owns.{now_taken, are-open, taken-within}
+
+-- the snapshot that lists nobody is one of the window
+pub empty-within : (w : Window) → IsWindow w → IsInWindow w (empty_at (next_id w))
+empty-within w is = record {
+  bounds = record { xmin = upto-next w is; xmax = upto-next w is; ordered = omega arith };
+  listed = λ x among. absurd (Contains-none x among);
+}
 
 -- a snapshot lies in the window, and who reads by it may scan what is exact from this id on
 pub record ScansBy (w : Window) (since : Option ℕ) (snap : Snap) : Type 0 where

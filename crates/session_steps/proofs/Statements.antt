@@ -2,11 +2,12 @@
 use Rattle.std.proofs.Common.{◌≡◌, ℕ, List, Option, Some, None, refl, sym, ap, ◌∙◌, subst, ◌⊎◌, inl, inr}
 use Rattle.std.specs.Prelude.{◌↔◌, IsSome}
 use Rattle.std.proofs.lemmas.Option.{same_Some, none-some}
+use Rattle.tuple_header.specs.declared.version.Header.{Header}
 use Rattle.tuple_header.specs.Version.{Version}
 use Rattle.commit_status.specs.declared.status.Status.TheVariants.{Committed}
 use Rattle.commit_status.specs.Window.{Window, IsWindow, next_id}
 use Rattle.snapshot.specs.Snap.{Snap, Sees, empty_at}
-use Rattle.visibility.specs.Seeing.{Reads}
+use Rattle.visibility.specs.Seeing.{Reads, VisibleBy}
 use Rattle.visibility.specs.Visible.{state_of, ReadsIn, IsVisible, IsNewerCommitIn}
 use Rattle.visibility.proofs.Makers.{state-some}
 use Rattle.visibility.proofs.Statements.{given-before, statement-reads}
@@ -25,6 +26,13 @@ statement_sight st i = relation.StatementSees (seen st) (isolation_seen i)
 
 abbrev pub cursor_sight : State → SessionIsolation → ℕ → Type 0
 cursor_sight st i = relation.CursorSees (seen st) (isolation_seen i)
+
+-- what sees the same ids sees the same versions
+same-visible : (A B : ℕ → Type 0) (h : Header) → ((x : ℕ) → A x ↔ B x) → VisibleBy A h ↔ VisibleBy B h
+same-visible A B h same = (
+  λ v. record { made = λ x is. (same x).0 (v.made x is); kept = λ x is reads. v.kept x is ((same x).1 reads) },
+  λ v. record { made = λ x is. (same x).1 (v.made x is); kept = λ x is reads. v.kept x is ((same x).0 reads) },
+)
 
 module _ (st : State) (is : IsWindow st.heap.statuses) where
   statement-counts : (i : SessionIsolation) (own : List ℕ) (x : ℕ) → ReadsIn st.heap.statuses (statement_snapshot st.heap.statuses i) own x ↔ Reads (state_of st.heap.statuses) (statement_sight st i) own x

@@ -1,5 +1,5 @@
 -- What tickets hold, of the view of the session that took them.
-use Rattle.std.proofs.Common.{◌≡◌, ℕ, ◌+◌, ◌<◌, false, List, [], ◌∷◌, ◌++◌, length, slice_get, Option, Some, None, refl, sym, ap, ◌∙◌, subst, inl, inr, arith}
+use Rattle.std.proofs.Common.{◌≡◌, ℕ, suc, ◌+◌, ◌<◌, false, List, [], ◌∷◌, ◌++◌, length, slice_get, Option, Some, None, refl, sym, ap, ◌∙◌, subst, append-nil, append_assoc, inl, inr, arith}
 use Rattle.std.specs.List.{flat_map}
 use Rattle.std.specs.Option.{option_map}
 use Rattle.std.proofs.lemmas.Bool.{cases_lt}
@@ -18,7 +18,7 @@ use Rattle.refinement.specs.Agrees.{Shows}
 use Rattle.refinement.specs.Cursors.{IsFrom, Gathers}
 use Rattle.refinement.proofs.CursorWalks.{from_itself, from_first}
 use Rattle.refinement.proofs.Follows.{reads_rows}
-use Rattle.table_scans.specs.Scans.{start_of, ScansHeap}
+use Rattle.table_scans.specs.Scans.{Sight, start_of, ScansHeap, heap_begins, heap_passes, heap_finds, heap_turns}
 use Rattle.table_scans.specs.Takes.{TakesAll}
 use Rattle.sessions.specs.declared.session.Session.{Session}
 use Rattle.session_steps.specs.State.{State, session_at, seen, reader_of}
@@ -72,6 +72,28 @@ module _ (store : Tid → Option Version) (those : Version → Type 0) (row : �
   }
 
 -- Scans from page to page.
+
+scans-on : {t : Sight} {a b c : Tid} {rows more : List Row} → ScansHeap t a b rows → ScansHeap t b c more → ScansHeap t a c (rows ++ more)
+scans-on {t} {a} {b} {rows = rows} h heap_begins = subst (λ (all : List Row). ScansHeap t a b all) (sym (append-nil rows)) h
+scans-on {rows = rows} h (heap_passes p more scans none) = heap_passes p (rows ++ more) (scans-on h scans) none
+scans-on {t} {a} {rows = rows} h (heap_finds p more row scans shows) =
+    subst (λ (all : List Row). ScansHeap t a (record { page = p.page; slot = p.slot + 1 }) all) (append_assoc rows more (row ∷ []))
+    (heap_finds p (rows ++ more) row (scans-on h scans) shows)
+scans-on {rows = rows} h (heap_turns p more scans none) = heap_turns p (rows ++ more) (scans-on h scans) none
+
+-- each ticket has what is met on its page, and all together what is met on all
+scans-all : (t : Sight) (first : ℕ) (tickets : List TicketView)
+    → ((i : ℕ) (ticket : TicketView) → slice_get tickets i ≡ Some ticket → ScansHeap t (start_of (first + i)) (start_of (first + i + 1)) (ticket_rows ticket))
+    → ScansHeap t (start_of first) (start_of (first + length tickets)) (flat_map ticket_rows tickets)
+scans-all t first [] each = let end : first ≡ first + 0 = omega arith in subst (λ (n : ℕ). ScansHeap t (start_of first) (start_of n) []) end heap_begins
+scans-all t first (ticket ∷ tickets) each =
+    let here : first + 0 ≡ first = omega arith in
+    let end : first + 1 + length tickets ≡ first + suc (length tickets) = omega arith in
+    scans-on (subst (λ (n : ℕ). ScansHeap t (start_of n) (start_of (n + 1)) (ticket_rows ticket)) here (each 0 ticket refl))
+    (subst (λ (n : ℕ). ScansHeap t (start_of (first + 1)) (start_of n) (flat_map ticket_rows tickets)) end
+    (scans-all t (first + 1) tickets (λ i later at.
+    let next : first + suc i ≡ first + 1 + i = omega arith in
+    subst (λ (n : ℕ). ScansHeap t (start_of n) (start_of (n + 1)) (ticket_rows later)) next (each (suc i) later at))))
 
 -- What an open session took.
 module _ (st : State) (w : World) (s : ℕ) (e : Session) (agrees : Agrees st w) (at : session_at st s ≡ Some e) where

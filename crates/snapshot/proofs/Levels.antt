@@ -1,5 +1,5 @@
 -- Levels of own ids: which of them lack an id, and what giving an id to the lowest of these changes.
-use Rattle.std.proofs.Common.{◌≡◌, ◌≢◌, ℕ, zero, suc, ◌≤◌, ◌==◌, Bool, true, false, List, [], ◌∷◌, ◌++◌, length, Some, slice_get, arith, refl, sym, ap, ◌∙◌, subst, ⊎_elim, append_assoc, length-append}
+use Rattle.std.proofs.Common.{◌≡◌, ◌≢◌, ℕ, zero, suc, ◌≤◌, ◌==◌, Bool, true, false, List, [], ◌∷◌, ◌++◌, length, Some, None, slice_get, arith, refl, sym, ap, ◌∙◌, subst, ⊎_elim, append_assoc, length-append}
 use Rattle.std.proofs.lemmas.Bool.{cond-true, cond-false, eq-eqb, ne_eqb, eqb-true, eqb-false}
 use Rattle.std.proofs.lemmas.List.{append-nil}
 use Rattle.std.proofs.lemmas.List.Elements.{Contains-append_left, Contains-append_right}
@@ -104,6 +104,19 @@ level-mine ids (before ∷ saved) x none is = cases (length ids == length before
     cases : (b : Bool) → (length ids == length before) ≡ b → Contains ids x
     cases true t = absurd (let more = unassigned_levels-more ids before saved (eqb-true (length ids) (length before) t) in omega arith)
     cases false t = get-among ids (length before) x (sym (level-own ids before saved (eqb-false (length ids) (length before) t)) ∙ is)
+
+-- no level has an id where there is none, and else one has
+pub level-none : (saved : List (List ℕ)) → ArePrefixes [] saved → current_xid [] saved ≡ None
+level-none [] prefixes = refl
+level-none ([] ∷ saved) (since, e, prefixes) = level-below [] [] saved refl ∙ level-none saved prefixes
+level-none ((y ∷ before) ∷ saved) (since, e, prefixes) = absurd (let long = ap length e in omega arith)
+
+pub level-some : (x : ℕ) (ids : List ℕ) (saved : List (List ℕ)) → ArePrefixes (x ∷ ids) saved → (y : ℕ) × (current_xid (x ∷ ids) saved ≡ Some y)
+level-some x ids [] prefixes = (x, refl)
+level-some x ids (before ∷ saved) (y ∷ since, e, prefixes) = (y, level-first (x ∷ ids) before since saved y e)
+level-some x ids ([] ∷ saved) ([], e, prefixes) = absurd (let long = ap length e in omega arith)
+level-some x ids ((z ∷ before) ∷ saved) ([], e, prefixes) =
+    let below = level-some z before saved prefixes in (below.0, level-same (x ∷ ids) (z ∷ before) saved e ∙ below.1)
 
 -- there is one where the newest level has one
 pub unassigned_levels-level : (ids : List ℕ) (saved : List (List ℕ)) → ArePrefixes ids saved → unassigned_levels ids saved ≡ 0 → (x : ℕ) × (current_xid ids saved ≡ Some x)

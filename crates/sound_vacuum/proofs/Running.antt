@@ -35,7 +35,7 @@ use Rattle.root_index.specs.declared.progress.Progress.{Progress}
 use Rattle.vacuum_passes.specs.View.{VacuumView, places, space, collected, counted, new_vacuum, disturbed}
 use Rattle.vacuum_passes.specs.Visits.{IsNextPage, NoPageLeft, Visits}
 use Rattle.heap_write.specs.Cleaning.{SweepsAt}
-use Rattle.vacuum_passes.specs.Steps.{Steps, PhaseAfter, Frees, off_page}
+use Rattle.vacuum_passes.specs.Steps.{Steps, PhaseAfter, Frees, off_page, phase_left}
 use Rattle.vacuum_passes.specs.Keeps.{IsVacuum}
 use Rattle.vacuum_passes.proofs.ListLemmas.{in-filtered, in-filter, in-mapped, in-mapping, in-taken}
 use Rattle.vacuum_passes.proofs.VacuumLemmas.{steps-kept, begun-kept}
@@ -67,6 +67,10 @@ steps-safe h h' v horizon _ _ can keeps (Steps.drops p v' is d) = absurd (never-
 steps-safe h h' v horizon _ _ can keeps (Steps.ends is over none same) = same-safe h h' horizon can same
 
 -- A visit.
+
+with-swept : (h : HeapView) (store : List Tid) → IsInUse h.indexes 0 → (b : Bool) → KeepsSwept h store (if b then phase.Index 0 None else phase.Heap)
+with-swept h store used true = (used, nothing-behind h store)
+with-swept h store used false = tt
 
 module _ (h h' : HeapView) (v v' : VacuumView) (horizon p : ℕ) (can : CanVacuum h horizon) (keeps : KeepsVacuum h horizon v) (next : IsNextPage h v p) (visit : Visits h h' v v' horizon p) where
   step : StepsBetween h visit.visited
@@ -292,6 +296,10 @@ module _ (h h' : HeapView) (v v' : VacuumView) (i : ℕ) (from : Option Entry) (
       }) itself
 
 -- Slots become unused.
+
+left-swept : (h : HeapView) (dead xs : List Tid) → AllAreSwept h dead → KeepsSwept h dead (phase_left xs)
+left-swept h dead [] all = tt
+left-swept h dead (x ∷ xs) all = all
 
 module _ (h h' : HeapView) (v v' : VacuumView) (horizon p : ℕ) (can : CanVacuum h horizon) (keeps : KeepsVacuum h horizon v) (swept : AllAreSwept h v.store) (f : Frees h h' v v' horizon p) where
   abbrev others : List Tid

@@ -1,5 +1,5 @@
 -- What a step leaves of each index in use.
-use Rattle.std.proofs.Common.{◌≡◌, ℕ, ◌<◌, List, [], Option, Some, None, refl, sym, ap, ◌∙◌, subst, arith}
+use Rattle.std.proofs.Common.{◌≡◌, ℕ, ◌<◌, List, [], Option, Some, None, refl, sym, ap, ◌∙◌, subst, inl, arith}
 use Rattle.std.specs.Prelude.{◌↔◌, Contains, IsSome, unwrap_or}
 use Rattle.xid_circle.specs.declared.Tid.{Tid}
 use Rattle.tuple_header.specs.declared.version.Row.{Row}
@@ -8,7 +8,7 @@ use Rattle.index_entries.specs.Sets.{AddsEntry}
 use Rattle.tuple_header.specs.IndexValue.{value_in}
 use Rattle.sound_entries.specs.Entries.{SoundHeap, SoundEntries, EntriesAreSound, StaysSound}
 use Rattle.sound_entries.proofs.Going.{led-then}
-use Rattle.table_indexes.specs.Indexes.{IndexesView, entries_at, entries_in, since_at, IsInUse, index_entry_of, SameEntries, Enters}
+use Rattle.table_indexes.specs.Indexes.{IndexesView, entries_at, entries_in, since_at, IsInUse, index_entry_of, SameEntries, AddsAny, Enters}
 use Rattle.heap_write.specs.Heap.{HeapView, slots_of}
 use Rattle.table_integrity.specs.Table.{SoundTable, StaysSoundTable}
 
@@ -36,6 +36,21 @@ OnlyCome a b = (n : ℕ) (e : Entry) → Contains (entries_in a n) e → Contain
 
 pub same-come : (a b : IndexesView) → SameEntries a b → OnlyCome a b
 same-come a b same n e there = subst (λ (es : List Entry). Contains es e) (sym (same-in a b same n)) there
+
+any-used : (a b : Option (List Entry)) (new : Entry) → AddsAny a b new → IsSome a ↔ IsSome b
+any-used None b new none = (λ used. subst (λ (o : Option (List Entry)). IsSome o) (sym none) used, λ used. subst (λ (o : Option (List Entry)). IsSome o) none used)
+any-used (Some entries) None new adds = absurd adds
+any-used (Some entries) (Some after) new adds = (λ used. refl, λ used. refl)
+
+any-adds : (a b : Option (List Entry)) (new : Entry) → AddsAny a b new → IsSome a → AddsEntry (unwrap_or a []) (unwrap_or b []) new
+any-adds None b new none used = absurd (cc)
+any-adds (Some entries) None new adds used = absurd adds
+any-adds (Some entries) (Some after) new adds used = adds
+
+any-come : (a b : Option (List Entry)) (new e : Entry) → AddsAny a b new → Contains (unwrap_or a []) e → Contains (unwrap_or b []) e
+any-come None b new e none there = let below : there.0 < 0 = there.1 in absurd (omega arith)
+any-come (Some entries) None new e adds there = absurd adds
+any-come (Some entries) (Some after) new e adds there = (adds.members e).1 (inl there)
 
 module _ (a b : IndexesView) (row : Row) (place : Tid) (enters : Enters a b row place) where
   pub enters-used : (n : ℕ) → IsInUse a n ↔ IsInUse b n

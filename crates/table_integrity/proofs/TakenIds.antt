@@ -25,6 +25,18 @@ under-keeps P keeps w v parent (x ∷ given) before after (between, is, gives, r
 kept-ids : (w v : Window) (s : Snap) (own : List ℕ) (y : ℕ) → KeepsVerdicts w v s own → ReadsIn v s own y ↔ ReadsIn w s own y
 kept-ids w v s own y k = k.1.ids y (k.0 y)
 
+kept-versions : (w v : Window) (s : Snap) (own : List ℕ) (h : Header) → KeepsVerdicts w v s own → IsVisible v s own h ↔ IsVisible w s own h
+kept-versions w v s own h k = k.1.versions h (λ y touch. k.0 y)
+
+verdicts-then : (u v w : Window) (s : Snap) (own : List ℕ) → KeepsVerdicts u v s own → KeepsVerdicts v w s own → KeepsVerdicts u w s own
+verdicts-then u v w s own a b = (
+  λ y there. b.0 y (a.0 y there),
+  record {
+    ids = λ y known. let f = kept-ids u v s own y a in let g = kept-ids v w s own y b in ((λ r. f.0 (g.0 r)), (λ r. g.1 (f.1 r)));
+    versions = λ h known. let f = kept-versions u v s own h a in let g = kept-versions v w s own h b in ((λ r. f.0 (g.0 r)), (λ r. g.1 (f.1 r)));
+  },
+)
+
 module _ (w v : Window) (own own' : Own) (x : ℕ) (before : IsWindow w) (after : IsWindow v) (takes : TakesIds w v own own' x) where
   pub takes-status : (y : ℕ) → status_of v y ≡ status_of w y
   takes-status y = given-status takes.given w v (current_xid own.ids own.saved) y takes.gives after

@@ -1,10 +1,13 @@
 -- How scans go on, and what ends one.
-use Rattle.std.proofs.Common.{◌≡◌, ℕ, zero, suc, ◌+◌, ◌<◌, ◌≤◌, List, [], ◌∷◌, ◌++◌, length, slice_get, Some, None, refl, sym, ap, ◌∙◌, subst, arith}
+use Rattle.std.proofs.Common.{◌≡◌, ℕ, zero, suc, ◌+◌, ◌<◌, ◌≤◌, List, [], ◌∷◌, ◌++◌, length, slice_get, Option, Some, None, refl, sym, ap, ◌∙◌, subst, arith}
+use Rattle.std.specs.Option.{option_and_then}
 use Rattle.std.proofs.lemmas.List.{length-append}
-use Rattle.std.proofs.lemmas.Option.{none-some}
+use Rattle.std.proofs.lemmas.Option.{none-some, slice_get_within}
 use Rattle.xid_circle.specs.declared.Tid.{Tid}
 use Rattle.tuple_header.specs.declared.version.Row.{Row}
-use Rattle.page_slots.specs.Slots.{version_at}
+use Rattle.tuple_header.specs.Version.{Version}
+use Rattle.page_slots.specs.declared.slot.Slot.{Slot}
+use Rattle.page_slots.specs.Slots.{version_of, version_at}
 use Rattle.page_slots.specs.View.{PageView}
 use Rattle.page_slots.proofs.SlotLemmas.{version_at-none}
 use Rattle.index_lookup.specs.declared.index_scan.IndexRange.{IndexRange}
@@ -56,6 +59,15 @@ module _ (t : Sight) (p : Tid) (page : PageView) (at : slice_get t.heap.pages.pa
       by (suc n) there = omega arith
 
 -- Where a page ends.
+
+some-slot : (o : Option Slot) (v : Version) → option_and_then version_of o ≡ Some v → (slot : Slot) × (o ≡ Some slot)
+some-slot None v is = absurd (none-some v is)
+some-slot (Some slot) v is = (slot, refl)
+
+-- a version is in one of the page's slots
+slot-within : (slots : List Slot) (n : ℕ) (v : Version) → version_at slots n ≡ Some v → n ≤ length slots
+slot-within slots zero v is = omega arith
+slot-within slots (suc i) v is = let some = some-slot (slice_get slots i) v is in let within = slice_get_within slots i some.0 some.1 in omega arith
 
 module _ (t : Sight) (p : Tid) where
   -- none behind the last slot

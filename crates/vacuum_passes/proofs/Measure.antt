@@ -61,6 +61,10 @@ some-lower pages next next' slots slots' entries round round' k onward fewer low
 
 -- Rounds.
 
+whole-most : (indexes : IndexesView) (store : List Tid) → whole_round indexes store ≤ all_pieces indexes + length store
+whole-most indexes [] = omega arith
+whole-most indexes (tid ∷ store) = omega arith
+
 whole-least : (indexes : IndexesView) (store : List Tid) (n : ℕ) → all_pieces indexes ≤ n → all_pieces indexes + length store ≤ whole_round indexes store + n
 whole-least indexes [] n few = omega (arith, few)
 whole-least indexes (tid ∷ store) n few = omega arith
@@ -78,6 +82,11 @@ whole-same indexes (t ∷ s) (u ∷ r) e = ap (λ n. all_pieces indexes + n) e
 -- index 0 is the first of all
 first-index : (indexes : IndexesView) → HasIndexes indexes → pieces_in None (entries_in indexes 0) + pieces_after indexes 0 ≡ all_pieces indexes
 first-index indexes has = ap (λ n. n + pieces_after indexes 0) (sym (pieces-in_use indexes 0 has.by_key))
+
+begun-round : (indexes : IndexesView) (limit : ℕ) (store : List Tid) → HasIndexes indexes → (b : Bool)
+    → round_left indexes store (if b then phase.Index 0 None else phase.Heap) ≤ all_pieces indexes + length store
+begun-round indexes limit store has true = let e = first-index indexes has in omega (arith, e)
+begun-round indexes limit store has false = whole-most indexes store
 
 -- A visit.
 
@@ -281,6 +290,10 @@ module _ (h h' : HeapView) (v v' : VacuumView) (i : ℕ) (from : Option Entry) (
   sweep-pieces = fewer-after 0 5
 
 -- Slots are freed.
+
+left-round : (indexes : IndexesView) (store : List Tid) → round_left indexes store (phase_left store) ≡ length store
+left-round indexes [] = refl
+left-round indexes (tid ∷ store) = refl
 
 module _ (h h' : HeapView) (v v' : VacuumView) (horizon p : ℕ) (c : CanCount h v) (is : v.phase ≡ phase.Free) (f : Frees h h' v v' horizon p) where
   abbrev others : List Tid

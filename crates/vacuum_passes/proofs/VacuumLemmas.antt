@@ -22,7 +22,8 @@ use Rattle.root_index.specs.declared.progress.Progress.{Progress}
 use Rattle.vacuum_passes.specs.View.{VacuumView, places, space, phase_with, collected, at_end, with_phase, counted}
 use Rattle.vacuum_passes.specs.Steps.{Steps, PhaseAfter, Sweeps, Frees, off_page, phase_left}
 use Rattle.vacuum_passes.specs.Keeps.{KeepsStore, IsVacuum}
-use Rattle.vacuum_passes.proofs.ListLemmas.{pairs-append, pairs-take, in-filtered}
+use Rattle.vacuum_passes.proofs.ListLemmas.{pairs-append, pairs-take, pairs-head, pairs-tail, all-from, in-filtered, in-mapped}
+use Rattle.std.proofs.lemmas.List.Kept.{AllPairs-cons}
 
 -- Places of a page.
 
@@ -34,6 +35,17 @@ lower-page a b lt = ap (λ o. ordering_then o (nat_cmp a.slot b.slot)) (before-c
 
 pub lower-slot : (p n m : ℕ) → n < m → PlacePrecedes (record { page = p; slot = n }) (record { page = p; slot = m })
 lower-slot p n m lt = ap (λ o. ordering_then o (nat_cmp n m)) (tied_itself nat_cmp_total p) ∙ before-cmp n m lt
+
+pub on-its_page : (p : ℕ) (ns : List ℕ) (tid : Tid) → Contains (places p ns) tid → tid.page ≡ p
+on-its_page p ns tid there = let m = in-mapped (λ n. record { page = p; slot = n }) ns tid there in ap (λ (t : Tid). t.page) (sym m.2)
+
+places-ascending : (p : ℕ) (ns : List ℕ) → AllPairs (λ a b. a < b) ns → AllPairs PlacePrecedes (places p ns)
+places-ascending p [] up = λ i j d lt within. absurd (omega (arith, within))
+places-ascending p (n ∷ ns) up = AllPairs-cons PlacePrecedes (record { page = p; slot = n }) (places p ns)
+    (all-from (PlacePrecedes (record { page = p; slot = n })) (places p ns) (λ tid there.
+    let m = in-mapped (λ k. record { page = p; slot = k }) ns tid there in
+    subst (PlacePrecedes (record { page = p; slot = n })) m.2 (lower-slot p n m.0 (pairs-head (λ a b. a < b) n m.0 ns up m.1))))
+    (places-ascending p ns (pairs-tail (λ a b. a < b) n ns up))
 
 -- A visit.
 

@@ -9,7 +9,7 @@ use Rattle.commit_status.specs.Window.{IdEntry, Window, IsWindow, IsGiven, IsGiv
 use Rattle.commit_status.specs.Changes.{Gives}
 use Rattle.commit_status.proofs.Turns.{turns-given}
 use Rattle.commit_status.proofs.Places.{at-from_place, place-from_at, next-none, none-unless, is-from_some, some-from_is}
-use Rattle.commit_status.proofs.Giving.{gives-length, gives-place_cases, gives-place_old, gives-status, gives-top_old, gives-active_next, gives-upto}
+use Rattle.commit_status.proofs.Giving.{gives-length, gives-place_cases, gives-place_old, gives-status, gives-top_old, gives-top_next, gives-top_alone, gives-active_next, gives-upto}
 use Rattle.snapshot.specs.Own.{AreDistinct}
 use Rattle.write_ids.specs.Ids.{GivesUnder}
 
@@ -117,6 +117,29 @@ given-distinct (x ∷ xs) w v parent g is = (
   λ among. given-new xs g.0 v (Some x) x g.3 is among (given-now w g.0 parent x g.1 g.2 (given-window xs g.0 v (Some x) g.3 is)).is_given,
   given-distinct xs g.0 v (Some x) g.3 is,
 )
+
+-- the topmost parent of each is that of the id under which the first is given
+pub given-top : (xs : List ℕ) (w v : Window) (p y : ℕ) → GivesUnder w (Some p) xs v → IsWindow v → IsGiven w p → Contains xs y → top_of v y ≡ top_of w p
+given-top [] w v p y g is there among = absurd (Contains-none y among)
+given-top (x ∷ xs) w v p y g is there among =
+    let between = given-window xs g.0 v (Some x) g.3 is in
+    let now = (given-now w g.0 (Some p) x g.1 g.2 between).is_given in
+    let top : top_of g.0 x ≡ top_of w p = ap (top_of g.0) g.1 ∙ gives-top_next w g.0 p (before-window w g.0 (Some p) g.2 between) between g.2 there in
+    elim (Contains-cases x y xs among) [
+      | inl here ↦ ap (top_of v) (sym here) ∙ (given-top_old xs g.0 v (Some x) x g.3 is now ∙ top)
+      | inr later ↦ given-top xs g.0 v x y g.3 is now later ∙ top
+    ]
+
+-- or the first itself
+pub given-top_first : (x : ℕ) (xs : List ℕ) (w v : Window) (y : ℕ) → GivesUnder w None (x ∷ xs) v → IsWindow v → Contains (x ∷ xs) y → top_of v y ≡ x
+given-top_first x xs w v y g is among =
+    let between = given-window xs g.0 v (Some x) g.3 is in
+    let now = (given-now w g.0 None x g.1 g.2 between).is_given in
+    let top : top_of g.0 x ≡ x = ap (top_of g.0) g.1 ∙ (gives-top_alone w g.0 between g.2 ∙ sym g.1) in
+    elim (Contains-cases x y xs among) [
+      | inl here ↦ ap (top_of v) (sym here) ∙ (given-top_old xs g.0 v (Some x) x g.3 is now ∙ top)
+      | inr later ↦ given-top xs g.0 v x y g.3 is now later ∙ top
+    ]
 
 -- what is in progress afterwards is new, or was in progress before
 pub given-active_cases : (xs : List ℕ) (w v : Window) (parent : Option ℕ) (y : ℕ) → GivesUnder w parent xs v → IsWindow v → IsActive v y → Contains xs y ⊎ IsActive w y
