@@ -238,7 +238,7 @@ static void check_looks() {
     CHECK(writer.ids_by_level() == of_levels);
     writer.abort(), reader.reset();
     const Plan plan = table.plan(0);
-    CHECK(plan.actions.size() == 3 && plan.actions[0].kind == SANDPIPER_LEAD && plan.actions[0].target == 3);
+    CHECK(plan.actions.size() == 4 && plan.actions[0].kind == SANDPIPER_LEAD && plan.actions[0].target == 3);
     table.apply(0, plan);
     CHECK(table.fate(0, 1).kind == SANDPIPER_REDIRECT_SLOT && refused_as([&] { table.apply(0, plan); }) == Status::Stale);
     CHECK(!table.vacuum_state());

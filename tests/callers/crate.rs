@@ -169,7 +169,7 @@ fn check_looks() -> Result<(), Refused> {
     assert!(!waiting.has_failed()?);
     drop((reader, writer, waiting));
     let plan = table.plan(0)?;
-    assert_eq!(plan.actions, [Action::Lead(1, 3), Action::Unuse(2), Action::Kill(4)]);
+    assert_eq!(plan.actions, [Action::Lead(1, 3), Action::Unuse(2), Action::Kill(4), Action::Kill(5)]);
     table.apply(0, &plan)?;
     assert_eq!((table.fate(0, 1)?, table.fate(0, 4)?, table.apply(0, &plan)), (Fate::Redirect(3), Fate::Dead, Err(Refused::Stale)));
     assert_eq!(table.horizon()?.holder, None);
