@@ -139,14 +139,6 @@ pub extern "C" fn sandpiper_session_of(
     }
 }
 
-/// An own id, for the engine.
-fn show_own_id(engine: &Engine, session: u8, n: usize, id: &mut u32) -> u32
-    ensures { ShowsId engine.now.engine.core session
-        (IsOwnId engine.now.engine.core session n) id.old result id.new }
-{
-    tell_or_refuse(own_id(engine, session, n), id)
-}
-
 /// Writes to `id` the own id of an open session of this number, counted from 0, in the order of giving, if it has so many.
 #[unsafe(no_mangle)]
 pub extern "C" fn sandpiper_own_id(
@@ -161,20 +153,12 @@ pub extern "C" fn sandpiper_own_id(
 {
     match table.take(alloc) {
         Some(held) => {
-            let code = show_own_id(&held.engine, session, n, id);
+            let code = tell_or_refuse(own_id(&held.engine, session, n), id);
             table.put(held);
             code
         }
         None => CallStatus::NoEngine.number(),
     }
-}
-
-/// How many own ids there were, for the engine.
-fn show_ids_at(engine: &Engine, session: u8, savepoint: usize, count: &mut usize) -> u32
-    ensures { ShowsId engine.now.engine.core session
-        (AreIdsAt engine.now.engine.core session savepoint) count.old result count.new }
-{
-    tell_or_refuse(ids_at_savepoint(engine, session, savepoint), count)
 }
 
 /// Writes to `count` how many own ids an open session had at a savepoint, 0 the newest, if it has so many savepoints.
@@ -191,20 +175,12 @@ pub extern "C" fn sandpiper_ids_at_savepoint(
 {
     match table.take(alloc) {
         Some(held) => {
-            let code = show_ids_at(&held.engine, session, savepoint, count);
+            let code = tell_or_refuse(ids_at_savepoint(&held.engine, session, savepoint), count);
             table.put(held);
             code
         }
         None => CallStatus::NoEngine.number(),
     }
-}
-
-/// A listed id, for the engine.
-fn show_listed_id(engine: &Engine, session: u8, n: usize, id: &mut u32) -> u32
-    ensures { ShowsId engine.now.engine.core session
-        (IsListedId engine.now.engine.core session n) id.old result id.new }
-{
-    tell_or_refuse(listed_id(engine, session, n), id)
 }
 
 /// Writes to `id` the id of this number, counted from 0, that the snapshot of an open session lists, if it lists so many.
@@ -221,7 +197,7 @@ pub extern "C" fn sandpiper_listed_id(
 {
     match table.take(alloc) {
         Some(held) => {
-            let code = show_listed_id(&held.engine, session, n, id);
+            let code = tell_or_refuse(listed_id(&held.engine, session, n), id);
             table.put(held);
             code
         }
