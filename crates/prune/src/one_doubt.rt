@@ -76,14 +76,10 @@ fn next_redirect(page: &Page, from: u16, target: u16) -> Option<u16>
     None
 }
 
-/// The redirects to a slot.
-fn redirects_to(page: &Page, target: u16) -> SlotsOfKind
+/// The redirects to a slot, slot by slot.
+fn redirects_found(page: &Page, target: u16) -> SlotsOfKind
     ensures { AreThose (IsRedirectTo page.now.slots target) result }
 {
-    // one look over several slots at once tells nearly always
-    if !page.is_redirected(target) {
-        return SlotsOfKind::NoSlot;
-    }
     let _limit = page.slots();
     match next_redirect(page, 1, target) {
         None => SlotsOfKind::NoSlot,
@@ -91,6 +87,17 @@ fn redirects_to(page: &Page, target: u16) -> SlotsOfKind
             None => SlotsOfKind::One(first),
             Some(_second) => SlotsOfKind::Several,
         },
+    }
+}
+
+/// The redirects to a slot. One look over several slots at once tells nearly always that there is none.
+fn redirects_to(page: &Page, target: u16) -> SlotsOfKind
+    ensures { AreThose (IsRedirectTo page.now.slots target) result }
+{
+    if page.is_redirected(target) {
+        redirects_found(page, target)
+    } else {
+        SlotsOfKind::NoSlot
     }
 }
 

@@ -5,11 +5,12 @@ use Rattle.std.specs.Prelude.{Contains}
 use Rattle.std.proofs.lemmas.Option.{none-some}
 use Rattle.xid_circle.specs.Circle.{IsNormal, given}
 use Rattle.xid_circle.proofs.Members.{Contains-cases, Contains-first, Contains-none, Contains-rest}
-use Rattle.commit_status.specs.Window.{IdEntry, Window, IsWindow, IsGiven, IsGivenBefore, IsActive, IsUpToNext, turns, place, parent_at, status_of, top_of, next_id}
+use Rattle.commit_status.specs.Window.{IdEntry, Window, IsWindow, IsGiven, IsGivenBefore, IsActive, IsUpToNext, turns, place, parent_at, parent_in, parent_of, status_of, top_of, next_id}
 use Rattle.commit_status.specs.Changes.{Gives}
 use Rattle.commit_status.proofs.Turns.{turns-given}
 use Rattle.commit_status.proofs.Places.{at-from_place, place-from_at, next-none, none-unless, is-from_some, some-from_is}
-use Rattle.commit_status.proofs.Giving.{gives-length, gives-place_cases, gives-place_old, gives-status, gives-top_old, gives-top_next, gives-top_alone, gives-active_next, gives-upto}
+use Rattle.commit_status.proofs.Ancestors.{top-none, top-parent}
+use Rattle.commit_status.proofs.Giving.{gives-length, gives-place_cases, gives-place_old, gives-status, gives-top_old, gives-entry_next, gives-active_next, gives-upto}
 use Rattle.snapshot.specs.Own.{AreDistinct}
 use Rattle.write_ids.specs.Ids.{GivesUnder}
 
@@ -30,6 +31,19 @@ before-window w v parent g is = record {
   short = let long = gives-length w v parent g in let short = is.short in let same = g.stop_age in omega arith;
   parents = λ i p at. subst (λ f. IsGivenBefore p (given f i)) g.first (is.parents i p (subst (λ es. parent_at es i ≡ Some p) (sym g.entries) (still w.entries _ i p at)));
 }
+
+gives-parent_next : (w v : Window) (parent : Option ℕ) → IsWindow v → Gives w v parent → parent_of v (next_id w) ≡ parent
+gives-parent_next w v parent is g = ap parent_in (gives-entry_next w v parent is g)
+
+-- the new id has its parent's top, or is its own
+gives-top_next : (w v : Window) (p : ℕ) → IsWindow w → IsWindow v → Gives w v (Some p) → IsGiven w p → top_of v (next_id w) ≡ top_of w p
+gives-top_next w v p before after g there =
+    let found = some-from_is (place w p) there in
+    top-parent v (next_id w) p after (gives-parent_next w v (Some p) after g)
+    ∙ gives-top_old w v (Some p) p before after g (λ e. let n : None ≡ Some found.0 = sym (next-none w before) ∙ ap (place w) (sym e) ∙ found.1 in cc)
+
+gives-top_alone : (w v : Window) → IsWindow v → Gives w v None → top_of v (next_id w) ≡ next_id w
+gives-top_alone w v after g = top-none v (next_id w) (gives-parent_next w v None after g)
 
 pub not-next : (w : Window) (x : ℕ) → IsWindow w → IsGiven w x → x ≢ next_id w
 not-next w x is there same = let at = some-from_is (place w x) there in none-some at.0 (sym (next-none w is) ∙ (ap (place w) (sym same) ∙ at.1))
