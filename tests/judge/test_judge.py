@@ -3,8 +3,8 @@
 
 Twenty that a reference engine made on random scripts, and the same with one wrong answer each, whose line stands in the file beside (transcripts).
 A thousand random ones of the program's own answers, and the same with an answer that is wrong by an argument (planted.py). A journal of
-10,000 lines of eight workers. A transcript that is cut after each of its bytes, and mangled ones. Words of the command line, a reader and a
-writer that fail.
+10,000 lines of eight workers. A transcript that is cut after each of its bytes, and mangled ones. Ten schedules that PostgreSQL answered.
+Words of the command line, a reader and a writer that fail.
 """
 import glob
 import os
@@ -267,6 +267,28 @@ def test_page(heapjudge: str, heapsh: str) -> int:
     return 1
 
 
+def test_postgresql(heapjudge: str, heapsh: str) -> int:
+    """What PostgreSQL answered to the schedules of examples/anomalies.md is allowed at its level, and its READ COMMITTED is judged as snapshots
+    as the page says. The program answers the same, but that it says who holds a key."""
+    with open(f"{HERE}/../../examples/anomalies.md", encoding="utf-8") as file:
+        rows = re.findall(r"^\| `(\w+)` .*\| ([^|]*) \|$", file.read(), re.M)
+    faults = [] if len(rows) == 10 else [f"{len(rows)} schedules"]
+    for name, as_snapshots in rows:
+        for level, word in (("snapshot", "begin "), ("statement", "beginrc ")):
+            with open(f"{HERE}/../postgresql/schedules/{name}.{level}", encoding="utf-8") as file:
+                text = file.read()
+            words = ("--statement",) if level == "statement" else ()
+            faults += [] if judge(heapjudge, text.encode(), words) == allowed_text(text) else [f"{name} is not allowed by {level}"]
+            exchanges = planted.exchanges_of(text)
+            own = planted.answered(heapsh, [re.sub("^begin ", word, it.asked) for it in exchanges])
+            same = [[re.sub(r"Busy \d+$", "Busy", line) for line in it.answer] for it in own] == [it.answer for it in exchanges]
+            faults += [] if same else [f"{name} is answered otherwise by {level}"]
+        faults += [] if judge(heapjudge, text.encode()).output.split("\n")[0] == as_snapshots else [f"{name} is judged otherwise as snapshots"]
+    for fault in faults:
+        print(f"test_judge.py: {fault}", file=sys.stderr)
+    return len(faults)
+
+
 def test_outside(heapjudge: str) -> int:
     """Words of the command line, and a reader or a writer that fails."""
     good = b"heap 4 1000 0 3 64 0000\n> begin 0\nok\n"
@@ -308,7 +330,7 @@ def main() -> None:
                 if wrongs < 20:
                     print(f"test_judge.py: {case.name}: {end}, and not {case.end}", file=sys.stderr)
         counts.append(f"{len(made)} {kind}")
-    wrongs += test_mangled(heapjudge, heapsh) + test_page(heapjudge, heapsh) + test_outside(heapjudge)
+    wrongs += test_mangled(heapjudge, heapsh) + test_page(heapjudge, heapsh) + test_postgresql(heapjudge, heapsh) + test_outside(heapjudge)
     print(f"test_judge.py: {', '.join(counts)}, 2000 mangled, {time.time() - began:.0f} seconds")
     if wrongs:
         sys.exit(f"test_judge.py: {wrongs} wrong")

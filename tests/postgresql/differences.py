@@ -1,19 +1,16 @@
 #!/usr/bin/env python3
 """Where docs/postgresql.md says that a session is answered otherwise, asks both: differences.py HEAPSH [FOLDER OF POSTGRESQL'S PROGRAMS]
 
-It runs a server of its own in a folder of its own, without a port, as the user postgres where it is called by root. Each case is a list
-of steps: a session, what `psql` is told, what PostgreSQL answers, the line of the script, and what the program answers. PostgreSQL's answer
-is `ok`, the rows of a query, the SQLSTATE of an error, or `waits`: then the answer that comes later stands at the step by which it comes,
-as `1: ok`. Nothing else runs these cases: a server is no part of what the gate needs."""
-import os
-import queue
+It runs a server of its own (server.py). Each case is a list of steps: a session, what `psql` is told, what PostgreSQL answers, the line of
+the script, and what the program answers. PostgreSQL's answer is `ok`, the rows of a query, the SQLSTATE of an error, or `waits`: then the
+answer that comes later stands at the step by which it comes, as `1: ok`. Nothing else runs these cases: a server is no part of what the
+gate needs.
+"""
 import re
-import shutil
 import subprocess
 import sys
-import tempfile
-import threading
-import time
+
+from server import Client, server
 
 BEGIN = "BEGIN ISOLATION LEVEL REPEATABLE READ; SELECT"
 BY_STATEMENT = "BEGIN"
@@ -112,51 +109,33 @@ CASES = {
 }
 
 
-class Session:
-    """One psql: what it is told, and what it says within a while."""
-
-    def __init__(self, command):
-        self.psql = subprocess.Popen(command, stdin=subprocess.PIPE, stdout=subprocess.PIPE, stderr=subprocess.STDOUT, text=True, bufsize=1)
-        self.lines = queue.Queue()
-        threading.Thread(target=lambda: [self.lines.put(line.strip()) for line in self.psql.stdout], daemon=True).start()
-
-    def tell(self, sql):
-        self.psql.stdin.write(f"{sql};\n\\echo end\n")
-        self.psql.stdin.flush()
-
-    def answer(self, seconds):
-        """The SQLSTATE of an error, the rows, or ok; nothing where none has come in time."""
-        said, until = [], time.time() + seconds
-        while time.time() < until:
-            try:
-                line = self.lines.get(timeout=0.05)
-            except queue.Empty:
-                continue
-            if line == "end":
-                fault = re.search(r"ERROR:  (\w{5})", " ".join(said))
-                return fault[1] if fault else " ".join(it for it in said if it.isdigit()) or "ok"
-            said.append(line)
+def answer(client, seconds):
+    """The SQLSTATE of an error, the rows, or ok; nothing where none has come in time."""
+    said = client.lines_within(seconds)
+    if said is None:
         return None
+    fault = re.search(r"ERROR:  (\w{5})", " ".join(said))
+    return fault[1] if fault else " ".join(it for it in said if it.isdigit()) or "ok"
 
 
 def ask_server(command, steps):
     """What PostgreSQL answers to the steps of a case."""
-    once = Session(command)
+    once = Client(command)
     once.tell("DROP TABLE IF EXISTS t; CREATE TABLE t (k bigint PRIMARY KEY, c bigint); INSERT INTO t VALUES (1, 5), (2, 6)")
-    once.answer(10)
-    sessions, waiting, answers = {n: Session(command) for n in (0, 1)}, set(), []
+    answer(once, 10)
+    sessions, waiting, answers = {n: Client(command) for n in (0, 1)}, set(), []
     for session, sql, *_ in steps:
         sessions[session].tell(sql)
-        here = sessions[session].answer(0.5)
+        here = answer(sessions[session], 0.5)
         waiting |= set() if here else {session}
         words = [here or "waits"]
         for other in sorted(waiting - {session}):
-            came = sessions[other].answer(2)
+            came = answer(sessions[other], 2)
             words += [f"{other}: {came}"] if came else []
             waiting -= {other} if came else set()
         answers.append(" ".join(words))
     for session in [*sessions.values(), once]:
-        session.psql.kill()
+        session.end()
     return answers
 
 
@@ -173,28 +152,14 @@ def ask_program(heapsh, steps):
 
 
 def main(heapsh, programs=""):
-    as_postgres = ["runuser", "-u", "postgres", "--"] if os.getuid() == 0 else []
-    control, folder = os.path.join(programs, "pg_ctl"), tempfile.mkdtemp()
     wrong = 0
-    try:
-        if as_postgres:
-            shutil.chown(folder, "postgres")
-        subprocess.run([*as_postgres, control, "-D", f"{folder}/data", "-o", "-A trust -N", "init"], check=True, capture_output=True, cwd=folder)
-        settings = f"-k {folder} -c listen_addresses=''"
-        start = [*as_postgres, control, "-D", f"{folder}/data", "-l", f"{folder}/log", "-o", settings, "-w", "start"]
-        subprocess.run(start, check=True, stdout=subprocess.DEVNULL, cwd=folder)
-        user = "postgres" if as_postgres else os.environ["USER"]
-        psql = ["psql", "-XAtq", "-v", "VERBOSITY=sqlstate", "-h", folder, "-U", user, "-d", "postgres"]
+    with server(programs, "-q") as psql:
         for name, steps in CASES.items():
-            for n, (server, program, step) in enumerate(zip(ask_server(psql, steps), ask_program(heapsh, steps), steps), 1):
-                for who, said, wanted in (("PostgreSQL", server, step[2]), ("the program", program, step[4])):
+            for n, (told, program, step) in enumerate(zip(ask_server(psql, steps), ask_program(heapsh, steps), steps), 1):
+                for who, said, wanted in (("PostgreSQL", told, step[2]), ("the program", program, step[4])):
                     if said != wanted:
                         wrong += 1
                         print(f"{name}, step {n}: {who} answers {said!r}, not {wanted!r}")
-    finally:
-        stop = [*as_postgres, control, "-D", f"{folder}/data", "-m", "immediate", "stop"]
-        subprocess.run(stop, check=False, capture_output=True, cwd="/")
-        shutil.rmtree(folder, ignore_errors=True)
     steps = sum(map(len, CASES.values()))
     print(f"{wrong} answers differ" if wrong else f"{len(CASES)} cases of {steps} steps are answered as they say")
     sys.exit(1 if wrong else 0)
