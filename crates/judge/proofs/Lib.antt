@@ -1,6 +1,5 @@
 pub mod DueLemmas
 pub mod Allowing
-pub mod After
 pub mod Rows
 pub mod RunsLemmas
 pub mod Reasoning

@@ -1,5 +1,4 @@
 pub mod Rulings
-pub mod Following
 pub mod Handing
 pub mod Runs
 pub mod Reasons

@@ -26,20 +26,6 @@ IsFreelyRefused step.VacuumStep = ⊥
 IsFreelyRefused (step.CreateIndex c) = ⊥
 IsFreelyRefused step = Unit {0}
 
--- to follow an answer takes no memory
-abbrev pub TakesNoMemory : Step → Type 0
-TakesNoMemory (step.Insert s row) = ⊥
-TakesNoMemory (step.Update s row) = ⊥
-TakesNoMemory (step.Delete s k) = ⊥
-TakesNoMemory (step.Savepoint s) = ⊥
-TakesNoMemory (step.Release s) = ⊥
-TakesNoMemory (step.Commit s) = ⊥
-TakesNoMemory (step.OpenIndex s index low high) = ⊥
-TakesNoMemory (step.OpenHeap s) = ⊥
-TakesNoMemory (step.OpenKeys s low high) = ⊥
-TakesNoMemory (step.Next s n) = ⊥
-TakesNoMemory step = Unit {0}
-
 -- a run leads to the world
 abbrev pub IsReached : World → Type 0
 IsReached w = (columns : List Bool) × StepsReach (beginning columns) w

@@ -5,8 +5,9 @@ ghost use Rattle.refinement.specs.Allowed.{IsRun};
 ghost use Rattle.plain_history.specs.Plain.{world_of};
 ghost use Rattle.judge.specs.Runs.{HasJudged};
 
-use crate::judge::{Judge, NoMemory, Ruling};
+use crate::judge::{Judge, Ruling};
 use calls::{Reply, Step};
+use following::NoMemory;
 
 /// Judges the answers to the steps, one after another, up to the first that is not allowed. How many were.
 pub fn judge_all(judge: &mut Judge, steps: &[Step], replies: &[Reply]) -> Result<usize, NoMemory>

@@ -8,8 +8,8 @@ ghost use Rattle.judge.specs.Reasons.{HandsDue, TellsDue};
 
 use crate::expect::{Expected, expect_for, may_make};
 use crate::handing::{is_over, next_of};
-use crate::judge::NoMemory;
 use calls::{Piece, Refusal, Reply, Step};
+use following::NoMemory;
 use plain_cursor::{PlainCursor, PlainOrder, all_keys};
 use plain_history::PlainHistory;
 use std::alloc::Global;

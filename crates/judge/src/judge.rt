@@ -5,7 +5,8 @@ ghost use Rattle.history.specs.World.{beginning};
 ghost use Rattle.refinement.specs.Allowed.{AllowsReply};
 ghost use Rattle.one_answer.specs.OneAnswer.{IsLeftOpen};
 ghost use Rattle.plain_history.specs.Plain.{world_of};
-ghost use Rattle.judge.specs.Rulings.{IsReached, Judges, IsFree, IsFreelyRefused, TakesNoMemory};
+ghost use Rattle.judge.specs.Rulings.{IsReached, Judges, IsFree, IsFreelyRefused};
+ghost use Rattle.following.specs.Following.{TakesMemory};
 ghost use Rattle.judge.specs.Reasons.{Breaks, TellsDue};
 
 use crate::compare::same_reply;
@@ -13,17 +14,13 @@ use crate::due::answer_to;
 use crate::expect::{
     Expected, expect_for, is_left_open, may_answer_making, may_answer_vacuum_step,
 };
-use crate::follow::follow;
 use crate::handing::{may_answer_next, may_answer_page};
 use crate::why::{Why, why_not};
 use calls::{Refusal, Reply, Step};
+use following::{NoMemory, follow};
 use plain_history::PlainHistory;
 use std::alloc::Global;
 use std::marker::Model;
-
-/// Memory was refused.
-#[derive(Clone, Copy, Debug, PartialEq, Eq)]
-pub struct NoMemory;
 
 /// What is said of an answer.
 #[derive(Clone, Copy, Debug, PartialEq, Eq)]
@@ -146,7 +143,7 @@ impl Judge {
         ensures told { IfOk result
             (λ ruling. Judges (world_of self.old) step.now reply.now ruling (world_of self.new)) }
         ensures stays { OnErr result (world_of self.new ≡ world_of self.old) }
-        ensures lacks { OnErr result (¬ TakesNoMemory step.now) }
+        ensures lacks { OnErr result (TakesMemory step.now reply.now) }
     {
         if is_allowed(&self.plain, step, reply) {
             match follow(&mut self.plain, step, reply) {

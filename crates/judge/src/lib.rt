@@ -5,7 +5,6 @@ mod all;
 mod compare;
 mod due;
 mod expect;
-mod follow;
 mod handing;
 mod judge;
 pub mod laws;
@@ -13,5 +12,6 @@ mod why;
 
 pub use all::judge_all;
 pub use due::Due;
-pub use judge::{Judge, NoMemory, Ruling};
+pub use following::NoMemory;
+pub use judge::{Judge, Ruling};
 pub use why::{Rule, Why};

@@ -9,8 +9,8 @@ ghost use Rattle.judge.specs.Reasons.{Breaks, GoesBy, IsRuleOfStep, IsRuleOfView
 
 use crate::due::{Due, due_making, due_next, due_page, due_vacuum_step};
 use crate::expect::{Expected, expect_for};
-use crate::judge::NoMemory;
 use calls::{Refusal, Reply, Step};
+use following::NoMemory;
 use plain_history::PlainHistory;
 use std::alloc::Global;
 

@@ -6,15 +6,17 @@ ghost use Rattle.plain_history.specs.Plain.{world_of};
 ghost use Rattle.history.specs.Moves.{change, with_row, without_row, with_savepoint, without_savepoint};
 ghost use Rattle.plain_history.specs.Answers.{with_plain_cursor};
 ghost use Rattle.calls.specs.Words.{FitsRow, row_of};
-ghost use Rattle.judge.specs.Rulings.{TakesNoMemory};
-ghost use Rattle.judge.specs.Following.{after_refused, with_wait};
+ghost use Rattle.following.specs.Following.{TakesMemory, TakesNoMemory, after_refused, with_wait};
 
-use crate::judge::NoMemory;
 use arrayvec::ArrayVec;
 use calls::{Mode, Refusal, Reply, RowIn, Step, fill_row};
 use plain_cursor::{Bounds, PlainOrder};
 use plain_history::{PlainHistory, Refused};
 use tuple_header::Row;
+
+/// Memory was refused.
+#[derive(Clone, Copy, Debug, PartialEq, Eq)]
+pub struct NoMemory;
 
 fn on_begin(plain: &mut PlainHistory, s: u8, reply: &Reply)
     requires { AllowsReply (world_of plain.old) (Step.Begin s) reply.now }
@@ -159,6 +161,7 @@ fn on_insert(plain: &mut PlainHistory, s: u8, row: &RowIn, reply: &Reply) -> Res
     ensures goes_on { OnOk result
         (world_of plain.new ≡ after_reply (world_of plain.old) (Step.Insert s row.now) reply.now) }
     ensures stays { OnErr result (world_of plain.new ≡ world_of plain.old) }
+    ensures lacks { OnErr result (TakesMemory (Step.Insert s row.now) reply.now) }
 {
     match reply {
         Reply::Done => put_row(plain, s, table_row(row)),
@@ -175,6 +178,7 @@ fn on_update(plain: &mut PlainHistory, s: u8, row: &RowIn, reply: &Reply) -> Res
     ensures goes_on { OnOk result
         (world_of plain.new ≡ after_reply (world_of plain.old) (Step.Update s row.now) reply.now) }
     ensures stays { OnErr result (world_of plain.new ≡ world_of plain.old) }
+    ensures lacks { OnErr result (TakesMemory (Step.Update s row.now) reply.now) }
 {
     match reply {
         Reply::Done => put_row(plain, s, table_row(row)),
@@ -191,6 +195,7 @@ fn on_delete(plain: &mut PlainHistory, s: u8, key: u64, reply: &Reply) -> Result
     ensures goes_on { OnOk result
         (world_of plain.new ≡ after_reply (world_of plain.old) (Step.Delete s key) reply.now) }
     ensures stays { OnErr result (world_of plain.new ≡ world_of plain.old) }
+    ensures lacks { OnErr result (TakesMemory (Step.Delete s key) reply.now) }
 {
     match reply {
         Reply::Done => take_row(plain, s, key),
@@ -207,6 +212,7 @@ fn on_commit(plain: &mut PlainHistory, s: u8, reply: &Reply) -> Result<(), NoMem
     ensures goes_on { OnOk result
         (world_of plain.new ≡ after_reply (world_of plain.old) (Step.Commit s) reply.now) }
     ensures stays { OnErr result (world_of plain.new ≡ world_of plain.old) }
+    ensures lacks { OnErr result (TakesMemory (Step.Commit s) reply.now) }
 {
     match reply {
         Reply::Committed => match plain.take_in(s) {
@@ -239,6 +245,7 @@ fn on_savepoint(plain: &mut PlainHistory, s: u8, reply: &Reply) -> Result<(), No
     ensures goes_on { OnOk result
         (world_of plain.new ≡ after_reply (world_of plain.old) (Step.Savepoint s) reply.now) }
     ensures stays { OnErr result (world_of plain.new ≡ world_of plain.old) }
+    ensures lacks { OnErr result (TakesMemory (Step.Savepoint s) reply.now) }
 {
     match reply {
         Reply::Done => save(plain, s),
@@ -264,6 +271,7 @@ fn on_release(plain: &mut PlainHistory, s: u8, reply: &Reply) -> Result<(), NoMe
     ensures goes_on { OnOk result
         (world_of plain.new ≡ after_reply (world_of plain.old) (Step.Release s) reply.now) }
     ensures stays { OnErr result (world_of plain.new ≡ world_of plain.old) }
+    ensures lacks { OnErr result (TakesMemory (Step.Release s) reply.now) }
 {
     match reply {
         Reply::Done => join(plain, s),
@@ -287,6 +295,7 @@ fn on_open_index(
         (world_of plain.new
         ≡ after_reply (world_of plain.old) (Step.OpenIndex s index low high) reply.now) }
     ensures stays { OnErr result (world_of plain.new ≡ world_of plain.old) }
+    ensures lacks { OnErr result (TakesMemory (Step.OpenIndex s index low high) reply.now) }
 {
     match reply {
         Reply::Done => open(
@@ -307,6 +316,7 @@ fn on_open_heap(plain: &mut PlainHistory, s: u8, reply: &Reply) -> Result<(), No
     ensures goes_on { OnOk result
         (world_of plain.new ≡ after_reply (world_of plain.old) (Step.OpenHeap s) reply.now) }
     ensures stays { OnErr result (world_of plain.new ≡ world_of plain.old) }
+    ensures lacks { OnErr result (TakesMemory (Step.OpenHeap s) reply.now) }
 {
     match reply {
         Reply::Done => open(plain, s, PlainOrder::Heap, Bounds::All),
@@ -329,6 +339,7 @@ fn on_open_keys(
         (world_of plain.new
         ≡ after_reply (world_of plain.old) (Step.OpenKeys s low high) reply.now) }
     ensures stays { OnErr result (world_of plain.new ≡ world_of plain.old) }
+    ensures lacks { OnErr result (TakesMemory (Step.OpenKeys s low high) reply.now) }
 {
     match reply {
         Reply::Done => open(plain, s, PlainOrder::Keys, Bounds::Within(low, high)),
@@ -354,6 +365,7 @@ fn on_next(plain: &mut PlainHistory, s: u8, n: u16, reply: &Reply) -> Result<(),
     ensures goes_on { OnOk result
         (world_of plain.new ≡ after_reply (world_of plain.old) (Step.Next s n) reply.now) }
     ensures stays { OnErr result (world_of plain.new ≡ world_of plain.old) }
+    ensures lacks { OnErr result (TakesMemory (Step.Next s n) reply.now) }
 {
     match reply {
         Reply::Rows(rows) => match plain.pass_rows(s, rows) {
@@ -421,13 +433,14 @@ fn on_vacuum_cancel(plain: &mut PlainHistory, reply: &Reply)
     }
 }
 
-/// Memory may be refused where something is written, and to a commit. Then all is as it was.
-pub(crate) fn follow(plain: &mut PlainHistory, step: &Step, reply: &Reply) -> Result<(), NoMemory>
+/// Goes on by the answer to the step. Memory may be refused where something was written or opened, or rows were handed out, and to a
+/// commit. Then all is as it was.
+pub fn follow(plain: &mut PlainHistory, step: &Step, reply: &Reply) -> Result<(), NoMemory>
     requires { AllowsReply (world_of plain.old) step.now reply.now }
     ensures goes_on { OnOk result
         (world_of plain.new ≡ after_reply (world_of plain.old) step.now reply.now) }
     ensures stays { OnErr result (world_of plain.new ≡ world_of plain.old) }
-    ensures lacks { OnErr result (¬ TakesNoMemory step.now) }
+    ensures lacks { OnErr result (TakesMemory step.now reply.now) }
 {
     match step {
         Step::Insert(s, row) => on_insert(plain, *s, row, reply),

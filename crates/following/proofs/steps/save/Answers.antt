@@ -1,6 +1,6 @@
 use Rattle.plain_history.specs.Plain.{world_of}
-use Rattle.judge.proofs.After.{restored}
-use Rattle.judge.proofs.follow.save.Goals as goal
+use Rattle.following.proofs.AfterLemmas.{restored}
+use Rattle.following.proofs.steps.save.Goals as goal
 
 pub returns-in-Err-clause-err : goal.returns-in-Err-clause-err
 returns-in-Err-clause-err c =
