@@ -22,7 +22,12 @@ from server import Client, server
 TABLE = "CREATE TABLE t (k numeric PRIMARY KEY, a bigint, b bigint, c bigint, d bigint, body text)"
 FAILED, ALREADY_THERE, NOT_THERE = "error 3 Failed", "error 4 AlreadyThere", "error 5 NotThere"
 CONFLICT, BUSY = "error 6 Conflict", "error 7 Busy"
-CODES = {"40001": CONFLICT, "55P03": BUSY, "23505": CONFLICT, "25P02": FAILED}
+CODES = {"40001": CONFLICT, "55P03": BUSY, "23505": CONFLICT, "25P02": FAILED, "3B001": "error 12 NoSavepoint"}
+
+
+def errors(said: List[str]) -> List[str]:
+    """The SQLSTATE of each error among the lines of an answer."""
+    return [found[1] for found in (re.search(r"ERROR:  (\w{5})", line) for line in said) if found]
 
 
 class Session:
@@ -43,7 +48,7 @@ class Session:
     def tried(self, sql: str) -> List[str]:
         """The lines of a statement, or the SQLSTATE of its error alone; it stands in a savepoint of its own."""
         said = self.ask(f"SAVEPOINT statement; {sql}")
-        codes = [found[1] for found in (re.search(r"ERROR:  (\w{5})", line) for line in said) if found]
+        codes = errors(said)
         if not codes:
             self.ask("RELEASE statement")
             return said[1:]
@@ -98,11 +103,13 @@ class Recorder:
 
     def savepoint(self, s: str, how: str) -> str:
         session = self.sessions[s]
-        session.savepoints += how == "savepoint"
+        newest = session.savepoints + (how == "savepoint")
         words = {"savepoint": "SAVEPOINT", "rollbackto": "ROLLBACK TO", "release": "RELEASE"}
-        said = session.ask(f"{words[how]} sp{session.savepoints}")
-        session.savepoints -= how == "release"
-        return FAILED if any("25P02" in line for line in said) else "ok"
+        codes = errors(session.ask(f"{words[how]} sp{newest}"))
+        if codes:
+            return CODES[codes[0]]
+        session.savepoints = newest - (how == "release")
+        return "ok"
 
     def end(self, s: str, how: str) -> str:
         said = self.sessions[s].ask(how.upper() if how == "commit" else "ROLLBACK")
@@ -114,7 +121,7 @@ class Recorder:
 
     def next_of(self, s: str, count: str) -> List[str]:
         rows = self.sessions[s].ask(f"FETCH {max(int(count), 1)} FROM rows")
-        if any("ERROR" in row for row in rows):
+        if errors(rows):
             return [FAILED]
         if not rows:
             return ["end"]
@@ -147,7 +154,7 @@ class Recorder:
         if word == "next":
             return self.next_of(s, rest[0])
         if word == "close":
-            return [FAILED if any("ERROR" in line for line in self.sessions[s].ask("CLOSE rows")) else "ok"]
+            return [FAILED if errors(self.sessions[s].ask("CLOSE rows")) else "ok"]
         raise ValueError(f"the recorder has no {line!r}")
 
     def lines(self, script: List[str]) -> Iterator[str]:
