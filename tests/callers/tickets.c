@@ -1,20 +1,22 @@
 /* One thread reads pages by tickets while another writes: tickets [locked]. The writer moves 1 from a row to another in each transaction, so
  * that every view has the same sum. The reader takes a ticket of each page under the lock, and reads and closes them without it; with the
- * word locked it closes them under it, since a checker of races that looks for locks alone sees no order otherwise. Each view is of another
- * state: the reader waits until the writer has moved something since, so the order of threads decides nothing. At the end a view that was
- * taken first is read again, after all updates, a vacuum and the close of the table. */
+ * word locked it closes them under it, since a checker of races that looks for locks alone sees no order otherwise. Neither leaves the other
+ * far behind, however threads are scheduled: the reader waits until something was moved since its last view, and the writer until there is a
+ * view of what it did lately. At the end a view that was taken first is read again, after all updates, a vacuum and the close of the table. */
 #include "checks.h"
 
 #include <pthread.h>
 #include <stdbool.h>
 
-enum { ROWS = 900, MOST_PAGES = 64, ROUNDS = 60, EACH = 5 };
+enum { ROWS = 900, MOST_PAGES = 64, ROUNDS = 60, EACH = 5, MOST_AHEAD = 500 };
 
 static struct sandpiper table;
 static pthread_mutex_t latch = PTHREAD_MUTEX_INITIALIZER;
-static pthread_cond_t has_moved = PTHREAD_COND_INITIALIZER;
-static uint64_t moves; /* under the lock, as is_read is */
-static bool is_closed_locked, is_read;
+static pthread_cond_t has_changed = PTHREAD_COND_INITIALIZER;
+/* under the lock: how many moves there were, and by the last view, and whether all views were read */
+static uint64_t moves, seen_moves;
+static bool is_read;
+static bool is_closed_locked;
 
 struct view {
     uint32_t pages;
@@ -23,13 +25,18 @@ struct view {
 
 static void lock(void) { CHECK(pthread_mutex_lock(&latch) == 0); }
 
-static void unlock(void) { CHECK(pthread_mutex_unlock(&latch) == 0); }
+/* Lets go, and tells who waits for a change. */
+static void unlock(void) { CHECK(pthread_cond_broadcast(&has_changed) == 0 && pthread_mutex_unlock(&latch) == 0); }
+
+/* Waits for a change, without the lock meanwhile. */
+static void wait_for_change(void) { CHECK(pthread_cond_wait(&has_changed, &latch) == 0); }
 
 /* A ticket of each page, all at one state, with so many moves at least before it. */
 static void take(struct view *view, uint64_t before) {
     struct sandpiper_state state;
     lock();
-    while (moves < before) CHECK(pthread_cond_wait(&has_moved, &latch) == 0);
+    while (moves < before) wait_for_change();
+    seen_moves = moves;
     CHECK(sandpiper_begin(&table, 1) == SANDPIPER_DONE && sandpiper_state_of(&table, &state) == SANDPIPER_DONE);
     CHECK(state.pages <= MOST_PAGES);
     view->pages = state.pages;
@@ -65,7 +72,7 @@ static void close_all(struct view *view) {
 static void *read_views(void *rows) {
     static struct view view;
     for (int round = 0; round < ROUNDS; round++) {
-        take(&view, (round + 1) * EACH);
+        take(&view, seen_moves + EACH);
         check(&view, rows), check(&view, rows);
         close_all(&view);
     }
@@ -94,10 +101,10 @@ static void clean(void) {
 static void write_on(struct sandpiper_row *row) {
     for (bool done = false; !done;) {
         lock();
+        while (!is_read && moves > seen_moves + MOST_AHEAD) wait_for_change();
         done = is_read;
         for (int i = 0; i < EACH; i++, moves++) move(moves * 37 % ROWS, (moves * 37 + 400) % ROWS, row);
         if (moves % (100 * EACH) == 0) clean();
-        CHECK(pthread_cond_signal(&has_moved) == 0);
         unlock();
     }
 }
