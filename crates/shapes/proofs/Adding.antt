@@ -3,7 +3,7 @@ use Rattle.std.proofs.Common.{◌≡◌, ℕ, ◌+◌, List, [], ◌∷◌, ◌+
 use Rattle.session_steps.specs.State.{State}
 use Rattle.std.proofs.lemmas.List.{append-nil}
 use Rattle.session_core.specs.State.{WaitingView}
-use Rattle.shapes.specs.declared.shape.Shape.{Shape}
+use Rattle.shape_list.specs.declared.shape.Shape.{Shape}
 use Rattle.shapes.specs.Shapes.{IsOne, AreInTurn, ArePieces, Adds, IsPagePiece, IsAskedPage}
 
 -- none

@@ -17,9 +17,9 @@ use Rattle.sessions.specs.Session.{statement_snapshot}
 use Rattle.session_steps.specs.State.{State, session_at, engine_sessions}
 use Rattle.session_looks.specs.Explaining.{IsExplained}
 use Rattle.session_looks.proofs.HolderLemmas.{barred-none}
-use Rattle.shapes.specs.declared.shape.Shape.{Shape}
-use Rattle.shapes.specs.declared.shape.Shape.TheVariants as shape
-use Rattle.shapes.specs.declared.shape.DotShape.{DotShape}
+use Rattle.shape_list.specs.declared.shape.Shape.{Shape}
+use Rattle.shape_list.specs.declared.shape.Shape.TheVariants as shape
+use Rattle.shape_list.specs.declared.shape.DotShape.{DotShape}
 use Rattle.shapes.specs.Shapes.{Adds, IsDotShape, IsDotPiece, AreDots, ArePieces, slots_at, version_of_place}
 use Rattle.shapes.proofs.Adding.{adds-nothing, adds-one}
 

@@ -8,8 +8,8 @@ use Rattle.index_entries.specs.Order.{IsAscending}
 use Rattle.index_entries.specs.Sets.{IsLeast, IsAfter}
 use Rattle.index_entries.proofs.LookUpLemmas.{first_in_turn, next_in_turn}
 use Rattle.index_entries.specs.declared.entry.Entry.{Entry}
-use Rattle.shapes.specs.declared.shape.Shape.{Shape}
-use Rattle.shapes.specs.declared.shape.Shape.TheVariants as shape
+use Rattle.shape_list.specs.declared.shape.Shape.{Shape}
+use Rattle.shape_list.specs.declared.shape.Shape.TheVariants as shape
 use Rattle.shapes.specs.Shapes.{entry_shapes_of}
 
 entries-behind : (p i : ℕ) (xs ys : List Entry) → entry_shapes_of p i (xs ++ ys) ≡ entry_shapes_of p i xs ++ entry_shapes_of p i ys

@@ -9,9 +9,9 @@ use Rattle.commit_status.specs.declared.status.Status.TheVariants.{InProgress}
 use Rattle.commit_status.specs.Window.{Window, place, status_of, status_in}
 use Rattle.visibility.specs.Visible.{state_of}
 use Rattle.session_core.specs.State.{WaitingView}
-use Rattle.shapes.specs.declared.shape.Shape.{Shape}
-use Rattle.shapes.specs.declared.shape.Shape.TheVariants as shape
-use Rattle.shapes.specs.declared.shape.IdShape.{IdShape}
+use Rattle.shape_list.specs.declared.shape.Shape.{Shape}
+use Rattle.shape_list.specs.declared.shape.Shape.TheVariants as shape
+use Rattle.shape_list.specs.declared.shape.IdShape.{IdShape}
 use Rattle.shapes.specs.Shapes.{Adds, ArePieces, IsIdPiece, IsIdShape, left_out}
 use Rattle.shapes.proofs.Adding.{no-pieces, one-more, adds-one}
 

@@ -1,7 +1,7 @@
 -- Parts of a picture, one behind another, where the last was added or memory was refused.
 use Rattle.std.proofs.Common.{List, Result, Ok, Err}
 use Rattle.std.specs.Prelude.{OnOk}
-use Rattle.shapes.specs.declared.shape.Shape.{Shape}
+use Rattle.shape_list.specs.declared.shape.Shape.{Shape}
 use Rattle.shapes.specs.Shapes.{AreInTurn, Adds}
 use Rattle.shapes.proofs.Adding.{adds-joined}
 

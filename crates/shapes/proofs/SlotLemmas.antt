@@ -18,7 +18,7 @@ use Rattle.slot_fates.specs.declared.fate.VersionFate.{VersionFate}
 use Rattle.slot_fates.specs.declared.fate.VersionFate.TheVariants.{RolledBack, Deleted, GoesWith, Kept}
 use Rattle.slot_fates.specs.Fates.{IsVersionFate, IsFateOf, IsFate, WasRolledBack, goes}
 use Rattle.slot_fates.proofs.FateLemmas.{fate-one}
-use Rattle.shapes.specs.declared.shape.VersionShape.{VersionShape}
+use Rattle.shape_list.specs.declared.shape.VersionShape.{VersionShape}
 use Rattle.shapes.specs.Shapes.{IsVersionShape, AreVersionShapes}
 use Rattle.shapes.specs.Dead.{is_dead_fate}
 

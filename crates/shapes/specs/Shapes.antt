@@ -23,22 +23,24 @@ use Rattle.calls.specs.declared.step.TheConstants.{MOST_SESSIONS}
 use Rattle.sessions.specs.declared.session.Session.{Session}
 use Rattle.sessions.specs.Session.{statement_snapshot, reads_by_snapshot}
 use Rattle.session_steps.specs.State.{State, session_at, horizon_of, bits_of}
+use Rattle.session_looks.specs.declared.holder.Hold.{Hold}
 use Rattle.session_looks.specs.Holders.{IsHolder, HasId}
 use Rattle.session_core.specs.State.{WaitingView, wait_at}
-use Rattle.shapes.specs.declared.shape.TheConstants.{MOST_IDS, BODY_START, MOST_PAGES}
-use Rattle.shapes.specs.declared.shape.Shape.{Shape}
-use Rattle.shapes.specs.declared.shape.Shape.TheVariants as shape
-use Rattle.shapes.specs.declared.shape.IdShape.{IdShape}
-use Rattle.shapes.specs.declared.shape.HorizonShape.{HorizonShape}
-use Rattle.shapes.specs.declared.shape.SessionShape.{SessionShape}
-use Rattle.shapes.specs.declared.shape.PageShape.{PageShape}
-use Rattle.shapes.specs.declared.shape.VersionShape.{VersionShape}
-use Rattle.shapes.specs.declared.shape.SlotShape.{SlotShape}
-use Rattle.shapes.specs.declared.shape.LinkKind.{LinkKind}
-use Rattle.shapes.specs.declared.shape.LinkKind.TheVariants as link
-use Rattle.shapes.specs.declared.shape.DotShape.{DotShape}
-use Rattle.shapes.specs.declared.shape.PictureFault.{PictureFault}
-use Rattle.shapes.specs.declared.shape.PictureFault.TheVariants as fault
+use Rattle.shape_list.specs.declared.shape.TheConstants.{BODY_START}
+use Rattle.shapes.specs.declared.fault.TheConstants.{MOST_IDS, MOST_PAGES}
+use Rattle.shape_list.specs.declared.shape.Shape.{Shape}
+use Rattle.shape_list.specs.declared.shape.Shape.TheVariants as shape
+use Rattle.shape_list.specs.declared.shape.IdShape.{IdShape}
+use Rattle.shape_list.specs.declared.shape.HorizonShape.{HorizonShape}
+use Rattle.shape_list.specs.declared.shape.SessionShape.{SessionShape}
+use Rattle.shape_list.specs.declared.shape.PageShape.{PageShape}
+use Rattle.shape_list.specs.declared.shape.VersionShape.{VersionShape}
+use Rattle.shape_list.specs.declared.shape.SlotShape.{SlotShape}
+use Rattle.shape_list.specs.declared.shape.LinkKind.{LinkKind}
+use Rattle.shape_list.specs.declared.shape.LinkKind.TheVariants as link
+use Rattle.shape_list.specs.declared.shape.DotShape.{DotShape}
+use Rattle.shapes.specs.declared.fault.PictureFault.{PictureFault}
+use Rattle.shapes.specs.declared.fault.PictureFault.TheVariants as fault
 
 -- Lists of shapes.
 
@@ -89,9 +91,14 @@ abbrev pub AreIds : State → List Shape → Type 0
 AreIds st shapes =
     ArePieces (λ i. IsIdPiece st (given st.heap.statuses.first (left_out st.heap.statuses + i))) (remembered st.heap.statuses - left_out st.heap.statuses) shapes
 
+-- the session that holds the horizon back, if one does
+abbrev pub IsHolderShown : State → Option SessionNo → Type 0
+IsHolderShown st None = IsHolder st None
+IsHolderShown st (Some s) = (by : Hold) × IsHolder st (Some (record { session = s; by = by }))
+
 pub record IsHorizonShape (st : State) (horizon : HorizonShape) : Type 0 where
   pub is : horizon.horizon.0 ≡ horizon_of st
-  pub holder : IsHolder st horizon.holder
+  pub holder : IsHolderShown st horizon.holder
 
 abbrev pub IsNextShape : State → Xid → Type 0
 IsNextShape st next = next.0 ≡ next_id st.heap.statuses

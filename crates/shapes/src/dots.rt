@@ -6,8 +6,8 @@ ghost use Rattle.calls.specs.declared.step.TheConstants.{MOST_SESSIONS};
 ghost use Rattle.session_steps.specs.State.{session_at};
 ghost use Rattle.shapes.specs.Shapes.{Adds, AreDots, IsDotPiece, version_of_place};
 
-use crate::shape::{DotShape, Shape};
 use session_core::Engine;
+use shape_list::{DotShape, Shape};
 use std::alloc::AllocError;
 use xid_circle::Tid;
 

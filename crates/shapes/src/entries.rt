@@ -2,11 +2,11 @@
 
 ghost use Rattle.std.specs.Prelude.{◌≡◌, ◌==◌, ◌∷◌, ◌++◌, [], if◌then◌else◌, OnOk};
 ghost use Rattle.shapes.specs.Shapes.{Adds, AreEntries, entry_shapes, entry_shapes_of};
-ghost use Rattle.shapes.specs.declared.shape.Shape.TheVariants as shape;
+ghost use Rattle.shape_list.specs.declared.shape.Shape.TheVariants as shape;
 
-use crate::shape::{EntryShape, Shape};
 use root_index::{Entry, RootIndex};
 use session_core::Engine;
+use shape_list::{EntryShape, Shape};
 use std::alloc::AllocError;
 
 /// Adds an arrow from an entry of an index, if it leads to the page.

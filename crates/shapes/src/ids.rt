@@ -3,12 +3,12 @@
 ghost use Rattle.std.specs.Prelude.{◌≡◌, OnOk};
 ghost use Rattle.xid_circle.specs.Circle.{next_of, given};
 ghost use Rattle.commit_status.specs.Window.{status_of, turns as turns_between, next_id};
-ghost use Rattle.session_looks.specs.Holders.{IsHolder};
-ghost use Rattle.shapes.specs.Shapes.{Adds, AreIds, IsIdShape, IsHorizonShape, left_out as left_out_of};
+ghost use Rattle.shapes.specs.Shapes.{Adds, AreIds, IsIdShape, IsHolderShown, IsHorizonShape, left_out as left_out_of};
 
-use crate::shape::{HorizonShape, IdShape, MOST_IDS, Shape};
+use crate::fault::MOST_IDS;
 use commit_status::Status;
 use session_core::Engine;
+use shape_list::{HorizonShape, IdShape, Shape};
 use std::alloc::AllocError;
 use xid_circle::Xid;
 
@@ -90,12 +90,22 @@ pub(crate) fn add_ids(engine: &mut Engine, shapes: &mut Vec<Shape>) -> Result<()
     Ok(())
 }
 
+/// The session that holds the horizon back, if one does.
+fn holder(engine: &Engine) -> Option<u8>
+    ensures { IsHolderShown engine.now.engine.core result }
+{
+    match engine.horizon_holder() {
+        Some(holder) => Some(holder.session),
+        None => None,
+    }
+}
+
 /// The horizon, and who holds it back.
 pub(crate) fn horizon_shape(engine: &Engine) -> HorizonShape
     ensures { IsHorizonShape engine.now.engine.core result }
 {
     HorizonShape {
         horizon: engine.horizon(),
-        holder: engine.horizon_holder(),
+        holder: holder(engine),
     }
 }

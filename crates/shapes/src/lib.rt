@@ -8,16 +8,14 @@
 
 mod dots;
 mod entries;
+mod fault;
 mod ids;
 mod links;
 mod making;
 mod open_sessions;
 mod pages;
-mod shape;
 mod slots;
 
+pub use fault::{MOST_IDS, MOST_PAGES, PictureFault};
 pub use making::picture;
-pub use shape::{
-    BODY_START, DotShape, EntryShape, HorizonShape, IdShape, LinkKind, LinkShape, MOST_IDS,
-    MOST_PAGES, PageShape, PictureFault, SessionShape, Shape, SlotShape, VersionShape,
-};
+pub use shape_list::Shape;

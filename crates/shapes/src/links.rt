@@ -5,9 +5,9 @@ ghost use Rattle.page_slots.specs.Slots.{header_at as header_in, redirect_at};
 ghost use Rattle.hot_chain.specs.Chain.{has_aborted, is_replaced as is_replaced_by, successor as successor_in, next_in_chain as next_in};
 ghost use Rattle.shapes.specs.Shapes.{slots_at, links_to};
 
-use crate::shape::{LinkKind, LinkShape, Shape};
 use commit_status::Status;
 use session_core::Engine;
+use shape_list::{LinkKind, LinkShape, Shape};
 use std::alloc::AllocError;
 use tuple_header::Header;
 use xid_circle::{Tid, Xid};

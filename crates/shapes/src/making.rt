@@ -3,11 +3,12 @@
 ghost use Rattle.std.specs.Prelude.{◌≡◌, ◌<◌, ℕ, Some, IsSome, OnOk, IfOk, MatchOption, MatchResult, length, slice_get};
 ghost use Rattle.shapes.specs.Shapes.{Adds, AreHead, ArePages, IsPicture, IsNotInUse, IsFirstNotInUse, AreAllInUse, IsPictureFault, IsAskFault};
 
+use crate::fault::{MOST_PAGES, PictureFault};
 use crate::ids::{add_ids, horizon_shape, left_out};
 use crate::open_sessions::add_sessions;
 use crate::pages::add_page;
-use crate::shape::{MOST_PAGES, PictureFault, Shape};
 use session_core::Engine;
+use shape_list::Shape;
 use std::alloc::{AllocError, Global};
 
 /// The first of these pages that is not in use, if one is not.

@@ -6,8 +6,8 @@ ghost use Rattle.session_steps.specs.State.{session_at};
 ghost use Rattle.sessions.specs.Session.{statement_snapshot, reads_by_snapshot};
 ghost use Rattle.shapes.specs.Shapes.{Adds, AreSessions, IsSessionPiece, IsSessionShape};
 
-use crate::shape::{SessionShape, Shape};
 use session_core::{Engine, Session, SessionIsolation};
+use shape_list::{SessionShape, Shape};
 use std::alloc::AllocError;
 use xid_circle::Xid;
 

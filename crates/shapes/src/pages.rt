@@ -5,10 +5,10 @@ ghost use Rattle.index_lookup.specs.Pages.{slots_on};
 ghost use Rattle.shapes.specs.Shapes.{Adds, IsPageShape, IsPageHead, AreSlots, IsPagePiece, slots_at};
 
 use crate::entries::add_entries;
-use crate::shape::{PageShape, Shape};
 use crate::slots::add_slot;
 use page_slots::Page;
 use session_core::Engine;
+use shape_list::{PageShape, Shape};
 use std::alloc::AllocError;
 use xid_circle::Tid;
 

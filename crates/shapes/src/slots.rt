@@ -10,10 +10,10 @@ ghost use Rattle.shapes.specs.Dead.{is_dead_fate};
 
 use crate::dots::add_dots;
 use crate::links::{add_link, next_in_chain, redirect_of};
-use crate::shape::{BODY_START, LinkKind, Shape, SlotShape, VersionShape};
 use arrayvec::ArrayVec;
 use page_slots::Page;
 use session_core::{Engine, SlotFate};
+use shape_list::{BODY_START, LinkKind, Shape, SlotShape, VersionShape};
 use slot_fates::VersionFate;
 use std::alloc::AllocError;
 use tuple_header::{Header, Row};

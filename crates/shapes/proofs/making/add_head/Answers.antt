@@ -1,5 +1,5 @@
 use Rattle.std.proofs.Common.{◌≡◌, [], ◌∷◌, ◌++◌, ap, ◌∙◌}
-use Rattle.shapes.specs.declared.shape.Shape.TheVariants as shape
+use Rattle.shape_list.specs.declared.shape.Shape.TheVariants as shape
 use Rattle.shapes.specs.Shapes.{IsOne, AreIds, IsHorizonShape, IsNextShape, AreSessions, left_out}
 use Rattle.shapes.proofs.Adding.{adds-list, adds-one}
 use Rattle.shapes.proofs.JoinedLemmas.{five-parts}

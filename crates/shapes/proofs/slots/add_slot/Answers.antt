@@ -1,5 +1,5 @@
 use Rattle.std.proofs.Common.{◌≡◌, ◌++◌, ap, ◌∙◌}
-use Rattle.shapes.specs.declared.shape.LinkKind.TheVariants as link
+use Rattle.shape_list.specs.declared.shape.LinkKind.TheVariants as link
 use Rattle.shapes.specs.Shapes.{IsBox, AreDots, links_to, chain_links, redirect_links, version_of_place}
 use Rattle.shapes.proofs.Adding.{adds-list}
 use Rattle.shapes.proofs.JoinedLemmas.{four-parts}

@@ -2,31 +2,14 @@
 
 use arrayvec::ArrayVec;
 use commit_status::Status;
+use index_entries::Entry;
 use reasons::Verdict;
-use root_index::Entry;
-use session_core::{HorizonHolder, SlotFate};
+use slot_fates::SlotFate;
 use tuple_header::Header;
 use xid_circle::{Tid, Xid};
 
 /// How many of the first bytes of a body a picture shows.
 pub const BODY_START: usize = 8;
-
-/// How many ids a picture shows at most.
-pub const MOST_IDS: u64 = 40;
-
-/// How many pages a picture shows at most.
-pub const MOST_PAGES: usize = 64;
-
-/// Why there is no picture: the first of these that holds.
-#[derive(Clone, Copy, Debug, PartialEq, Eq)]
-pub enum PictureFault {
-    /// More than 64 pages were asked for.
-    TooManyPages,
-    /// The page of this number, the first such one that was asked for, is not in use.
-    NoSuchPage(u32),
-    /// Memory was refused.
-    NoMemory,
-}
 
 /// An id that is remembered.
 #[derive(Clone, Copy)]
@@ -45,7 +28,7 @@ pub struct HorizonShape {
     /// The horizon.
     pub horizon: Xid,
     /// The lowest session that holds it back, if one does.
-    pub holder: Option<HorizonHolder>,
+    pub holder: Option<u8>,
 }
 
 /// An open session.

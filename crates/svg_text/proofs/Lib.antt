@@ -1,0 +1,2 @@
+pub mod ZipLemmas
+pub mod Joining
