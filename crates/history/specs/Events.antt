@@ -2,7 +2,7 @@
 use Rattle.std.specs.Prelude.{◌≡◌, ℕ, ◌<◌, ◌≤◌, List, length, Some, None, IsSome, true, false, ℤ, ◌≤ℤ◌}
 use Rattle.tuple_header.specs.declared.version.Row.{Row}
 use Rattle.history.specs.History.{IsLate}
-use Rattle.history.specs.World.{World, OpenSession, Cursor, start_now, view, NoKeyIsHeld, ClosesRing, MayScan, IsReady, IsWriter, MayWrite, IsBlocked}
+use Rattle.history.specs.World.{World, OpenSession, Cursor, start_now, view, NobodyHasWritten, ClosesRing, MayScan, IsReady, IsWriter, MayWrite, IsBlocked}
 use Rattle.history.specs.Cursors.{HandsOutPart, HandsOutKeys, keys_of}
 use Rattle.history.specs.Moves.{stepped, change, begun, begun_by_statement, with_row, without_row, as_failed, blocked_by, with_savepoint, rolled_back_to, without_savepoint, aborted, committed_by, with_index_cursor, with_heap_cursor, with_keys_cursor, with_taken, without_cursor, with_made_index, with_vacuum}
 use Rattle.calls.specs.declared.step.TheConstants.{MOST_SESSIONS}
@@ -32,10 +32,10 @@ pub data Happens (w : World) (s : ℕ) : World → Type 0 where
   closes : (m : OpenSession) → IsReady w s m → IsSome m.cursor → Happens w s (change w s without_cursor)
 
 -- steps of any sessions, one after another, lead from the one world to the other. Between them come things that are no session's step. An
--- index may be made that is not there, while no open session holds a key. A vacuum may begin while none runs, and end
+-- index may be made that is not there, while no open session has written. A vacuum may begin while none runs, and end
 pub data StepsReach (from : World) : World → Type 0 where
   stays : StepsReach from from
   goes_on : (before after : World) (s : ℕ) → StepsReach from before → Happens before s after → StepsReach from after
-  makes_index : (before : World) (index : ℕ) → StepsReach from before → before.has_index index ≡ false → NoKeyIsHeld before → StepsReach from (with_made_index before index)
+  makes_index : (before : World) (index : ℕ) → StepsReach from before → before.has_index index ≡ false → NobodyHasWritten before → StepsReach from (with_made_index before index)
   begins_vacuum : (before : World) → StepsReach from before → before.has_vacuum ≡ false → StepsReach from (with_vacuum true before)
   ends_vacuum : (before : World) → StepsReach from before → before.has_vacuum ≡ true → StepsReach from (with_vacuum false before)

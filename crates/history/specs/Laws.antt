@@ -1,7 +1,7 @@
 -- Laws of every run.
-use Rattle.std.specs.Prelude.{◌≡◌, ℕ, ◌<◌, ◌≤◌, List, length, ◌++◌, Some, None, true, false, slice_get, Contains, ◌⊎◌}
+use Rattle.std.specs.Prelude.{◌≡◌, ℕ, ◌<◌, ◌≤◌, List, length, ◌++◌, Some, None, IsSome, true, false, slice_get, Contains, ◌⊎◌}
 use Rattle.history.specs.History.{Write, Transaction, IsLate}
-use Rattle.history.specs.World.{World, by_snapshot, by_statement, OpenSession, joined, start_now, view, Holds}
+use Rattle.history.specs.World.{World, by_snapshot, by_statement, OpenSession, joined, own_write, start_now, view, Holds}
 use Rattle.calls.specs.declared.step.TheConstants.{MOST_SESSIONS}
 
 -- the transaction at this place of the history has the write
@@ -22,6 +22,10 @@ HeldInTime w = (s : ℕ) (m : OpenSession) (write : Write) → w.session s ≡ S
 -- no two open sessions hold one key
 abbrev pub HeldOnce : World → Type 0
 HeldOnce w = (s o key : ℕ) → Holds w s key → Holds w o key → s ≡ o
+
+-- who holds a key has written
+abbrev pub HoldersHaveWritten : World → Type 0
+HoldersHaveWritten w = (s key : ℕ) (m : OpenSession) → w.session s ≡ Some m → IsSome (own_write m key) → m.has_written ≡ true
 
 -- what has committed stays as it is
 abbrev pub Grows : World → World → Type 0

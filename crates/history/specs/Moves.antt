@@ -27,7 +27,7 @@ awaited_no_more w s = record w { waits_for = λ t. kept_where (λ o. not (o == s
 
 -- a session that begins
 abbrev pub new_session : Isolation → OpenSession
-new_session isolation = record { isolation = isolation; levels = [] ∷ []; failed = false; cursor = None }
+new_session isolation = record { isolation = isolation; levels = [] ∷ []; failed = false; cursor = None; has_written = false }
 
 -- no index is too new for the session
 abbrev pub free_to_scan : World → ℕ → World
@@ -71,9 +71,9 @@ abbrev pub add_write : Write → List (List Write) → List (List Write)
 add_write write [] = (write ∷ []) ∷ []
 add_write write (level ∷ older) = (level ++ write ∷ []) ∷ older
 
--- it keeps the start of its statement
+-- it keeps the start of its statement, and the session has written from now on
 abbrev pub with_write : List Transaction → ℕ → Option Row → OpenSession → OpenSession
-with_write history key row m = record m { levels = add_write (record { start = start_now history m; key = key; row = row }) m.levels }
+with_write history key row m = record m { levels = add_write (record { start = start_now history m; key = key; row = row }) m.levels; has_written = true }
 
 abbrev pub with_row : List Transaction → Row → OpenSession → OpenSession
 with_row history row m = with_write history row.key (Some row) m

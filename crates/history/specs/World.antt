@@ -26,12 +26,13 @@ pub data Isolation : Type 0 where
 
 -- an open session: by which snapshot it reads; what it wrote at each level, the newest level first, and within a level the
 -- oldest write first; whether it can only be rolled back; its cursor. A savepoint begins a level, so there is always one
--- more than there are savepoints
+-- more than there are savepoints. And whether it has written, be it that all of it was rolled back to a savepoint since
 pub record OpenSession : Type 0 where
   pub isolation : Isolation
   pub levels : List (List Write)
   pub failed : Bool
   pub cursor : Option Cursor
+  pub has_written : Bool
 
 -- all that has committed, the sessions that are open, for whom each waits, which indexes there are, and which of them are too new
 -- for a session: it was open by snapshot when the index was made. An index leads to the rows that were current when it was made, and
@@ -83,13 +84,13 @@ view history m key = reading history (start_now history m) (joined m.levels) key
 abbrev pub Holds : World → ℕ → ℕ → Type 0
 Holds w s key = (m : OpenSession) × (w.session s ≡ Some m) × IsSome (own_write m key)
 
--- nobody does: what was written has committed, or was taken back
-abbrev pub NoKeyIsHeld : World → Type 0
-NoKeyIsHeld w = (s key : ℕ) → ¬ Holds w s key
+-- an open session has written, whether or not any of it is left
+abbrev pub SomeoneHasWritten : World → Type 0
+SomeoneHasWritten w = (s : ℕ) × (m : OpenSession) × (w.session s ≡ Some m) × (m.has_written ≡ true)
 
--- somebody is open
-abbrev pub IsSomeoneOpen : World → Type 0
-IsSomeoneOpen w = (s : ℕ) × (m : OpenSession) × (w.session s ≡ Some m)
+-- none has
+abbrev pub NobodyHasWritten : World → Type 0
+NobodyHasWritten w = (s : ℕ) (m : OpenSession) → w.session s ≡ Some m → m.has_written ≡ false
 
 -- there is no index of the column, and may be one
 abbrev pub LacksIndex : World → (column : ℕ) → Type 0
@@ -97,7 +98,7 @@ LacksIndex w c = (c < 4) × (w.has_index (suc c) ≡ false)
 
 -- the index of the column may be made, or is there
 abbrev pub MayIndex : World → (column : ℕ) → Type 0
-MayIndex w c = (c < 4) × (w.has_index (suc c) ≡ false → NoKeyIsHeld w)
+MayIndex w c = (c < 4) × (w.has_index (suc c) ≡ false → NobodyHasWritten w)
 
 -- were s to wait for o, the waits, followed from o, would close a ring ("Deadlocks" in the manual's section on explicit locking)
 abbrev pub ClosesRing : (waits : SessionNo → Option SessionNo) → SessionNo → SessionNo → Type 0

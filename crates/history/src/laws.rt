@@ -4,7 +4,7 @@
 ghost use Rattle.std.specs.Prelude.{ℕ, ◌≢◌, List, Bool};
 ghost use Rattle.history.specs.World.{World, beginning};
 ghost use Rattle.history.specs.Events.{Happens, StepsReach};
-ghost use Rattle.history.specs.Laws.{FirstCommitterWins, Grows, HasFew, HasFewLevels, HeldInTime, HeldOnce, KeepsIndexes, KeepsView, NeverLate, NeverTooNew};
+ghost use Rattle.history.specs.Laws.{FirstCommitterWins, Grows, HasFew, HasFewLevels, HeldInTime, HeldOnce, HoldersHaveWritten, KeepsIndexes, KeepsView, NeverLate, NeverTooNew};
 
 /// The first committer wins: of two transactions that wrote one key, the second to commit wrote it by a snapshot that was taken
 /// after the first had committed (Berenson et al. 1995, snapshot isolation).
@@ -21,6 +21,12 @@ pub fn held_keys_are_in_time()
 /// No two open sessions hold one key.
 pub fn keys_are_held_once()
     ensures { (columns : List Bool) (w : World) → StepsReach (beginning columns) w → HeldOnce w }
+{}
+
+/// Whoever holds a key has written. Where nobody has, as where an index is made, no key is held.
+pub fn holders_have_written()
+    ensures { (columns : List Bool) (w : World) → StepsReach (beginning columns) w
+        → HoldersHaveWritten w }
 {}
 
 /// The history only grows.

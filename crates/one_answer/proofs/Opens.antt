@@ -1,5 +1,5 @@
 -- What is left open may be answered.
-use Rattle.std.proofs.Common.{◌≡◌, ℕ, false, Some, sym, ◌∙◌, subst}
+use Rattle.std.proofs.Common.{◌≡◌, ℕ, Some, sym, ◌∙◌, subst}
 use Rattle.std.proofs.lemmas.Option.{same_Some}
 use Rattle.history.specs.World.{World, OpenSession, by_statement, LacksIndex}
 use Rattle.calls.specs.declared.step.Step.{Step}
@@ -33,11 +33,10 @@ where_done w (step.TakePage s p) refusal.NoMemory none is open_ = absurd is
 where_done w (step.Prune p) refusal.NoSuchPage none is open_ = tt
 where_done w (step.ApplyPlan p plan) refusal.NoSuchPage none is open_ = tt
 where_done w (step.ApplyPlan p plan) refusal.Stale none is open_ = tt
-where_done w (step.CreateIndex c) refusal.IndexBusy none is open_ = absurd none
 where_done w (step.CreateIndex c) refusal.NoMemory none is open_ = absurd none
 where_done w _ _ none is open_ = absurd open_
 
-pub where_lacking : (w : World) (c : ℕ) (r : Refusal) → LacksIndex w c → w.has_vacuum ≡ false → IsLeftOpen w (step.CreateIndex c) (reply.Refused r) → AllowsReply w (step.CreateIndex c) (reply.Refused r)
-where_lacking w c refusal.IndexBusy lacks idle open_ = (lacks, idle, open_)
-where_lacking w c refusal.NoMemory lacks idle open_ = (lacks, idle)
-where_lacking w c _ lacks idle open_ = absurd open_
+pub where_lacking : (w : World) (c : ℕ) (r : Refusal) → LacksIndex w c → AllowsReply w (step.CreateIndex c) reply.Done → IsLeftOpen w (step.CreateIndex c) (reply.Refused r)
+    → AllowsReply w (step.CreateIndex c) (reply.Refused r)
+where_lacking w c refusal.NoMemory lacks is open_ = (lacks, is.1 lacks.1, is.0.1 lacks.1)
+where_lacking w c _ lacks is open_ = absurd open_

@@ -4,7 +4,7 @@ use Rattle.std.specs.Prelude.{IsSome, ℤ, ◌<ℤ◌, ◌≤ℤ◌}
 use Rattle.std.proofs.lemmas.Int.{ints}
 use Rattle.tuple_header.specs.declared.version.Row.{Row}
 use Rattle.snapshot.specs.declared.own.TheConstants.{MOST_SAVEPOINTS}
-use Rattle.history.specs.World.{World, OpenSession, view}
+use Rattle.history.specs.World.{World, OpenSession, SomeoneHasWritten, NobodyHasWritten, view}
 use Rattle.history.specs.Laws.{HasFew}
 use Rattle.calls.specs.declared.step.Step.{Step}
 use Rattle.calls.specs.declared.step.Step.TheVariants as step
@@ -286,24 +286,38 @@ agree-vacuum_cancel w = by_tests w step.VacuumCancel (Idles w (Only reply.Done))
     answers _ is = absurd is
 
 pub agree-create_index : (w : World) (c : ℕ) → Agrees w (step.CreateIndex c) (AllowsReply w (step.CreateIndex c))
-agree-create_index w c = by_tests w (step.CreateIndex c) tests tt
-    (agree-or w (step.CreateIndex c) (3 < c) (c < 4) (reply.Refused refusal.NoSuchIndex) (Or IsBarred (¬ IsBarred) (reply.Refused refusal.VacuumRunning) (Last w (step.CreateIndex c) reply.Done)) (λ far near. omega arith)
-    (agree-or w (step.CreateIndex c) IsBarred (¬ IsBarred) (reply.Refused refusal.VacuumRunning) (Last w (step.CreateIndex c) reply.Done) (λ barred isnt. isnt barred) (done w (step.CreateIndex c)))) answers
+agree-create_index w c = by_tests w it tests tt
+    (agree-or w it (3 < c) (c < 4) (reply.Refused refusal.NoSuchIndex) (Or IsBarred (¬ IsBarred) (reply.Refused refusal.VacuumRunning) busy) (λ far near. omega arith)
+    (agree-or w it IsBarred (¬ IsBarred) (reply.Refused refusal.VacuumRunning) busy (λ barred isnt. isnt barred)
+    (agree-or w it IsBusy (¬ IsBusy) (reply.Refused refusal.IndexBusy) (Last w it reply.Done) (λ is isnt. isnt is) (done w it)))) answers
   where
+    it : Step
+    it = step.CreateIndex c
+
     -- the index would be made, and a vacuum runs
     IsBarred : Type 0
     IsBarred = (w.has_index (suc c) ≡ false) × (w.has_vacuum ≡ true)
 
+    -- or somebody has written
+    IsBusy : Type 0
+    IsBusy = (w.has_index (suc c) ≡ false) × SomeoneHasWritten w
+
+    busy : Reply → Type 0
+    busy a = Or IsBusy (¬ IsBusy) (reply.Refused refusal.IndexBusy) (Last w it reply.Done) a
+
     tests : Reply → Type 0
-    tests a = Or (3 < c) (c < 4) (reply.Refused refusal.NoSuchIndex) (Or IsBarred (¬ IsBarred) (reply.Refused refusal.VacuumRunning) (Last w (step.CreateIndex c) reply.Done)) a
+    tests a = Or (3 < c) (c < 4) (reply.Refused refusal.NoSuchIndex) (Or IsBarred (¬ IsBarred) (reply.Refused refusal.VacuumRunning) busy) a
 
     not_barred : w.has_vacuum ≡ false → ¬ IsBarred
     not_barred idle barred = not_both_runs w.has_vacuum idle barred.1
 
-    answers : (a : Reply) → Allows w (step.CreateIndex c) a → tests a
-    answers reply.Done is = inr (is.0.0, inr (λ barred. not_both_runs w.has_vacuum (is.1 barred.0) barred.1, inl refl))
+    not_busy : NobodyHasWritten w → ¬ IsBusy
+    not_busy none is = not_both_runs is.1.1.has_written (none is.1.0 is.1.1 is.1.2) is.1.3
+
+    answers : (a : Reply) → Allows w it a → tests a
+    answers reply.Done is = inr (is.0.0, inr (λ barred. not_barred (is.1 barred.0) barred, inr (λ busy. not_busy (is.0.1 busy.0) busy, inl refl)))
     answers (reply.Refused refusal.NoSuchIndex) is = inl (is, refl)
     answers (reply.Refused refusal.VacuumRunning) is = inr (is.0.0, inl ((is.0.1, is.1), refl))
-    answers (reply.Refused refusal.IndexBusy) is = inr (is.0.0, inr (not_barred is.1, inr is.2))
-    answers (reply.Refused refusal.NoMemory) is = inr (is.0.0, inr (not_barred is.1, inr tt))
+    answers (reply.Refused refusal.IndexBusy) is = inr (is.0.0, inr (not_barred is.1, inl ((is.0.1, is.2), refl)))
+    answers (reply.Refused refusal.NoMemory) is = inr (is.0.0, inr (not_barred is.1, inr (not_busy is.2, inr tt)))
     answers _ is = absurd is

@@ -71,7 +71,6 @@ left_taken w (step.ApplyPlan p plan) (reply.Refused refusal.NoSuchPage) is = tt
 left_taken w (step.ApplyPlan p plan) (reply.Refused refusal.Stale) is = tt
 left_taken w step.VacuumStep (reply.Worked piece) is = tt
 left_taken w step.VacuumStep (reply.Ended first) is = tt
-left_taken w (step.CreateIndex c) (reply.Refused refusal.IndexBusy) is = tt
 left_taken w (step.CreateIndex c) (reply.Refused refusal.NoMemory) is = tt
 left_taken w _ _ is = absurd is
 

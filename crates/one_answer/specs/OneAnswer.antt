@@ -1,6 +1,6 @@
 -- What is allowed at a step is one answer, but for what the history leaves open.
-use Rattle.std.specs.Prelude.{◌≡◌, ℕ, List, Bool, false, Some}
-use Rattle.history.specs.World.{World, OpenSession, Cursor, by_heap, by_statement, beginning, IsSomeoneOpen, LacksIndex}
+use Rattle.std.specs.Prelude.{◌≡◌, ℕ, List, Bool, Some}
+use Rattle.history.specs.World.{World, OpenSession, Cursor, by_heap, by_statement, beginning, LacksIndex}
 use Rattle.calls.specs.declared.step.Step.{Step}
 use Rattle.calls.specs.declared.step.Step.TheVariants as step
 use Rattle.calls.specs.declared.reply.Reply.{Reply}
@@ -24,8 +24,7 @@ abbrev pub IsOpenByStatement : World → ℕ → Type 0
 IsOpenByStatement w s = (m : OpenSession) × (w.session s ≡ Some m) × (m.isolation ≡ by_statement)
 
 -- What the history leaves open, for it does not know of it: memory, ids, room, which pages there are and which rows are on one,
--- which of its rows a heap cursor hands out next, what a vacuum does and when it ends, and which of the open sessions have an id. At
--- the steps that are not named nothing is
+-- which of its rows a heap cursor hands out next, what a vacuum does and when it ends. At the steps that are not named nothing is
 abbrev pub IsLeftOpen : World → Step → Reply → Type 0
 IsLeftOpen w (step.Begin s) (reply.Refused refusal.NoMemory) = Unit {0}
 IsLeftOpen w (step.Insert s row) (reply.Refused refusal.NeedsFreeze) = Unit {0}
@@ -50,7 +49,6 @@ IsLeftOpen w (step.ApplyPlan p plan) (reply.Refused refusal.NoSuchPage) = Unit {
 IsLeftOpen w (step.ApplyPlan p plan) (reply.Refused refusal.Stale) = Unit {0}
 IsLeftOpen w step.VacuumStep (reply.Worked piece) = Unit {0}
 IsLeftOpen w step.VacuumStep (reply.Ended first) = Unit {0}
-IsLeftOpen w (step.CreateIndex c) (reply.Refused refusal.IndexBusy) = IsSomeoneOpen w
 IsLeftOpen w (step.CreateIndex c) (reply.Refused refusal.NoMemory) = Unit {0}
 IsLeftOpen w step reply = ⊥
 
@@ -61,7 +59,6 @@ IsOfTheEngine refusal.NoRoom = Unit {0}
 IsOfTheEngine refusal.NoMemory = Unit {0}
 IsOfTheEngine refusal.NoSuchPage = Unit {0}
 IsOfTheEngine refusal.Stale = Unit {0}
-IsOfTheEngine refusal.IndexBusy = Unit {0}
 IsOfTheEngine refusal = ⊥
 
 -- the answer leaves nothing open beside it: another refusal, a row that was read, the end of a transaction or of a cursor's rows
@@ -88,8 +85,8 @@ abbrev pub MakesNone : Step → Type 0
 MakesNone (step.CreateIndex c) = ⊥
 MakesNone step = Unit {0}
 
--- It is open indeed. Where a step may be done, each refusal that is left open may be answered; and so it may where an index is lacking
--- and no vacuum runs
+-- It is open indeed. Where a step may be done, each refusal that is left open may be answered; where the step makes an index, if that is
+-- lacking
 pub record IsOpenIndeed (w : World) : Type 0 where
   pub done : (step : Step) (r : Refusal) → MakesNone step → AllowsReply w step reply.Done → IsLeftOpen w step (reply.Refused r) → AllowsReply w step (reply.Refused r)
-  pub lacking : (c : ℕ) (r : Refusal) → LacksIndex w c → w.has_vacuum ≡ false → IsLeftOpen w (step.CreateIndex c) (reply.Refused r) → AllowsReply w (step.CreateIndex c) (reply.Refused r)
+  pub lacking : (c : ℕ) (r : Refusal) → LacksIndex w c → AllowsReply w (step.CreateIndex c) reply.Done → IsLeftOpen w (step.CreateIndex c) (reply.Refused r) → AllowsReply w (step.CreateIndex c) (reply.Refused r)

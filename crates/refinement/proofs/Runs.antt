@@ -8,6 +8,7 @@ use Rattle.history.specs.Events.{Happens, passes, begins, begins_by_statement, c
 use Rattle.history.specs.Events as events
 use Rattle.history.proofs.HistoryLemmas.{at_other}
 use Rattle.history.proofs.RunLemmas.{Lawful-beginning, Lawful-run, indexes-step, vacuum-step, makes_on}
+use Rattle.history.proofs.WrittenLemmas.{written-run, written-beginning}
 use Rattle.calls.specs.declared.step.Step.{Step}
 use Rattle.calls.specs.declared.step.Step.TheVariants as step
 use Rattle.calls.specs.declared.reply.Reply.{Reply}
@@ -199,6 +200,7 @@ lawful_where columns w reach = let h = Lawful-run reach (Lawful-beginning column
   first_committer_wins = h.first;
   held_in_time = λ s m write at among. h.in_time s m write at among;
   held_once = h.once;
+  holders_have_written = written-run reach (written-beginning columns);
 }
 
 pub lawful : (columns : List Bool) (steps : List Step) (replies : List Reply) → IsRun (beginning columns) steps replies → IsLawful (after (beginning columns) steps replies)

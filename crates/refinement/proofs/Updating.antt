@@ -1,5 +1,5 @@
 -- A session writes a row in place of one that it sees: it deletes the one and inserts the other, and the model is told of one write.
-use Rattle.std.proofs.Common.{◌≡◌, ◌≢◌, ℕ, List, [], ◌∷◌, ◌++◌, Option, Some, None, refl, sym, ap, ◌∙◌, subst, ◌⊎◌, inl, inr}
+use Rattle.std.proofs.Common.{◌≡◌, ◌≢◌, ℕ, List, [], ◌∷◌, ◌++◌, Option, Some, None, true, refl, sym, ap, ◌∙◌, subst, ◌⊎◌, inl, inr}
 use Rattle.std.specs.Prelude.{IsSome}
 use Rattle.std.proofs.lemmas.Bool.{cases_eq}
 use Rattle.std.proofs.lemmas.Option.{same_Some, none-some}
@@ -60,7 +60,7 @@ traces_forget _ old new own (before ∷ saved) (ws ∷ levels) same h = (level_f
 
 -- a session with one write more
 abbrev adding : Write → OpenSession → OpenSession
-adding write m = record m { levels = add_write write m.levels }
+adding write m = record m { levels = add_write write m.levels; has_written = true }
 
 SessionAgrees-forget : {status : ℕ → Option Status} {store : Tid → Option Version} {history : List Transaction} {sees cursor_sees : ℕ → Type 0} {start : ℕ} {e : SeenSession} (old new : Write) (m : OpenSession) → new.key ≡ old.key
     → SessionAgrees status store history sees start cursor_sees e (adding new (adding old m)) → SessionAgrees status store history sees start cursor_sees e (adding new m)

@@ -2,10 +2,10 @@
 -- Which replies the history allows to a step, and what the world is after each.
 use Rattle.std.specs.Prelude.{◌≡◌, ℕ, suc, ◌-◌, ◌<◌, ◌≤◌, List, [], ◌∷◌, length, Option, Some, None, Bool, true, false, IsSome, ◌<ℤ◌, ◌≤ℤ◌}
 use Rattle.history.specs.History.{IsLate}
-use Rattle.history.specs.World.{World, OpenSession, Cursor, by_statement, beginning, start_now, view, IsSomeoneOpen, LacksIndex, MayIndex, MayScan, ClosesRing, IsReady, IsWriter, MayWrite, IsBlocked, world_sessions}
+use Rattle.history.specs.World.{World, OpenSession, Cursor, by_statement, beginning, start_now, view, SomeoneHasWritten, NobodyHasWritten, LacksIndex, MayIndex, MayScan, ClosesRing, IsReady, IsWriter, MayWrite, IsBlocked, world_sessions}
 use Rattle.history.specs.Cursors.{AreOf, keys_of, IsOver, HandsOutPart, HandsOutKeys}
 use Rattle.history.specs.Moves.{stepped, begun, begun_by_statement, blocked_by, change, with_row, without_row, as_failed, with_savepoint, rolled_back_to, without_savepoint, aborted, committed_by, with_index_cursor, with_heap_cursor, with_keys_cursor, with_taken, without_cursor, with_index_on, with_vacuum}
-use Rattle.history.specs.Laws.{FirstCommitterWins, HeldInTime, HeldOnce}
+use Rattle.history.specs.Laws.{FirstCommitterWins, HeldInTime, HeldOnce, HoldersHaveWritten}
 use Rattle.calls.specs.declared.step.Step.{Step}
 use Rattle.calls.specs.declared.step.Step.TheVariants as step
 use Rattle.calls.specs.declared.reply.Reply.{Reply}
@@ -127,8 +127,8 @@ Allows w step.VacuumCancel (reply.Refused refusal.NoVacuum) = w.has_vacuum ≡ f
 Allows w (step.CreateIndex c) reply.Done = MayIndex w c × (w.has_index (suc c) ≡ false → w.has_vacuum ≡ false)
 Allows w (step.CreateIndex c) (reply.Refused refusal.NoSuchIndex) = 3 < c
 Allows w (step.CreateIndex c) (reply.Refused refusal.VacuumRunning) = LacksIndex w c × (w.has_vacuum ≡ true)
-Allows w (step.CreateIndex c) (reply.Refused refusal.IndexBusy) = LacksIndex w c × (w.has_vacuum ≡ false) × IsSomeoneOpen w
-Allows w (step.CreateIndex c) (reply.Refused refusal.NoMemory) = LacksIndex w c × (w.has_vacuum ≡ false)
+Allows w (step.CreateIndex c) (reply.Refused refusal.IndexBusy) = LacksIndex w c × (w.has_vacuum ≡ false) × SomeoneHasWritten w
+Allows w (step.CreateIndex c) (reply.Refused refusal.NoMemory) = LacksIndex w c × (w.has_vacuum ≡ false) × NobodyHasWritten w
 Allows w step reply = ⊥
 
 -- a step that reads or is refused only ends the session's own wait
@@ -220,6 +220,7 @@ pub record IsLawful (w : World) : Type 0 where
   pub first_committer_wins : FirstCommitterWins w.history
   pub held_in_time : HeldInTime w
   pub held_once : HeldOnce w
+  pub holders_have_written : HoldersHaveWritten w
 
 abbrev pub RunsAreLawful : Type 0
 RunsAreLawful = (columns : List Bool) (steps : List Step) (replies : List Reply) → IsRun (beginning columns) steps replies
