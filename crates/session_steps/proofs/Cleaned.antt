@@ -187,7 +187,7 @@ thinned : (st : State) (h : HeapView) (p : ℕ) (w : World) → h.statuses ≡ s
     → Agrees st w → Agrees (with_parts st h) w
 thinned st h p w statuses limit stays removes agrees =
     let f = theory.Follows-prune (seen st) p (version_in (slots_of h)) (removes-past st w (version_in (slots_of h)) p agrees removes) w agrees.found in
-    agree agrees stays.in_use (marks-stay st.sessions) (unmade refl refl) (subst (λ t. relation_agrees.HeapAgrees (seen_in (slots_of h) t st.sessions) w) (sym statuses) f.1) (record {
+    agree agrees stays.in_use (marks-stay st.sessions) (unmade refl refl) agrees.written (subst (λ t. relation_agrees.HeapAgrees (seen_in (slots_of h) t st.sessions) w) (sym statuses) f.1) (record {
       count = agrees.sound.count;
       max_pages = limit ∙ agrees.sound.max_pages;
       stop_age = rw statuses agrees.sound.stop_age;

@@ -32,6 +32,7 @@ use Rattle.table_scans.specs.declared.progress.CursorScan.TheVariants.{Rows}
 use Rattle.table_scans.specs.declared.progress.Scan.TheVariants.{Index, Heap}
 use Rattle.index_lookup.specs.declared.index_scan.IndexRange.{IndexRange}
 use Rattle.session_steps.specs.State.{State, session_at, put_session, map_session, with_cursor, with_kept, isolation_seen, seen, position_of, reader_of, engine_sessions}
+use Rattle.history.specs.Moves.{with_index_cursor, with_heap_cursor, without_cursor}
 use Rattle.sessions.specs.Session.{keeping, kept_by, IsByStatement, is_too_new}
 use Rattle.session_steps.specs.Agrees.{Agrees, Sound, SessionKeeps, Follows, KeepsAllTargets}
 use Rattle.session_steps.proofs.InUse.{GoesAlong, used-still, marks-put, no-cursor, scans-put, agree}
@@ -40,6 +41,7 @@ use Rattle.sound_entries.specs.Since.{MayScanSince}
 use Rattle.session_steps.proofs.OwnIdsLemmas.{open-within, open-set_cases}
 use Rattle.session_steps.proofs.StateLemmas.{only-set}
 use Rattle.session_steps.proofs.Owns.{reader-is, now_taken, taken-fresh, taken-within}
+use Rattle.session_steps.proofs.WrittenLemmas.{written-put}
 use Rattle.session_steps.proofs.Statements.{kept-after}
 use Rattle.session_steps.proofs.Follows.{Follows-same, stays-so, free_by, bare_by, some-position, led-same, Sound-put}
 
@@ -213,7 +215,8 @@ Follows-opened_index st st' s e span at sound bare order none used may is w agre
     subst (λ st'. Allows w (step.OpenIndex s span.index span.low span.high) reply.Done × Agrees st' (next w (step.OpenIndex s span.index span.low span.high) reply.Done) × KeepsAllTargets st st')
     (sym (put-both st st' s e (Some (Rows (Index span))) (Some (now_taken st)) at is)) (
       f.0,
-      agree agrees (used-still st.heap.indexes) (marks-put st.sessions s e (with_both (Some (Rows (Index span))) (Some (now_taken st)) e) at refl) (unmade refl refl) f.1
+      agree agrees (used-still st.heap.indexes) (marks-put st.sessions s e (with_both (Some (Rows (Index span))) (Some (now_taken st)) e) at refl) (unmade refl refl)
+          (written-put st w s e (with_both (Some (Rows (Index span))) (Some (now_taken st)) e) (with_index_cursor w.history span.index span.low span.high) at agrees (λ m there. agrees.written s e m at there)) f.1
           (sound-both st w s e (Some (Rows (Index span))) (Some (now_taken st)) at agrees (taken-alone st) (λ some. refl) (along-span st w s e span agrees at used may)),
       led-same st w agrees,
     )
@@ -225,7 +228,8 @@ Follows-opened_heap st st' s e at sound bare is w agrees =
     (λ w' found. opens-by st w e.isolation agrees) (reader-is st s e at) sound (ap position_of bare) w agrees.found in
     subst (λ st'. Allows w (step.OpenHeap s) reply.Done × Agrees st' (next w (step.OpenHeap s) reply.Done) × KeepsAllTargets st st') (sym (put-both st st' s e (Some (Rows (Heap heap_start))) (Some (now_taken st)) at is)) (
       f.0,
-      agree agrees (used-still st.heap.indexes) (marks-put st.sessions s e (with_both (Some (Rows (Heap heap_start))) (Some (now_taken st)) e) at refl) (unmade refl refl) f.1
+      agree agrees (used-still st.heap.indexes) (marks-put st.sessions s e (with_both (Some (Rows (Heap heap_start))) (Some (now_taken st)) e) at refl) (unmade refl refl)
+          (written-put st w s e (with_both (Some (Rows (Heap heap_start))) (Some (now_taken st)) e) (with_heap_cursor w.history) at agrees (λ m there. agrees.written s e m at there)) f.1
           (sound-both st w s e (Some (Rows (Heap heap_start))) (Some (now_taken st)) at agrees (taken-alone st) (λ some. refl) (λ span here. absurd (cc))),
       led-same st w agrees,
     )
@@ -237,7 +241,8 @@ Follows-closed_cursor st st' s e at sound some is w agrees =
     let f = cursors.Follows-close (seen st) s (reader_of e) (seen now).session only (reader-is st s e at) sound (some-position e.cursor some) w agrees.found in
     subst (λ st'. Allows w (step.Close s) reply.Done × Agrees st' (next w (step.Close s) reply.Done) × KeepsAllTargets st st') (sym (put-both st st' s e None None at is)) (
       f.0,
-      agree agrees (used-still st.heap.indexes) (marks-put st.sessions s e (with_both None None e) at refl) (unmade refl refl) f.1
+      agree agrees (used-still st.heap.indexes) (marks-put st.sessions s e (with_both None None e) at refl) (unmade refl refl)
+          (written-put st w s e (with_both None None e) without_cursor at agrees (λ m there. agrees.written s e m at there)) f.1
           (sound-both st w s e None None at agrees (λ snap none. absurd (none-some snap none)) (λ some. some) (no-cursor st.heap.statuses st.heap.indexes (keeping None e.isolation) None refl)),
       led-same st w agrees,
     )

@@ -20,7 +20,7 @@ use Rattle.commit_status.specs.declared.status.Status.{Status}
 use Rattle.commit_status.specs.declared.status.Status.TheVariants.{Committed, Aborted}
 use Rattle.snapshot.specs.Snap.{Snap}
 use Rattle.heap_write.specs.Heap.{slots_of}
-use Rattle.history.specs.World.{World}
+use Rattle.history.specs.World.{World, Isolation, by_snapshot, by_statement}
 use Rattle.calls.specs.declared.step.Step.{Step}
 use Rattle.calls.specs.declared.step.Step.TheVariants as step
 use Rattle.calls.specs.declared.reply.Reply.{Reply}
@@ -48,14 +48,15 @@ use Rattle.session_steps.specs.State.{State, session_at, put_session, seen, posi
 use Rattle.sessions.specs.Session.{kept_by, IsByStatement, is_too_new, holds_back, held_back}
 use Rattle.sessions.specs.Places.{open_at}
 use Rattle.sound_entries.specs.Since.{MayScanSince}
-use Rattle.session_steps.specs.Agrees.{Agrees, Sound, Follows, SessionKeeps, SessionScans, KeepsAllTargets, NotesHold, FollowsByNotes}
+use Rattle.session_steps.specs.Agrees.{Agrees, Sound, Follows, SessionKeeps, SessionScans, KeepsAllTargets, NotesHold, FollowsByNotes, WrittenAgrees}
 use Rattle.table_scans.specs.declared.progress.CursorScan.{CursorScan}
 use Rattle.table_scans.specs.declared.progress.CursorScan.TheVariants.{Rows, Keys}
 use Rattle.table_scans.specs.declared.progress.Scan.TheVariants.{Index, Heap}
 use Rattle.session_steps.specs.Changes.{Opens, Closes}
 use Rattle.session_steps.specs.Tests.{BarsBegin}
 use Rattle.refinement.proofs.Runs.{MakesNoIndex, unmade, same_indexes}
-use Rattle.history.specs.Moves.{free_to_scan}
+use Rattle.history.specs.Moves.{put, free_to_scan}
+use Rattle.history.specs.Moves as moves
 use Rattle.history.proofs.HistoryLemmas.{at_same, at_other}
 use Rattle.refinement.specs.Heap.{seen_sessions}
 use Rattle.session_steps.proofs.InUse.{SameMarks, used-still, same-used, marks-stay, marks-close, no-cursor, scans-as, scans-put, agree}
@@ -64,6 +65,7 @@ use Rattle.session_steps.proofs.OwnIdsLemmas.{open-within, open-set_cases}
 use Rattle.session_steps.proofs.StateLemmas.{only-set}
 use Rattle.session_steps.proofs.Windows.{Finishes-from, SameSight-finish, decided}
 use Rattle.session_steps.proofs.Owns.{reader-is, now_taken, taken-fresh, taken-within}
+use Rattle.session_steps.proofs.WrittenLemmas.{ReadsOrFails, makes-none, written-begins, written-ends, written-stays}
 use Rattle.session_steps.proofs.Ends.{commits-sound, aborts-sound}
 
 -- the pages and the entries stay as they are
@@ -78,17 +80,23 @@ pub led-same : (st : State) (w : World) → Agrees st w → KeepsAllTargets st s
 led-same st w agrees n e there still = stays-led (slot_in (slots_of st.heap) e.tid) ((agrees.sound.table.indexes n (used-by st.heap.indexes n e there)).leads e there)
 
 -- a step that leaves the engine as it is
-pub stays-so : (st : State) (w : World) (step : Step) (r : Reply) → MakesNoIndex step → Agrees st w → Allows w step r × relation.HeapAgrees (seen st) (next w step r) → Allows w step r × Agrees st (next w step r) × KeepsAllTargets st st
-stays-so st w step r none agrees f = (f.0, agree agrees (used-still st.heap.indexes) (marks-stay st.sessions) (same_indexes w step r none f.0) f.1 agrees.sound, led-same st w agrees)
+pub stays-so : (st : State) (w : World) (step : Step) (r : Reply) → ReadsOrFails step r → Agrees st w → Allows w step r × relation.HeapAgrees (seen st) (next w step r) → Allows w step r × Agrees st (next w step r) × KeepsAllTargets st st
+stays-so st w step r is agrees f =
+    (f.0, agree agrees (used-still st.heap.indexes) (marks-stay st.sessions) (same_indexes w step r (makes-none step r is) f.0) (written-stays st w step r is agrees) f.1 agrees.sound, led-same st w agrees)
 
-pub Follows-same : (st : State) (step : Step) (r : Reply) → MakesNoIndex step → finds.HeapFollows (seen st) step r (seen st) → Follows st step r st
-Follows-same st step r none follows w agrees = stays-so st w step r none agrees (follows w agrees.found)
+pub Follows-same : (st : State) (step : Step) (r : Reply) → ReadsOrFails step r → finds.HeapFollows (seen st) step r (seen st) → Follows st step r st
+Follows-same st step r is follows w agrees = stays-so st w step r is agrees (follows w agrees.found)
 
 -- a write makes no index
 pub no_making : (s : ℕ) (write : WriteStep) → MakesNoIndex (step_of s write)
 no_making s (inserts row) = tt
 no_making s (updates row) = tt
 no_making s (deletes k) = tt
+
+pub is_refused : (s : ℕ) (write : WriteStep) (r : Refusal) → ReadsOrFails (step_of s write) (reply.Refused r)
+is_refused s (inserts row) r = tt
+is_refused s (updates row) r = tt
+is_refused s (deletes k) r = tt
 
 -- Refusals.
 
@@ -207,16 +215,24 @@ opens-sound st st' w s i within new opens agrees =
     let as_new = subst (λ j. (j ≡ BySnapshot (now_taken st)) ⊎ (j ≡ ByStatement None)) (sym opens.reads) new in
     Sound-opens st w s opens.session within (λ snap kept. kept-new st opens.session.isolation snap as_new kept) (none-new st opens.session.isolation as_new) opens.no_ids opens.unsaved opens.bare agrees
 
+-- it has not written
+opened-written : (st st' : State) (w : World) (s : ℕ) (i : SessionIsolation) (isolation : Isolation) → s < 64 → (opens : Opens st st' s i) → Agrees st w
+    → WrittenAgrees (put_session st s (Some opens.session)) (put w s (Some (moves.new_session isolation)))
+opened-written st st' w s i isolation within opens agrees =
+    written-begins st w s opens.session (moves.new_session isolation) (let count = agrees.sound.count in omega arith) agrees (rw (opens.no_ids, opens.unsaved) (refl, tt))
+
 -- no index is too new for it
 opened-agrees : (st st' : State) (w : World) (s : ℕ) (i : SessionIsolation) → s < 64 → (i ≡ BySnapshot (now_taken st)) ⊎ (i ≡ ByStatement None) → (opens : Opens st st' s i) → Agrees st w
-    → (w' : World) → w'.has_index ≡ w.has_index → w'.too_new ≡ (free_to_scan w s).too_new → relation.HeapAgrees (seen (put_session st s (Some opens.session))) w' → Agrees (put_session st s (Some opens.session)) w'
-opened-agrees st st' w s i within new opens agrees w' had marks found = record {
+    → (w' : World) → w'.has_index ≡ w.has_index → w'.too_new ≡ (free_to_scan w s).too_new → WrittenAgrees (put_session st s (Some opens.session)) w'
+    → relation.HeapAgrees (seen (put_session st s (Some opens.session))) w' → Agrees (put_session st s (Some opens.session)) w'
+opened-agrees st st' w s i within new opens agrees w' had marks written found = record {
   found = found;
   indexes = λ n. (λ used. ap (λ (has : ℕ → Bool). has n) had ∙ (agrees.indexes n).0 used, λ has. (agrees.indexes n).1 (sym (ap (λ (has : ℕ → Bool). has n) had) ∙ has));
   scans = λ o f bt n. ap (λ (marks : ℕ → ℕ → Bool). marks o n) marks ∙ elim (open-set_cases st.sessions s o (Some opens.session) f (let count = agrees.sound.count in omega arith) bt) [
     | inl here ↦ ap (λ t. (free_to_scan w s).too_new t n) here.0 ∙ (at_same s false (w.too_new s n) ∙ (sym (opens.scans_all n) ∙ ap (λ (g : Session). is_too_new g n) (same_Some opens.session f here.1)))
     | inr other ↦ at_other o s false (w.too_new o n) other.0 ∙ agrees.scans o f other.1 n
   ];
+  written = written;
   sound = opens-sound st st' w s i within new opens agrees;
 }
 
@@ -225,14 +241,14 @@ Follows-begin st st' s within idle opens w agrees =
     let f = theory.Follows-begin (seen st) s (now_taken st) (seen (put_session st s (Some opens.session))).session (only-opens st st' w s (BySnapshot (now_taken st)) within opens agrees) within
     (ap (option_map reader_of) idle) (λ w' found. taken-fresh st w agrees) w agrees.found in
     subst (λ st'. Allows w (step.Begin s) reply.Done × Agrees st' (next w (step.Begin s) reply.Done) × KeepsAllTargets st st') (sym opens.is)
-    (f.0, opened-agrees st st' w s (BySnapshot (now_taken st)) within (inl refl) opens agrees (next w (step.Begin s) reply.Done) refl refl f.1, led-same st w agrees)
+    (f.0, opened-agrees st st' w s (BySnapshot (now_taken st)) within (inl refl) opens agrees (next w (step.Begin s) reply.Done) refl refl (opened-written st st' w s (BySnapshot (now_taken st)) (by_snapshot (length w.history)) within opens agrees) f.1, led-same st w agrees)
 
 pub Follows-begin_by_statement : (st st' : State) (s : ℕ) → s < 64 → session_at st s ≡ None → Opens st st' s (ByStatement None) → Follows st (step.BeginReadCommitted s) reply.Done st'
 Follows-begin_by_statement st st' s within idle opens w agrees =
     let f = theory.Follows-begin_by_statement (seen st) s (seen (put_session st s (Some opens.session))).session (only-opens st st' w s (ByStatement None) within opens agrees) within
     (ap (option_map reader_of) idle) w agrees.found in
     subst (λ st'. Allows w (step.BeginReadCommitted s) reply.Done × Agrees st' (next w (step.BeginReadCommitted s) reply.Done) × KeepsAllTargets st st') (sym opens.is)
-    (f.0, opened-agrees st st' w s (ByStatement None) within (inr refl) opens agrees (next w (step.BeginReadCommitted s) reply.Done) refl refl f.1, led-same st w agrees)
+    (f.0, opened-agrees st st' w s (ByStatement None) within (inr refl) opens agrees (next w (step.BeginReadCommitted s) reply.Done) refl refl (opened-written st st' w s (ByStatement None) by_statement within opens agrees) f.1, led-same st w agrees)
 
 -- Commit and Abort.
 
@@ -258,6 +274,10 @@ module _ (st st' : State) (s : ℕ) (e : Session) (end : Status) (at : session_a
   closed-marks : SameMarks st.sessions st'.sessions
   closed-marks = subst (SameMarks st.sessions) (sym closes.sessions) (marks-close st.sessions s (open-within st.sessions s e at))
 
+  -- and it has written no more
+  closed-written : (w : World) → Agrees st w → WrittenAgrees st' (put w s None)
+  closed-written w agrees = subst (λ xs. WrittenAgrees (record st { sessions = xs }) (put w s None)) (sym closes.sessions) (written-ends st w s e at agrees)
+
   -- the pages stay
   closed-with : (w' : World) → relation.HeapAgrees (with_pages st' st.heap.pages) w' → relation.HeapAgrees (seen st') w'
   closed-with w' found = subst (λ pages. relation.HeapAgrees (with_pages st' pages) w') (sym closes.pages) found
@@ -267,31 +287,31 @@ Follows-abort st st' s e at closes w agrees =
     let f = theory.Follows-abort (seen st) s (reader_of e) (seen st').status (seen st').sees (seen st').session (only-closes st st' s e Aborted at closes) (reader-is st s e at)
     (own-finishes st st' s e Aborted at closes) (same-sights st st' s e Aborted at closes) w agrees.found in
     let sound' = aborts-sound st st' s e w at closes agrees in
-    (f.0, agree agrees (same-used st.heap.indexes st'.heap.indexes closes.indexes) (closed-marks st st' s e Aborted at closes) (unmade refl refl) (closed-with st st' s e Aborted at closes (next w (step.Abort s) reply.RolledBack) f.1) sound'.0, sound'.1)
+    (f.0, agree agrees (same-used st.heap.indexes st'.heap.indexes closes.indexes) (closed-marks st st' s e Aborted at closes) (unmade refl refl) (closed-written st st' s e Aborted at closes w agrees) (closed-with st st' s e Aborted at closes (next w (step.Abort s) reply.RolledBack) f.1) sound'.0, sound'.1)
 
 pub Follows-commit_failed : (st st' : State) (s : ℕ) (e : Session) → session_at st s ≡ Some e → e.failed ≡ true → Closes st st' s Aborted → Follows st (step.Commit s) reply.RolledBack st'
 Follows-commit_failed st st' s e at failed closes w agrees =
     let f = theory.Follows-commit_failed (seen st) s (reader_of e) (seen st').status (seen st').sees (seen st').session (only-closes st st' s e Aborted at closes) (reader-is st s e at) failed
     (own-finishes st st' s e Aborted at closes) (same-sights st st' s e Aborted at closes) w agrees.found in
     let sound' = aborts-sound st st' s e w at closes agrees in
-    (f.0, agree agrees (same-used st.heap.indexes st'.heap.indexes closes.indexes) (closed-marks st st' s e Aborted at closes) (unmade refl refl) (closed-with st st' s e Aborted at closes (next w (step.Commit s) reply.RolledBack) f.1) sound'.0, sound'.1)
+    (f.0, agree agrees (same-used st.heap.indexes st'.heap.indexes closes.indexes) (closed-marks st st' s e Aborted at closes) (unmade refl refl) (closed-written st st' s e Aborted at closes w agrees) (closed-with st st' s e Aborted at closes (next w (step.Commit s) reply.RolledBack) f.1) sound'.0, sound'.1)
 
 pub Follows-commit : (st st' : State) (s : ℕ) (e : Session) → session_at st s ≡ Some e → e.failed ≡ false → Closes st st' s Committed → Follows st (step.Commit s) reply.Committed st'
 Follows-commit st st' s e at sound closes w agrees =
     let f = theory.Follows-commit (seen st) s (reader_of e) (seen st').status (seen st').sees (seen st').session (only-closes st st' s e Committed at closes) (reader-is st s e at) sound
     (own-finishes st st' s e Committed at closes) (same-sights st st' s e Committed at closes) (λ snap x. decided snap st.heap.statuses x) w agrees.found in
     let sound' = commits-sound st st' s e w at closes agrees in
-    (f.0, agree agrees (same-used st.heap.indexes st'.heap.indexes closes.indexes) (closed-marks st st' s e Committed at closes) (unmade refl refl) (closed-with st st' s e Committed at closes (next w (step.Commit s) reply.Committed) f.1) sound'.0, sound'.1)
+    (f.0, agree agrees (same-used st.heap.indexes st'.heap.indexes closes.indexes) (closed-marks st st' s e Committed at closes) (unmade refl refl) (closed-written st st' s e Committed at closes w agrees) (closed-with st st' s e Committed at closes (next w (step.Commit s) reply.Committed) f.1) sound'.0, sound'.1)
 
 -- Writes that are refused before they are tried.
 
 pub Follows-barred_write : (st : State) (s : ℕ) (write : WriteStep) (r : Refusal) → BarsFree (engine_sessions st) s r → Follows st (step_of s write) (reply.Refused r) st
-Follows-barred_write st s write r is = Follows-same st (step_of s write) (reply.Refused r) (no_making s write) (hindrances.Follows-barred_write (seen st) s write r (free_by st s r is))
+Follows-barred_write st s write r is = Follows-same st (step_of s write) (reply.Refused r) (is_refused s write r) (hindrances.Follows-barred_write (seen st) s write r (free_by st s r is))
 
 pub Follows-too_large : (st : State) (s : ℕ) (e : Session) (write : WriteStep) → session_at st s ≡ Some e → e.failed ≡ false → e.cursor ≡ None → hindrances.IsTooLarge write
     → Follows st (step_of s write) (reply.Refused refusal.TooLarge) st
 Follows-too_large st s e write at sound bare large =
-    Follows-same st (step_of s write) (reply.Refused refusal.TooLarge) (no_making s write) (hindrances.Follows-too_large (seen st) s (reader_of e) write (reader-is st s e at) sound (ap position_of bare) large)
+    Follows-same st (step_of s write) (reply.Refused refusal.TooLarge) (is_refused s write refusal.TooLarge) (hindrances.Follows-too_large (seen st) s (reader_of e) write (reader-is st s e at) sound (ap position_of bare) large)
 
 -- a session that holds back what it held back
 pub same-back : (xs : List (Option Session)) (s : ℕ) (e now : Session) → open_at xs s ≡ Some e → holds_back now ≡ holds_back e → held_back (set xs s (Some now)) ≡ held_back xs

@@ -15,11 +15,12 @@ use Rattle.calls.specs.declared.reply.Refusal.TheVariants as refusal
 use Rattle.calls.specs.Words.{RowToWrite, FitsRow}
 use Rattle.calls.specs.Writes.{WriteStep, inserts, updates, deletes, step_of, key_of, Asks}
 use Rattle.calls.specs.Bars.{BarsOpen, BarsFree}
+use Rattle.refinement.specs.Allowed.{next}
 use Rattle.refinement.specs.Finds.{BeginsWrite}
 use Rattle.refinement.proofs.Hindrances as hindrances
 use Rattle.sessions.specs.declared.session.Session.{Session}
 use Rattle.session_steps.specs.State.{State, session_at, put_session, with_failed, refused_state, seen, reader_of, failed_session, engine_sessions}
-use Rattle.session_steps.specs.Agrees.{Agrees, Follows}
+use Rattle.session_steps.specs.Agrees.{Agrees, Follows, WrittenAgrees}
 use Rattle.session_steps.specs.Tests.{ReadsPlace, IsLateKey, IsHeld, RefusesInsertOfKey, RefusesChangeOfKey, MayWriteKey}
 use Rattle.session_steps.specs.Tests.{MayAct, BarsBegin}
 use Rattle.session_steps.specs.Exact.{ExactInsert, ExactUpdate, ExactDelete, Exact}
@@ -29,8 +30,9 @@ use Rattle.session_steps.proofs.InUse.{SameMarks, used-still, marks-put, agree}
 use Rattle.session_steps.proofs.OwnIdsLemmas.{open-within}
 use Rattle.session_steps.proofs.StateLemmas.{only-set}
 use Rattle.session_steps.proofs.Owns.{reader-is}
+use Rattle.session_steps.proofs.WrittenLemmas.{written-fails}
 use Rattle.session_steps.proofs.Searches.{late-to, not-late, held-to, begins-none, begins-some, target-of}
-use Rattle.session_steps.proofs.Follows.{Follows-same, stays-so, no_making, led-same, Sound-fails}
+use Rattle.session_steps.proofs.Follows.{Follows-same, stays-so, no_making, is_refused, led-same, Sound-fails}
 
 -- A later commit, or another session, has written the key.
 
@@ -42,10 +44,16 @@ marks-fail st s e at = subst (λ o. SameMarks st.sessions (put_session st s (opt
 pub fails-agree : (st : State) (w : World) (s : ℕ) (e : Session) → session_at st s ≡ Some e → Agrees st w → Agrees (with_failed st s) (change w s as_failed)
 fails-agree st w s e at agrees =
     let only = only-set st s (option_map failed_session (session_at st s)) (open-within st.sessions s e at) in
-    agree agrees (used-still st.heap.indexes) (marks-fail st s e at) (unmade refl refl)
+    agree agrees (used-still st.heap.indexes) (marks-fail st s e at) (unmade refl refl) (written-fails st w s e at agrees)
     (hindrances.Agrees-fails (seen st) w s (reader_of e) (seen (with_failed st s)).session
     (record { others = only.others; itself = only.itself ∙ ap (λ o. option_map reader_of (option_map failed_session o)) at }) (reader-is st s e at) agrees.found)
     (Sound-fails st s e at agrees.sound)
+
+-- so it does after a conflict
+conflict-next : (w : World) (s : ℕ) (write : WriteStep) → next w (step_of s write) (reply.Refused refusal.Conflict) ≡ change w s as_failed
+conflict-next w s (inserts row) = refl
+conflict-next w s (updates row) = refl
+conflict-next w s (deletes k) = refl
 
 conflicts : (st : State) (s : ℕ) (e : Session) (write : WriteStep) → session_at st s ≡ Some e → IsLateKey st e (key_of write)
     → ((w : World) → Agrees st w → (o : Option Row) × BeginsWrite (seen st) s (reader_of e) (key_of write) o × Asks write o)
@@ -56,8 +64,12 @@ conflicts st s e write at late begins w agrees =
     let only = only-set st s (option_map failed_session (session_at st s)) within in
     let f = hindrances.Follows-conflict (seen st) s (reader_of e) write b.0 (seen (put_session st s (option_map failed_session (session_at st s)))).session b.1 b.2
     (late-to st w e (key_of write) late.id agrees late.late)
-    (record { others = only.others; itself = only.itself ∙ ap (λ o. option_map reader_of (option_map failed_session o)) at }) w agrees.found in
-    (f.0, agree agrees (used-still st.heap.indexes) (marks-fail st s e at) (same_indexes w (step_of s write) (reply.Refused refusal.Conflict) (no_making s write) f.0) f.1 (Sound-fails st s e at agrees.sound), led-same st w agrees)
+    (record { others = only.others; itself = only.itself ∙ ap (λ o. option_map reader_of (option_map failed_session o)) at }) w agrees.found in (
+      f.0,
+      agree agrees (used-still st.heap.indexes) (marks-fail st s e at) (same_indexes w (step_of s write) (reply.Refused refusal.Conflict) (no_making s write) f.0)
+          (subst (WrittenAgrees (with_failed st s)) (sym (conflict-next w s write)) (written-fails st w s e at agrees)) f.1 (Sound-fails st s e at agrees.sound),
+      led-same st w agrees,
+    )
 
 busies : (st : State) (s o : ℕ) (e : Session) (write : WriteStep) → session_at st s ≡ Some e → IsHeld st e (key_of write) o
     → ((w : World) → Agrees st w → (found : Option Row) × BeginsWrite (seen st) s (reader_of e) (key_of write) found × Asks write found)
@@ -67,7 +79,7 @@ busies st s o e write at held begins w agrees =
     let f = held.other in
     let g = hindrances.Follows-busy (seen st) s o (reader_of e) (reader_of f) held.id write b.0 b.1 b.2 (not-late st w e (key_of write) agrees held.timely)
     (held-to st w e (key_of write) held.id agrees held.held) (reader-is st o f held.at) held.owns w agrees.found in
-    stays-so st w (step_of s write) (reply.Refused (refusal.Busy o)) (no_making s write) agrees g
+    stays-so st w (step_of s write) (reply.Refused (refusal.Busy o)) (is_refused s write (refusal.Busy o)) agrees g
 
 -- what an insert reads is none of the key, and what an update or a deletion reads is a row of it
 check_insert : (st : State) (s : ℕ) (e : Session) (text : RowToWrite) → FitsRow text → ReadsPlace st s e text.key None
@@ -99,7 +111,7 @@ Follows-hindered_insert st s row r h text fits same = insert-hindered st s text 
 change-hindered : (st : State) (s : ℕ) (write : WriteStep) (r : Refusal) → ((row : Row) → Asks write (Some row)) → hindrances.NeedsRow write → RefusesChangeOfKey st s (key_of write) r
     → Follows st (step_of s write) (reply.Refused r) (refused_state st s r)
 change-hindered st s write refusal.NotThere asks needs (e, reads) = λ w agrees.
-    Follows-same st (step_of s write) (reply.Refused refusal.NotThere) (no_making s write) (hindrances.Follows-not_there (seen st) s (reader_of e) write (begins-none st w s e (key_of write) agrees reads) needs) w agrees
+    Follows-same st (step_of s write) (reply.Refused refusal.NotThere) (is_refused s write refusal.NotThere) (hindrances.Follows-not_there (seen st) s (reader_of e) write (begins-none st w s e (key_of write) agrees reads) needs) w agrees
 change-hindered st s write refusal.Conflict asks needs d = conflicts st s d.1.session write d.1.reads.at d.1.delays (check_update st s d.1.session d.0 write asks d.1.reads)
 change-hindered st s write (refusal.Busy o) asks needs d = busies st s o d.1.session write d.1.reads.at d.1.delays (check_update st s d.1.session d.0 write asks d.1.reads)
 change-hindered st s write _ asks needs is = absurd is

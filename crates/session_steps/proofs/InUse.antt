@@ -25,7 +25,7 @@ use Rattle.table_scans.specs.declared.progress.Scan.TheVariants.{Index}
 use Rattle.sessions.specs.Places.{open_at}
 use Rattle.session_steps.specs.State.{State, seen, reader_of}
 use Rattle.sessions.specs.Session.{kept_by, is_too_new}
-use Rattle.session_steps.specs.Agrees.{Sound, Agrees, SessionScans}
+use Rattle.session_steps.specs.Agrees.{Sound, Agrees, SessionScans, WrittenAgrees}
 use Rattle.session_steps.proofs.OwnIdsLemmas.{open-within, open-set_cases}
 
 -- the primary index is
@@ -86,9 +86,9 @@ pub same-too_new : (e now : Session) → now.too_new ≡ e.too_new → (n : ℕ)
 same-too_new e now same n = ap (λ (marks : List Bool). slice_index_or (false ∷ marks) n false) same
 
 -- an engine with the same indexes in use and the same marks agrees with a world that has the same
-pub agree : {st st' : State} {w w' : World} → Agrees st w → ((n : ℕ) → IsInUse st.heap.indexes n ↔ IsInUse st'.heap.indexes n) → SameMarks st.sessions st'.sessions → KeepsScans w w'
+pub agree : {st st' : State} {w w' : World} → Agrees st w → ((n : ℕ) → IsInUse st.heap.indexes n ↔ IsInUse st'.heap.indexes n) → SameMarks st.sessions st'.sessions → KeepsScans w w' → WrittenAgrees st' w'
     → relation.HeapAgrees (seen st') w' → Sound st' → Agrees st' w'
-agree {st} {st'} {w} {w'} agrees same marks keeps found sound = record {
+agree {st} {st'} {w} {w'} agrees same marks keeps written found sound = record {
   found = found;
   indexes = λ n. (
     λ used. ap (λ (has : ℕ → Bool). has n) keeps.had ∙ (agrees.indexes n).0 ((same n).1 used),
@@ -98,6 +98,7 @@ agree {st} {st'} {w} {w'} agrees same marks keeps found sound = record {
       let was = marks s e at in
       let m = agrees.found.opened s (reader_of was.0) (ap (option_map reader_of) was.1) in
       keeps.scans s m.0 m.1 n ∙ (agrees.scans s was.0 was.1 n ∙ sym (same-too_new was.0 e was.2 n));
+  written = written;
   sound = sound;
 }
 

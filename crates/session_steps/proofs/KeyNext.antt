@@ -18,10 +18,12 @@ use Rattle.table_scans.specs.declared.progress.KeyRange.{KeyRange}
 use Rattle.table_scans.specs.Keys.{TakesKeys, TakesSomeKeys}
 use Rattle.sessions.specs.declared.session.Session.{Session}
 use Rattle.session_steps.specs.State.{State, session_at, put_session, map_session, with_cursor, seen, seen_position, position_of, reader_of}
+use Rattle.history.specs.Moves.{with_taken}
 use Rattle.session_steps.specs.Agrees.{Agrees, Follows, KeepsAllTargets, NotesHold}
 use Rattle.session_steps.specs.Takes.{session_sight, HandsOutByKeys}
 use Rattle.session_steps.proofs.InUse.{used-still, marks-put, agree}
 use Rattle.session_steps.proofs.Owns.{reader-is}
+use Rattle.session_steps.proofs.WrittenLemmas.{written-put}
 use Rattle.session_steps.proofs.Follows.{led-same}
 use Rattle.session_steps.proofs.AtCursor.{IsAtCursor}
 use Rattle.session_steps.proofs.CursorSteps.{moved, only-cursor, sound-cursor}
@@ -54,7 +56,8 @@ module _ (st st' : State) (s n : ℕ) (e : Session) (range left : KeyRange) (key
       (λ fewer row comes. none-left st e range left here (taken.takes.all (omega (arith, count, fewer))) row (within-comes st e range left row same comes)) w agrees.found in
       subst (λ st'. Allows w (step.Next s n) (reply.Keys keys) × Agrees st' (next w (step.Next s n) (reply.Keys keys)) × KeepsAllTargets st st') (sym (moved st st' s e (Keys left) at is)) (
         f.0,
-        agree agrees (used-still st.heap.indexes) (marks-put st.sessions s e (with_cursor (Some (Keys left)) e) at refl) (unmade refl refl) f.1
+        agree agrees (used-still st.heap.indexes) (marks-put st.sessions s e (with_cursor (Some (Keys left)) e) at refl) (unmade refl refl)
+            (written-put st w s e (with_cursor (Some (Keys left)) e) (with_taken keys.items) at agrees (λ m there. agrees.written s e m at there)) f.1
             (sound-cursor st st' s e (Keys left) at is (λ span along. absurd (cc)) agrees.sound),
         led-same st w agrees,
       )

@@ -16,11 +16,13 @@ use Rattle.table_scans.specs.declared.progress.CursorScan.TheVariants.{Keys}
 use Rattle.table_scans.specs.declared.progress.KeyRange.{KeyRange}
 use Rattle.sessions.specs.declared.session.Session.{Session}
 use Rattle.session_steps.specs.State.{State, session_at, put_session, isolation_seen, seen, position_of, reader_of, engine_sessions}
+use Rattle.history.specs.Moves.{with_keys_cursor}
 use Rattle.sessions.specs.Session.{keeping, IsByStatement}
 use Rattle.session_steps.specs.Agrees.{Agrees, Follows, KeepsAllTargets}
 use Rattle.session_steps.specs.Exact.{OpensCursor}
 use Rattle.session_steps.proofs.InUse.{used-still, marks-put, agree}
 use Rattle.session_steps.proofs.Owns.{reader-is, now_taken}
+use Rattle.session_steps.proofs.WrittenLemmas.{written-put}
 use Rattle.session_steps.proofs.Follows.{Follows-same, free_by, led-same}
 use Rattle.session_steps.proofs.CursorSteps.{seen-by_statement, with_both, put-both, only-both, opens-by, taken-alone, sound-both}
 
@@ -49,7 +51,8 @@ Follows-opened_keys st st' s e range at sound bare order none is w agrees =
     subst (λ st'. Allows w (step.OpenKeys s range.low range.high) reply.Done × Agrees st' (next w (step.OpenKeys s range.low range.high) reply.Done) × KeepsAllTargets st st')
     (sym (put-both st st' s e (Some (Keys range)) (Some (now_taken st)) at is)) (
       f.0,
-      agree agrees (used-still st.heap.indexes) (marks-put st.sessions s e (with_both (Some (Keys range)) (Some (now_taken st)) e) at refl) (unmade refl refl) f.1
+      agree agrees (used-still st.heap.indexes) (marks-put st.sessions s e (with_both (Some (Keys range)) (Some (now_taken st)) e) at refl) (unmade refl refl)
+          (written-put st w s e (with_both (Some (Keys range)) (Some (now_taken st)) e) (with_keys_cursor w.history range.low range.high) at agrees (λ m there. agrees.written s e m at there)) f.1
           (sound-both st w s e (Some (Keys range)) (Some (now_taken st)) at agrees (taken-alone st) (λ some. refl) (λ span here. absurd (cc))),
       led-same st w agrees,
     )

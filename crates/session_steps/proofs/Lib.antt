@@ -4,6 +4,7 @@ pub mod StateLemmas
 pub mod Marking
 pub mod Windows
 pub mod Owns
+pub mod WrittenLemmas
 pub mod Statements
 pub mod Scanning
 pub mod Horizons

@@ -1,5 +1,5 @@
 -- An index by a column is made, or it is refused: the engine follows the history.
-use Rattle.std.proofs.Common.{◌≡◌, ◌≢◌, ℕ, suc, List, map, Option, Some, None, Bool, true, false, refl, sym, ap, ◌∙◌, subst, ◌⊎◌, inl, inr, arith}
+use Rattle.std.proofs.Common.{◌≡◌, ◌≢◌, ℕ, suc, List, ◌∷◌, map, Option, Some, None, Bool, true, false, refl, sym, ap, ◌∙◌, subst, ◌⊎◌, inl, inr, arith}
 use Rattle.std.specs.Prelude.{◌↔◌, ◌==◌, IsSome, Contains, is_some, if◌then◌else◌}
 use Rattle.std.specs.Option.{option_map}
 use Rattle.std.proofs.lemmas.Bool.{cases_eq}
@@ -17,7 +17,7 @@ use Rattle.table_indexes.specs.Indexes.{index_at, entries_at, entries_of, since_
 use Rattle.heap_write.specs.Heap.{slots_of}
 use Rattle.table_integrity.specs.Making.{AllHaveEnded}
 use Rattle.table_integrity.proofs.Making.{made-sound, made-led, made-since}
-use Rattle.history.specs.World.{World, Isolation, by_snapshot, by_statement, IsSomeoneOpen, LacksIndex}
+use Rattle.history.specs.World.{World, Isolation, by_snapshot, by_statement, LacksIndex}
 use Rattle.history.specs.Moves.{is_repeatable_read, is_open_by_snapshot, with_made_index, with_index_on}
 use Rattle.history.proofs.HistoryLemmas.{at_same, at_other}
 use Rattle.calls.specs.declared.step.Step.TheVariants as step
@@ -37,10 +37,11 @@ use Rattle.session_steps.specs.State.{State, session_at, seen, seen_in, reader_o
 use Rattle.sessions.specs.Session.{kept_by, reads_by_snapshot, is_too_new, held_back}
 use Rattle.sessions.specs.Places.{open_at}
 use Rattle.sound_entries.specs.Since.{MayScanSince}
-use Rattle.session_steps.specs.Agrees.{Agrees, Sound, SessionKeeps, SessionScans, KeepsAllTargets}
-use Rattle.session_steps.specs.Making.{HasIndexOn, LacksIndexOn, SomeoneHasId, NobodyHasId, MakesIndexOn, HasOrMakes, RefusesIndexOn}
+use Rattle.session_steps.specs.Agrees.{Agrees, Sound, SessionKeeps, SessionScans, KeepsAllTargets, NameIds, WrittenAgrees}
+use Rattle.session_steps.specs.Making.{HasIndexOn, LacksIndexOn, NobodyHasId, MakesIndexOn, HasOrMakes, RefusesIndexOn}
 use Rattle.sessions.specs.Marks.{MarksSession}
 use Rattle.session_steps.proofs.Owns.{reader-at, reader-is}
+use Rattle.session_steps.proofs.WrittenLemmas.{someone-written, nobody-written}
 use Rattle.session_steps.proofs.Marking.{marked-at, place-reads, held-marked}
 use Rattle.session_steps.proofs.CursorSteps.{not-used, absent}
 use Rattle.session_steps.proofs.Follows.{led-same}
@@ -180,18 +181,18 @@ module _ (st st' : State) (w : World) (c : ℕ) (lacks : LacksIndexOn st c) (non
     )
   ]
 
-  none-owns : indexes.NoneOwns (seen st')
-  none-owns s r at =
-      let now = reader-at st' s r at in
-      let e = was s now.0 now.1 in
-      ap (λ (r : relation.SeenSession). r.own) (sym now.2) ∙ (ap (λ (f : Session). f.own.ids) e.2.is ∙ none s e.0 e.1)
+  -- and the sessions have their ids
+  written-made : WrittenAgrees st' (with_made_index w (suc c))
+  written-made s now m at there =
+      let e = was s now at in
+      subst (λ (f : Session). NameIds m.has_written (f.own.ids ∷ f.own.saved)) (sym e.2.is) (agrees.written s e.0 m e.1 there)
 
   pub follows-made : w.has_vacuum ≡ false → Allows w (step.CreateIndex c) reply.Done × Agrees st' (with_index_on w c) × KeepsAllTargets st st'
   follows-made idle =
-      let f = indexes.Follows-create_index (seen st') c lacks.0 w (λ absent_. (none-owns, idle)) found-made in
+      let f = indexes.Follows-create_index (seen st') c lacks.0 w (λ absent_. (nobody-written st w none agrees, idle)) found-made in
       let is : with_index_on w c ≡ with_made_index w (suc c) = ap (λ b. if b then w else with_made_index w (suc c)) lacks-index in (
         f.0,
-        subst (Agrees st') (sym is) (record { found = subst (theory.HeapAgrees (seen st')) is f.1; indexes = indexes-made; scans = marks-made; sound = sound-made }),
+        subst (Agrees st') (sym is) (record { found = subst (theory.HeapAgrees (seen st')) is f.1; indexes = indexes-made; scans = marks-made; written = written-made; sound = sound-made }),
         made-led st.heap st'.heap c agrees.sound.table makes.heap,
       )
 
@@ -219,12 +220,8 @@ lacks-in st w c lacks agrees = (lacks.0, absent (w.has_index (suc c)) (λ has. n
 pub allows-barred_making : (st : State) (w : World) (c : ℕ) → LacksIndexOn st c → w.has_vacuum ≡ true → Agrees st w → Allows w (step.CreateIndex c) (reply.Refused refusal.VacuumRunning)
 allows-barred_making st w c lacks runs agrees = (lacks-in st w c lacks agrees, runs)
 
--- who has an id is open
-someone-open : (st : State) (w : World) → SomeoneHasId st → Agrees st w → IsSomeoneOpen w
-someone-open st w someone agrees = let open_ = agrees.found.opened someone.number (reader_of someone.session) (reader-is st someone.number someone.session someone.at) in (someone.number, open_.0, open_.1)
-
 pub allows-refused_making : (st : State) (w : World) (c : ℕ) (r : Refusal) → RefusesIndexOn st c r → w.has_vacuum ≡ false → Agrees st w → Allows w (step.CreateIndex c) (reply.Refused r)
 allows-refused_making st w c refusal.NoSuchIndex over idle agrees = over
-allows-refused_making st w c refusal.IndexBusy refuses idle agrees = (lacks-in st w c refuses.0 agrees, idle, someone-open st w refuses.1 agrees)
-allows-refused_making st w c refusal.NoMemory refuses idle agrees = (lacks-in st w c refuses.0 agrees, idle)
+allows-refused_making st w c refusal.IndexBusy refuses idle agrees = (lacks-in st w c refuses.0 agrees, idle, someone-written st w refuses.1 agrees)
+allows-refused_making st w c refusal.NoMemory refuses idle agrees = (lacks-in st w c refuses.0 agrees, idle, nobody-written st w refuses.1 agrees)
 allows-refused_making st w c _ refuses idle agrees = absurd refuses

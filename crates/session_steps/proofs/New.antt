@@ -50,6 +50,7 @@ Agrees-new st pages index exact entries window max_pages stop_age idle = record 
   indexes = λ n. let used = new-in_use st.heap.indexes st.settings.indexed index n in let has = indexed-is st.settings.indexed n in
       (λ h. has.0 (used.0 h), λ h. used.1 (has.1 h));
   scans = λ s e at n. absurd (none-some e (sym (closed s) ∙ at));
+  written = λ s e m at. absurd (none-some e (sym (closed s) ∙ at));
   sound = record {
     count = ap length idle ∙ length-replicate {A = Option Session} 64 None;
     max_pages = max_pages;

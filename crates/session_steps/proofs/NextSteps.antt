@@ -32,12 +32,15 @@ use Rattle.table_scans.specs.declared.progress.CursorScan.TheVariants.{Rows, Key
 use Rattle.table_scans.specs.declared.progress.Scan.{Scan}
 use Rattle.table_scans.specs.declared.progress.Scan.TheVariants.{Index, Heap}
 use Rattle.session_steps.specs.State.{State, session_at, put_session, map_session, with_cursor, seen, seen_position, position_of, reader_of, engine_sessions}
+use Rattle.history.specs.Moves.{with_taken}
+use Rattle.history.specs.Cursors.{keys_of}
 use Rattle.sessions.specs.Session.{kept_by}
 use Rattle.session_steps.specs.Agrees.{Agrees, Follows, KeepsAllTargets, NotesHold}
 use Rattle.session_steps.specs.Takes.{session_sight, HandsOutBy}
 use Rattle.session_steps.specs.NextRows.{ExactNextRows}
 use Rattle.session_steps.proofs.InUse.{GoesAlong, used-still, marks-put, agree}
 use Rattle.session_steps.proofs.Owns.{reader-is}
+use Rattle.session_steps.proofs.WrittenLemmas.{written-put}
 use Rattle.session_steps.proofs.Follows.{Follows-same, bare_by, led-same}
 use Rattle.session_steps.proofs.CursorSteps.{moved, only-cursor, sound-cursor}
 use Rattle.session_steps.proofs.AtCursor.{IsAtCursor, NoneToCome, SomeToCome}
@@ -118,8 +121,12 @@ module _ (st st' : State) (s n : ℕ) (e : Session) (after : CursorScan) (rows :
       → ((w : World) → Agrees st w → finds.HeapFollows (seen st) (step.Next s n) (reply.Rows rows) (seen now)) → Follows st (step.Next s n) (reply.Rows rows) st'
   put-after along follows w agrees =
       let f = follows w agrees w agrees.found in
-      subst (λ st'. Allows w (step.Next s n) (reply.Rows rows) × Agrees st' (next w (step.Next s n) (reply.Rows rows)) × KeepsAllTargets st st') (sym (moved st st' s e after at is))
-      (f.0, agree agrees (used-still st.heap.indexes) (marks-put st.sessions s e (with_cursor (Some after) e) at refl) (unmade refl refl) f.1 (sound-cursor st st' s e after at is (along w agrees) agrees.sound), led-same st w agrees)
+      subst (λ st'. Allows w (step.Next s n) (reply.Rows rows) × Agrees st' (next w (step.Next s n) (reply.Rows rows)) × KeepsAllTargets st st') (sym (moved st st' s e after at is)) (
+        f.0,
+        agree agrees (used-still st.heap.indexes) (marks-put st.sessions s e (with_cursor (Some after) e) at refl) (unmade refl refl)
+            (written-put st w s e (with_cursor (Some after) e) (with_taken (keys_of rows.items)) at agrees (λ m there. agrees.written s e m at there)) f.1 (sound-cursor st st' s e after at is (along w agrees) agrees.sound),
+        led-same st w agrees,
+      )
 
   only-at : (position : Position) → position_of (Some after) ≡ Some position → OnlyIs (seen st).session (seen now).session s (Some (record (reader_of e) { cursor = Some position }))
   only-at position same = subst (λ p. OnlyIs (seen st).session (seen now).session s (Some (record (reader_of e) { cursor = p }))) same (only-cursor st st' s e after at is)

@@ -27,12 +27,14 @@ use Rattle.refinement.proofs.Runs.{unmade}
 use Rattle.sessions.specs.declared.session.Session.{Session}
 use Rattle.visibility.specs.Visible.{state_of}
 use Rattle.session_steps.specs.State.{State, session_at, put_session, seen, position_of, reader_of, engine_sessions}
-use Rattle.session_steps.specs.Agrees.{Agrees, Follows, KeepsAllTargets}
+use Rattle.history.specs.Moves.{change, with_savepoint, to_savepoint, without_savepoint}
+use Rattle.session_steps.specs.Agrees.{Agrees, Follows, KeepsAllTargets, NameIds, WrittenAgrees}
 use Rattle.session_steps.specs.Changes.{SetsSavepoint, Releases, RollsBack}
 use Rattle.session_steps.proofs.OwnIdsLemmas.{open-within}
 use Rattle.session_steps.proofs.StateLemmas.{only-set}
 use Rattle.session_steps.proofs.Windows.{Finishes-from, SameSight-finish}
 use Rattle.session_steps.proofs.Owns.{reader-is}
+use Rattle.session_steps.proofs.WrittenLemmas.{written-put}
 use Rattle.session_steps.proofs.Returning.{keeps-saved, keeps-released}
 use Rattle.session_steps.proofs.Ends.{rolls-back-sound}
 use Rattle.session_steps.proofs.InUse.{SameMarks, used-still, same-used, marks-put, scans-as, agree}
@@ -80,7 +82,8 @@ Follows-savepoint st st' s e at sound bare room now is sets w agrees =
     (reader-is st s e at) sound (ap position_of bare) room w agrees.found in
     subst (λ st'. Allows w (step.Savepoint s) reply.Done × Agrees st' (next w (step.Savepoint s) reply.Done) × KeepsAllTargets st st') (sym is) (
       f.0,
-      agree agrees (used-still st.heap.indexes) (marks-put st.sessions s e now at sets.too_new) (unmade refl refl) f.1
+      agree agrees (used-still st.heap.indexes) (marks-put st.sessions s e now at sets.too_new) (unmade refl refl)
+          (written-put st w s e now with_savepoint at agrees (λ m there. let name = agrees.written s e m at there in rw (sets.ids, sets.saved) (name.0, name))) f.1
           (Sound-put st s e now at (keeps-saved st.heap.statuses e now sets (agrees.sound.sessions s e at))
           (scans-as st.heap.statuses st.heap.indexes e now sets.isolation sets.cursor sets.too_new (agrees.sound.scans s e at)) agrees.sound),
       led-same st w agrees,
@@ -95,7 +98,9 @@ Follows-release st st' s e before saved at sound bare some now is releases w agr
     (reader-is st s e at) sound (ap position_of bare) some w agrees.found in
     subst (λ st'. Allows w (step.Release s) reply.Done × Agrees st' (next w (step.Release s) reply.Done) × KeepsAllTargets st st') (sym is) (
       f.0,
-      agree agrees (used-still st.heap.indexes) (marks-put st.sessions s e now at releases.too_new) (unmade refl refl) f.1
+      agree agrees (used-still st.heap.indexes) (marks-put st.sessions s e now at releases.too_new) (unmade refl refl)
+          (written-put st w s e now without_savepoint at agrees (λ m there.
+          let name = subst (λ saved. NameIds m.has_written (e.own.ids ∷ saved)) some (agrees.written s e m at there) in rw (releases.ids, rest) (name.0, name.1.1))) f.1
           (Sound-put st s e now at (keeps-released st.heap.statuses e now releases (agrees.sound.sessions s e at))
           (scans-as st.heap.statuses st.heap.indexes e now releases.isolation releases.cursor releases.too_new (agrees.sound.scans s e at)) agrees.sound),
       led-same st w agrees,
@@ -144,4 +149,8 @@ Follows-roll_back_to st st' s before saved back bare is w agrees =
     (reader-is st s back.session back.at) (ap position_of bare) is (λ w' found. finishes-since st st' s before saved back is w agrees) (same-sights st st' s before saved back is) w agrees.found in
     let sound' = rolls-back-sound st st' s before saved w back is agrees in
     let marks = subst (SameMarks st.sessions) (sym back.sessions) (marks-put st.sessions s back.session back.now back.at back.back.returns.too_new) in
-    (f.0, agree agrees (same-used st.heap.indexes st'.heap.indexes back.back.indexes) marks (unmade refl refl) (subst (λ pages. theory.HeapAgrees (with_pages st' pages) (next w (step.RollbackTo s) reply.Done)) (sym back.back.pages) f.1) sound'.0, sound'.1)
+    let ids : back.now.own.ids ≡ before = back.back.returns.ids ∙ ap newest is in
+    let kept : back.now.own.saved ≡ before ∷ saved = back.back.returns.saved ∙ is in
+    let written = subst (λ xs. WrittenAgrees (record st { sessions = xs }) (change w s to_savepoint)) (sym back.sessions) (written-put st w s back.session back.now to_savepoint back.at agrees (λ m there.
+    let name = subst (λ saved. NameIds m.has_written (back.session.own.ids ∷ saved)) is (agrees.written s back.session m back.at there) in rw (ids, kept) (name.1.0, name.1))) in
+    (f.0, agree agrees (same-used st.heap.indexes st'.heap.indexes back.back.indexes) marks (unmade refl refl) written (subst (λ pages. theory.HeapAgrees (with_pages st' pages) (next w (step.RollbackTo s) reply.Done)) (sym back.back.pages) f.1) sound'.0, sound'.1)

@@ -1,5 +1,5 @@
 -- A write follows the history: it is done, or it is refused for want of an id, of room or of memory.
-use Rattle.std.proofs.Common.{◌≡◌, ℕ, set, Some, None, false, refl, sym, ap, ◌∙◌, subst}
+use Rattle.std.proofs.Common.{◌≡◌, ℕ, set, Option, Some, None, false, refl, sym, ap, ◌∙◌, subst}
 use Rattle.std.specs.Prelude.{Result, Ok, Err}
 use Rattle.xid_circle.specs.declared.Tid.{Tid}
 use Rattle.tuple_header.specs.declared.version.Row.{Row}
@@ -20,7 +20,7 @@ use Rattle.table_integrity.proofs.Places.{readies-stand, root-new, root_version,
 use Rattle.table_integrity.proofs.Keeping.{kept-stays, readied-stays, ready-come, given-stays}
 use Rattle.table_integrity.proofs.InUse.{stays-then}
 use Rattle.table_integrity.proofs.Writing.{inserted-stays, updated-stays, deleted-stays}
-use Rattle.history.specs.World.{World}
+use Rattle.history.specs.World.{World, OpenSession}
 use Rattle.calls.specs.declared.step.Step.TheVariants as step
 use Rattle.calls.specs.declared.reply.Reply.TheVariants as reply
 use Rattle.calls.specs.declared.reply.Refusal.TheVariants as refusal
@@ -38,14 +38,16 @@ use Rattle.refinement.proofs.FollowsWrites.{insert_done, update_done, delete_don
 use Rattle.refinement.proofs.Runs.{KeepsScans, unmade}
 use Rattle.sessions.specs.declared.session.Session.{Session}
 use Rattle.visibility.specs.Visible.{state_of}
-use Rattle.session_steps.specs.State.{State, session_at, seen, seen_in, reader_of, isolation_seen, horizon_of}
-use Rattle.session_steps.specs.Agrees.{Agrees, Follows, KeepsAllTargets}
+use Rattle.session_steps.specs.State.{State, session_at, put_session, seen, seen_in, reader_of, isolation_seen, horizon_of}
+use Rattle.history.specs.Moves.{with_row, without_row}
+use Rattle.session_steps.specs.Agrees.{Agrees, Follows, KeepsAllTargets, WrittenAgrees}
 use Rattle.session_steps.specs.Tests.{MayWriteKey}
 use Rattle.session_steps.specs.Writes.{SameSession, TriesInsert, TriesUpdate, TriesDelete, reply_for}
 use Rattle.session_steps.specs.Exact.{InsertTried, UpdateTried, DeleteTried}
 use Rattle.session_steps.specs.Follows.{FollowsInsert, FollowsUpdate}
 use Rattle.session_steps.proofs.InUse.{marks-put, agree}
 use Rattle.session_steps.proofs.Owns.{reader-is}
+use Rattle.session_steps.proofs.WrittenLemmas.{written-put, written-by, written-kept}
 use Rattle.session_steps.proofs.Searches.{IsTarget, begins-none, begins-some, target-of, free-with}
 use Rattle.session_steps.proofs.Cleaned.{removes-past}
 use Rattle.session_steps.proofs.Giving.{with_write, with_own, found-kept, reader-taken, gives-each, same-sights, are-unseen, found-given, reader-now, current-now, Sound-kept, Sound-given}
@@ -69,10 +71,14 @@ now-active st w s e own x at agrees {v} takes window =
 -- All is as it was.
 
 module _ (st : State) (w : World) (s : ℕ) (e e' : Session) (at : session_at st s ≡ Some e) (agrees : Agrees st w) (same : SameSession e e') where
-  kept : (h : HeapView) (w' : World) → Keeps st.heap h → KeepsScans w w' → theory.HeapAgrees (seen st) w' → Agrees (with_write st h s e') w' × KeepsAllTargets st (with_write st h s e')
-  kept h w' keeps had found =
+  -- it has written as before
+  kept-written : (w' : World) → w'.session ≡ w.session → WrittenAgrees (put_session st s (Some e')) w'
+  kept-written w' still o f m bt there = written-kept st w s e e' at agrees same.own o f m bt (sym (ap (λ (open_ : ℕ → Option OpenSession). open_ o) still) ∙ there)
+
+  kept : (h : HeapView) (w' : World) → Keeps st.heap h → KeepsScans w w' → w'.session ≡ w.session → theory.HeapAgrees (seen st) w' → Agrees (with_write st h s e') w' × KeepsAllTargets st (with_write st h s e')
+  kept h w' keeps had still found =
       let stays = kept-stays st.heap h agrees.sound.table keeps in (
-        agree agrees stays.in_use (marks-put st.sessions s e e' at same.too_new) had
+        agree agrees stays.in_use (marks-put st.sessions s e e' at same.too_new) had (kept-written w' still)
             (subst (λ slots. theory.HeapAgrees (seen_in slots h.statuses (set st.sessions s (Some e'))) w') (sym (slots-kept st.heap h keeps))
             (found-kept (slots_of st.heap) st.heap.statuses h.statuses st.sessions s e e' w' at same keeps.statuses found))
             (Sound-kept st w h s e e' at agrees same keeps.statuses keeps.max_pages stays),
@@ -80,15 +86,15 @@ module _ (st : State) (w : World) (s : ℕ) (e e' : Session) (at : session_at st
       )
 
   -- or the page of the old version was pruned
-  readied : (ready h : HeapView) (place : Tid) (size : ℕ) (w' : World) → PrunesIfFull st.heap ready place (horizon_of st) size → Keeps ready h → KeepsScans w w' → theory.HeapAgrees (seen st) w'
+  readied : (ready h : HeapView) (place : Tid) (size : ℕ) (w' : World) → PrunesIfFull st.heap ready place (horizon_of st) size → Keeps ready h → KeepsScans w w' → w'.session ≡ w.session → theory.HeapAgrees (seen st) w'
       → Agrees (with_write st h s e') w' × KeepsAllTargets st (with_write st h s e')
-  readied ready h place size w' readies keeps had found =
+  readied ready h place size w' readies keeps had still found =
       let first = readied-stays st.heap ready place (horizon_of st) size agrees.sound.table readies in
       let second = kept-stays ready h first.sound keeps in
       let stays = stays-then st.heap ready h agrees.sound.table (ready-come st.heap ready place (horizon_of st) size readies) first second in
       let ids = same-then st.heap.statuses ready.statuses h.statuses (ready-ids readies) keeps.statuses in
       let pruned = (follows.Follows-prune (seen st) 0 (version_in (slots_of ready)) (removes-past st w (version_in (slots_of ready)) place.page agrees (readies-stand st.heap ready place (horizon_of st) size readies)) w' found).1 in (
-        agree agrees stays.in_use (marks-put st.sessions s e e' at same.too_new) had
+        agree agrees stays.in_use (marks-put st.sessions s e e' at same.too_new) had (kept-written w' still)
             (subst (λ slots. theory.HeapAgrees (seen_in slots h.statuses (set st.sessions s (Some e'))) w') (sym (slots-kept ready h keeps))
             (found-kept (slots_of ready) st.heap.statuses h.statuses st.sessions s e e' w' at same ids pruned))
             (Sound-kept st w h s e e' at agrees same ids (keeps.max_pages ∙ ready-limit readies) stays),
@@ -125,20 +131,24 @@ module _ (st : State) (w : World) (s : ℕ) (text : RowToWrite) (e : Session) (f
       let still = found-given st w h.statuses s e own x at i.takes_ids window agrees (slots_of st.heap) agrees.found in
       let done = insert_done (seen st) (seen_in (slots_of st.heap) h.statuses (set st.sessions s (Some e'))) w s (reader_of e) (reader_of e') text x (free_place st.heap i.number) new (version_in (slots_of h))
       free fits agrees.found still (reader-now st w h.statuses s e own x at i.takes_ids window agrees) (current-now st w h.statuses s e own x at i.takes_ids window agrees)
-      (adds-from (version_in (slots_of st.heap)) (version_in (slots_of h)) (free_place st.heap i.number) new (inserts-stand st.heap h e.own own row x i)) (is-new x row new (root-new st.heap false x row i.number)) refl in
-      (done.0, agree agrees stays.in_use (marks-put st.sessions s e e' at refl) (unmade refl refl) done.1 (Sound-given st w h s e e' at agrees own x i.takes_ids refl window i.max_pages stays), stays.led)
+      (adds-from (version_in (slots_of st.heap)) (version_in (slots_of h)) (free_place st.heap i.number) new (inserts-stand st.heap h e.own own row x i)) (is-new x row new (root-new st.heap false x row i.number)) refl in (
+        done.0,
+        agree agrees stays.in_use (marks-put st.sessions s e e' at refl) (unmade refl refl)
+            (written-put st w s e e' (with_row w.history row) at agrees (written-by st w h.statuses s e own x at i.takes_ids agrees)) done.1 (Sound-given st w h s e e' at agrees own x i.takes_ids refl window i.max_pages stays),
+        stays.led,
+      )
 
   insert-fails : (h : HeapView) (e' : Session) (f : WriteFault) → SameSession e e' → LacksForInsert st.heap e.own (row_of text) f → Keeps st.heap h
       → Allows w (step.Insert s text) (reply_for (Err f)) × Agrees (with_write st h s e') (next w (step.Insert s text) (reply_for (Err f))) × KeepsAllTargets st (with_write st h s e')
   insert-fails h e' fault.NeedsFreeze same unassigned_levels keeps =
       let f = hindrances.Follows-needs_freeze (seen st) s (reader_of e) (inserts text) None free (fits, refl) w agrees.found in
-      let k = kept st w s e e' at agrees same h (next w (step.Insert s text) (reply.Refused refusal.NeedsFreeze)) keeps (unmade refl refl) f.1 in (f.0, k.0, k.1)
+      let k = kept st w s e e' at agrees same h (next w (step.Insert s text) (reply.Refused refusal.NeedsFreeze)) keeps (unmade refl refl) refl f.1 in (f.0, k.0, k.1)
   insert-fails h e' fault.NoRoom same unassigned_levels keeps =
       let f = hindrances.Follows-no_room (seen st) s (reader_of e) (inserts text) None free (fits, refl) tt w agrees.found in
-      let k = kept st w s e e' at agrees same h (next w (step.Insert s text) (reply.Refused refusal.NoRoom)) keeps (unmade refl refl) f.1 in (f.0, k.0, k.1)
+      let k = kept st w s e e' at agrees same h (next w (step.Insert s text) (reply.Refused refusal.NoRoom)) keeps (unmade refl refl) refl f.1 in (f.0, k.0, k.1)
   insert-fails h e' fault.NoMemory same unassigned_levels keeps =
       let f = hindrances.Follows-no_memory (seen st) s (reader_of e) (inserts text) None free (fits, refl) w agrees.found in
-      let k = kept st w s e e' at agrees same h (next w (step.Insert s text) (reply.Refused refusal.NoMemory)) keeps (unmade refl refl) f.1 in (f.0, k.0, k.1)
+      let k = kept st w s e e' at agrees same h (next w (step.Insert s text) (reply.Refused refusal.NoMemory)) keeps (unmade refl refl) refl f.1 in (f.0, k.0, k.1)
 
   insert-tried : (h : HeapView) (e' : Session) (r : Result (Unit {0}) WriteFault) → TriesInsert st.heap h e e' (row_of text) r → IsWindow h.statuses
       → Allows w (step.Insert s text) (reply_for r) × Agrees (with_write st h s e') (next w (step.Insert s text) (reply_for r)) × KeepsAllTargets st (with_write st h s e')
@@ -187,20 +197,24 @@ module _ (st : State) (w : World) (s : ℕ) (text : RowToWrite) (e : Session) (p
       put.added (version_in (slots_of h)) free fits refl agrees.found still (reader-now st w h.statuses s e own x at u.takes_ids window agrees) (current-now st w h.statuses s e own x at u.takes_ids window agrees)
       (updates-ready st.heap h e.own own place row (horizon_of st) x t u target.there) (seen-now st w s text.key e place t target at agrees h.statuses own x u.takes_ids window) target.of_key
       (adds-from (version_in (slots_of u.ready)) put.added put.to put.new put.adds) (is-new x row put.new put.is_new) put.is_new.of_row
-      (alters-from put.added (version_in (slots_of h)) place t (taken_version t x put.to put.hot) put.alters) (is-deleted h.statuses x t put.to put.hot active) in
-      (done.0, agree agrees stays.in_use (marks-put st.sessions s e e' at refl) (unmade refl refl) done.1 (Sound-given st w h s e e' at agrees own x u.takes_ids refl window u.max_pages stays), stays.led)
+      (alters-from put.added (version_in (slots_of h)) place t (taken_version t x put.to put.hot) put.alters) (is-deleted h.statuses x t put.to put.hot active) in (
+        done.0,
+        agree agrees stays.in_use (marks-put st.sessions s e e' at refl) (unmade refl refl)
+            (written-put st w s e e' (with_row w.history row) at agrees (written-by st w h.statuses s e own x at u.takes_ids agrees)) done.1 (Sound-given st w h s e e' at agrees own x u.takes_ids refl window u.max_pages stays),
+        stays.led,
+      )
 
   update-fails : (h : HeapView) (e' : Session) (f : WriteFault) → SameSession e e' → FailsUpdate st.heap h e.own place (row_of text) (horizon_of st) f
       → Allows w (step.Update s text) (reply_for (Err f)) × Agrees (with_write st h s e') (next w (step.Update s text) (reply_for (Err f))) × KeepsAllTargets st (with_write st h s e')
   update-fails h e' fault.NeedsFreeze same fails =
       let f = hindrances.Follows-needs_freeze (seen st) s (reader_of e) (updates text) (Some t.row) free (fits, refl) w agrees.found in
-      let k = kept st w s e e' at agrees same h (next w (step.Update s text) (reply.Refused refusal.NeedsFreeze)) fails.1 (unmade refl refl) f.1 in (f.0, k.0, k.1)
+      let k = kept st w s e e' at agrees same h (next w (step.Update s text) (reply.Refused refusal.NeedsFreeze)) fails.1 (unmade refl refl) refl f.1 in (f.0, k.0, k.1)
   update-fails h e' fault.NoRoom same fails =
       let f = hindrances.Follows-no_room (seen st) s (reader_of e) (updates text) (Some t.row) free (fits, refl) tt w agrees.found in
-      let k = readied st w s e e' at agrees same fails.ready h place (rounded_size_of (row_of text)) (next w (step.Update s text) (reply.Refused refusal.NoRoom)) fails.readies fails.keeps (unmade refl refl) f.1 in (f.0, k.0, k.1)
+      let k = readied st w s e e' at agrees same fails.ready h place (rounded_size_of (row_of text)) (next w (step.Update s text) (reply.Refused refusal.NoRoom)) fails.readies fails.keeps (unmade refl refl) refl f.1 in (f.0, k.0, k.1)
   update-fails h e' fault.NoMemory same fails =
       let f = hindrances.Follows-no_memory (seen st) s (reader_of e) (updates text) (Some t.row) free (fits, refl) w agrees.found in
-      let k = kept st w s e e' at agrees same h (next w (step.Update s text) (reply.Refused refusal.NoMemory)) fails.2 (unmade refl refl) f.1 in (f.0, k.0, k.1)
+      let k = kept st w s e e' at agrees same h (next w (step.Update s text) (reply.Refused refusal.NoMemory)) fails.2 (unmade refl refl) refl f.1 in (f.0, k.0, k.1)
 
   update-tried : (h : HeapView) (e' : Session) (r : Result (Unit {0}) WriteFault) → TriesUpdate st.heap h e e' place (row_of text) (horizon_of st) r → IsWindow h.statuses
       → Allows w (step.Update s text) (reply_for r) × Agrees (with_write st h s e') (next w (step.Update s text) (reply_for r)) × KeepsAllTargets st (with_write st h s e')
@@ -235,18 +249,22 @@ module _ (st : State) (w : World) (s key : ℕ) (e : Session) (place : Tid) (t :
       let done = delete_done (seen st) (seen_in (slots_of st.heap) h.statuses (set st.sessions s (Some e'))) w s (reader_of e) (reader_of e') key (Some t.row) x place t (taken_version t x place false) (version_in (slots_of h))
       free refl agrees.found still (reader-now st w h.statuses s e own x at d.takes_ids window agrees) (current-now st w h.statuses s e own x at d.takes_ids window agrees)
       (seen-now st w s key e place t target at agrees h.statuses own x d.takes_ids window) target.of_key
-      (alters-from (version_in (slots_of st.heap)) (version_in (slots_of h)) place t (taken_version t x place false) alters) (is-deleted h.statuses x t place false active) in
-      (done.0, agree agrees stays.in_use (marks-put st.sessions s e e' at refl) (unmade refl refl) done.1 (Sound-given st w h s e e' at agrees own x d.takes_ids refl window d.max_pages stays), stays.led)
+      (alters-from (version_in (slots_of st.heap)) (version_in (slots_of h)) place t (taken_version t x place false) alters) (is-deleted h.statuses x t place false active) in (
+        done.0,
+        agree agrees stays.in_use (marks-put st.sessions s e e' at refl) (unmade refl refl)
+            (written-put st w s e e' (without_row w.history key) at agrees (written-by st w h.statuses s e own x at d.takes_ids agrees)) done.1 (Sound-given st w h s e e' at agrees own x d.takes_ids refl window d.max_pages stays),
+        stays.led,
+      )
 
   delete-fails : (h : HeapView) (e' : Session) (f : WriteFault) → SameSession e e' → FailsDelete st.heap h e.own f
       → Allows w (step.Delete s key) (reply_for (Err f)) × Agrees (with_write st h s e') (next w (step.Delete s key) (reply_for (Err f))) × KeepsAllTargets st (with_write st h s e')
   delete-fails h e' fault.NeedsFreeze same fails =
       let f = hindrances.Follows-needs_freeze (seen st) s (reader_of e) (deletes key) (Some t.row) free refl w agrees.found in
-      let k = kept st w s e e' at agrees same h (next w (step.Delete s key) (reply.Refused refusal.NeedsFreeze)) fails.1 (unmade refl refl) f.1 in (f.0, k.0, k.1)
+      let k = kept st w s e e' at agrees same h (next w (step.Delete s key) (reply.Refused refusal.NeedsFreeze)) fails.1 (unmade refl refl) refl f.1 in (f.0, k.0, k.1)
   delete-fails h e' fault.NoRoom same fails = absurd fails
   delete-fails h e' fault.NoMemory same fails =
       let f = hindrances.Follows-no_memory (seen st) s (reader_of e) (deletes key) (Some t.row) free refl w agrees.found in
-      let k = kept st w s e e' at agrees same h (next w (step.Delete s key) (reply.Refused refusal.NoMemory)) fails.2 (unmade refl refl) f.1 in (f.0, k.0, k.1)
+      let k = kept st w s e e' at agrees same h (next w (step.Delete s key) (reply.Refused refusal.NoMemory)) fails.2 (unmade refl refl) refl f.1 in (f.0, k.0, k.1)
 
   delete-tried : (h : HeapView) (e' : Session) (r : Result (Unit {0}) WriteFault) → TriesDelete st.heap h e e' place r → IsWindow h.statuses
       → Allows w (step.Delete s key) (reply_for r) × Agrees (with_write st h s e') (next w (step.Delete s key) (reply_for r)) × KeepsAllTargets st (with_write st h s e')

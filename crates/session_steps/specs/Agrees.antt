@@ -1,6 +1,6 @@
 -- When an engine agrees with a world of the history.
-use Rattle.std.specs.Prelude.{◌≡◌, ◌↔◌, ℕ, true, false, length, Some, IsSome, slice_get, Contains}
-use Rattle.history.specs.World.{World}
+use Rattle.std.specs.Prelude.{◌≡◌, ◌↔◌, ℕ, Bool, true, false, List, [], ◌∷◌, length, Some, IsSome, slice_get, Contains}
+use Rattle.history.specs.World.{World, OpenSession}
 use Rattle.snapshot.specs.Snap.{Snap}
 use Rattle.snapshot.specs.Laws.{IsInWindow}
 use Rattle.snapshot.specs.Own.{ArePrefixes, AreDistinct}
@@ -67,6 +67,20 @@ pub record Sound (st : State) : Type 0 where
   -- sound entries, on sound pages
   pub table : SoundTable st.heap
 
+-- the list names an id
+abbrev pub names_id : List ℕ → Bool
+names_id [] = false
+names_id (x ∷ ids) = true
+
+-- each of the lists does, or none, as is told
+abbrev pub NameIds : Bool → List (List ℕ) → Type 0
+NameIds told [] = Unit {0}
+NameIds told (ids ∷ more) = (names_id ids ≡ told) × NameIds told more
+
+-- an open session has an id exactly where it has written, and would have one after a return to any of its savepoints
+abbrev pub WrittenAgrees : State → World → Type 0
+WrittenAgrees st w = (s : ℕ) (e : Session) (m : OpenSession) → session_at st s ≡ Some e → w.session s ≡ Some m → NameIds m.has_written (e.own.ids ∷ e.own.saved)
+
 pub record Agrees (st : State) (w : World) : Type 0 where
   -- each session reads its view, a new one would read what is committed; same sessions; exact traces
   pub found : relation.HeapAgrees (seen st) w
@@ -74,6 +88,8 @@ pub record Agrees (st : State) (w : World) : Type 0 where
   pub indexes : (n : ℕ) → IsInUse st.heap.indexes n ↔ (w.has_index n ≡ true)
   -- and the same are too new for an open session
   pub scans : (s : ℕ) (e : Session) → session_at st s ≡ Some e → (n : ℕ) → w.too_new s n ≡ is_too_new e n
+  -- who has written has an id, and nobody else
+  pub written : WrittenAgrees st w
   pub sound : Sound st
 
 -- what an entry of any index leads to before and after is the same version, a redirect to a later one of its row, or dead
