@@ -34,7 +34,7 @@ use Rattle.session_core.proofs.WaitsAfter.{length-ended, length-freed, ended-ste
 -- the engine below agrees whoever waits for whom
 engine-waits : (e : EngineView) (w : World) (waits : ℕ → Option ℕ) → EngineAgrees e w → EngineAgrees e (record w { waits_for = waits })
 engine-waits e w waits agrees = record {
-  core = record { found = Agrees-waits (seen e.core) w waits agrees.core.found; indexes = agrees.core.indexes; scans = agrees.core.scans; sound = agrees.core.sound };
+  core = record { found = Agrees-waits (seen e.core) w waits agrees.core.found; indexes = agrees.core.indexes; scans = agrees.core.scans; written = agrees.core.written; sound = agrees.core.sound };
   runs = agrees.runs;
   maps = agrees.maps;
   vacuum = agrees.vacuum;

@@ -263,7 +263,7 @@ module _ (st : State) (u : Window) (xs : IndexesView) (w : World) (v : VacuumVie
   horizon-same = ap (λ n. earliest n (held_back st.sessions)) (sym (stays-next before u c is iv t up))
 
   pub forgotten-agrees : Agrees (with_heap st after) w
-  forgotten-agrees = agree agrees same-used (marks-stay st.sessions) (unmade refl refl) found (record {
+  forgotten-agrees = agree agrees same-used (marks-stay st.sessions) (unmade refl refl) agrees.written found (record {
     count = agrees.sound.count;
     max_pages = agrees.sound.max_pages;
     stop_age = t.stop_age ∙ agrees.sound.stop_age;
