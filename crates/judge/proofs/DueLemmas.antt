@@ -191,5 +191,6 @@ open_keys_refused_by w s low high low' high' r same same' is =
 
 pub never_made : (w : World) (c : ℕ) (r : Refusal) → RefusesMaking w c r → MayIndex w c → ⊥
 never_made w c refusal.NoSuchIndex is may = let lt : c < 4 = may.0 in omega arith
-never_made w c refusal.IndexBusy is may = may.1 is.0.1 is.1.0 is.1.1 is.1.2
+never_made w c refusal.IndexBusy is may =
+    let none : is.1.1.has_written ≡ false = may.1 is.0.1 is.1.0 is.1.1 is.1.2 in let never : false ≡ true = sym none ∙ is.1.3 in absurd (cc)
 never_made w c _ is may = is

@@ -18,14 +18,13 @@ use Rattle.calls.specs.declared.reply.Reply.TheVariants as reply
 use Rattle.calls.specs.declared.reply.Refusal.TheVariants as refusal
 use Rattle.refinement.specs.Allowed.{AllowsReply, IsRun, after}
 use Rattle.refinement.proofs.Runs.{leads}
-use Rattle.one_answer.specs.OneAnswer.{TellTheSame, HasHeapCursor, IsDue, IsLeftOpen}
+use Rattle.one_answer.specs.OneAnswer.{TellTheSame, IsDue, IsLeftOpen}
 use Rattle.one_answer.proofs.Ones.{reached_has_one}
 use Rattle.judge.specs.declared.due.Due.{Due}
 use Rattle.judge.specs.declared.due.Due.TheVariants.{Alone, Or, Open}
 use Rattle.judge.specs.declared.why.Rule.{Rule}
 use Rattle.judge.specs.declared.why.Rule.TheVariants as rule
 use Rattle.judge.specs.Rulings.{IsReached, IsFreelyRefused, IsFree}
-use Rattle.judge.specs.Handing.{MayHand}
 use Rattle.judge.specs.Reasons.{TellsDue, HandsDue, IsRuleOfView, IsRuleOfRead, GoesBy, Breaks, misses, unfounded, astray}
 use Rattle.judge.proofs.Allowing.{same_as_due, done_is_told, free_of, free_allowed}
 use Rattle.judge.proofs.Rows.{hands, rows_iff, keys_iff}
@@ -80,13 +79,9 @@ making_says w c has runs answer may has_is runs_is says = (
     not_true true isnt = absurd (isnt refl)
     not_true false isnt = refl
 
--- where it may not be done, the index is lacking
-pub lacking_of : (w : World) (c : ℕ) → c < 4 → ¬ AllowsReply w (step.CreateIndex c) reply.Done → LacksIndex w c
-lacking_of w c small isnt = (small, by (w.has_index (suc c)) refl)
-  where
-    by : (has : Bool) → w.has_index (suc c) ≡ has → w.has_index (suc c) ≡ false
-    by true is = absurd (isnt ((small, λ lacks. absurd (let never : true ≡ false = sym is ∙ lacks in cc)), λ lacks. absurd (let never : true ≡ false = sym is ∙ lacks in cc)))
-    by false is = is
+-- where it is there already, nothing is made
+pub made_before : (w : World) (c : ℕ) → c < 4 → ¬ LacksIndex w c → AllowsReply w (step.CreateIndex c) reply.Done
+made_before w c small isnt = ((small, λ lacks. absurd (isnt (small, lacks))), λ lacks. absurd (isnt (small, lacks)))
 
 -- a test that failed
 pub not_of : {P : Type 0} (b : Bool) → b ≡ false → (IsTrue b ↔ P) → ¬ P

@@ -1,11 +1,13 @@
 -- A run, one step further.
 use Rattle.std.proofs.Common.{◌≡◌, ℕ, ◌+◌, ◌<◌, List, [], ◌∷◌, ◌++◌, length, take, get_or, refl, sym, ap, ◌∙◌, subst}
 use Rattle.std.proofs.lemmas.List.{take_more}
+use Rattle.std.proofs.lemmas.Option.{slice_get_read}
 use Rattle.history.specs.World.{World}
 use Rattle.calls.specs.declared.step.Step.{Step}
 use Rattle.calls.specs.declared.reply.Reply.{Reply}
 use Rattle.refinement.specs.Allowed.{AllowsReply, after_reply, IsRun, after}
-use Rattle.judge.specs.Runs.{HasJudged}
+use Rattle.following.specs.Following.{TakesMemory}
+use Rattle.judge.specs.Runs.{HasJudged, StopsForMemory}
 
 run-push : (w : World) (steps : List Step) (replies : List Reply) (s : Step) (r : Reply) → IsRun w steps replies → AllowsReply (after w steps replies) s r → IsRun w (steps ++ s ∷ []) (replies ++ r ∷ [])
 run-push w [] [] s r run allows = (allows, tt)
@@ -46,3 +48,8 @@ pub judged-no_more : (w now : World) (steps : List Step) (replies : List Reply) 
 judged-no_more w now steps replies i s r within within' is is' so never longer =
     never (subst (λ v. AllowsReply v s r) (sym so.is) (run-last w (take i steps) (take i replies) s r so.run
     (subst (λ l. IsRun w (take i steps ++ s ∷ []) l) (taken replies i r within' is') (subst (λ l. IsRun w l (take (i + 1) replies)) (taken steps i s within is) longer))))
+
+pub judged-stops : (w now new : World) (steps : List Step) (replies : List Reply) (i : ℕ) (s : Step) (r : Reply) → i < length steps → i < length replies → s ≡ get_or steps i s → r ≡ get_or replies i r
+    → HasJudged w steps replies i now → new ≡ now → TakesMemory s r → StopsForMemory w steps replies new
+judged-stops w now new steps replies i s r within within' is is' so stays takes =
+    (i, s, r, subst (HasJudged w steps replies i) (sym stays) so, slice_get_read steps (length steps) i s refl within is, slice_get_read replies (length replies) i r refl within' is', takes)

@@ -1,9 +1,9 @@
 //! The answers to many steps.
 
-ghost use Rattle.std.specs.Prelude.{◌≡◌, ◌+◌, ◌<◌, IfOk, length, take};
+ghost use Rattle.std.specs.Prelude.{◌≡◌, ◌+◌, ◌<◌, IfOk, OnErr, length, take};
 ghost use Rattle.refinement.specs.Allowed.{IsRun};
 ghost use Rattle.plain_history.specs.Plain.{world_of};
-ghost use Rattle.judge.specs.Runs.{HasJudged};
+ghost use Rattle.judge.specs.Runs.{HasJudged, StopsForMemory};
 
 use crate::judge::{Judge, Ruling};
 use calls::{Reply, Step};
@@ -17,6 +17,8 @@ pub fn judge_all(judge: &mut Judge, steps: &[Step], replies: &[Reply]) -> Result
     ensures first { IfOk result
         (λ n. n < length steps.now
         → ¬ IsRun (world_of judge.old) (take (n + 1) steps.now) (take (n + 1) replies.now)) }
+    ensures lacks { OnErr result
+        (StopsForMemory (world_of judge.old) steps.now replies.now (world_of judge.new)) }
 {
     for i in 0..steps.len() {
         match judge.judge(&steps[i], &replies[i]) {

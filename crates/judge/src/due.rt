@@ -6,7 +6,7 @@ ghost use Rattle.plain_cursor.specs.Hands.{cursor_of};
 ghost use Rattle.plain_history.specs.Plain.{world_of};
 ghost use Rattle.judge.specs.Reasons.{HandsDue, TellsDue};
 
-use crate::expect::{Expected, expect_for, may_make};
+use crate::expect::{Expected, expect_for, of_making};
 use crate::handing::{is_over, next_of};
 use calls::{Piece, Refusal, Reply, Step};
 use following::NoMemory;
@@ -94,14 +94,9 @@ pub(crate) fn due_vacuum_step(plain: &PlainHistory) -> Due
 pub(crate) fn due_making(plain: &PlainHistory, column: u8) -> Due
     ensures { TellsDue (world_of plain.now) (Step.CreateIndex column) result }
 {
-    if column > 3 {
-        Due::Alone(Reply::Refused(Refusal::NoSuchIndex))
-    } else if may_make(plain, column) {
-        Due::Or(Reply::Done)
-    } else if plain.has_vacuum() {
-        Due::Alone(Reply::Refused(Refusal::VacuumRunning))
-    } else {
-        Due::Open
+    match of_making(plain, column) {
+        Expected::Due(due) => Due::Alone(due),
+        Expected::Free => Due::Or(Reply::Done),
     }
 }
 
@@ -149,14 +144,9 @@ fn answer_vacuum_step(plain: &PlainHistory) -> Reply
 fn answer_making(plain: &PlainHistory, column: u8) -> Reply
     ensures { AllowsReply (world_of plain.now) (Step.CreateIndex column) result }
 {
-    if column > 3 {
-        Reply::Refused(Refusal::NoSuchIndex)
-    } else if may_make(plain, column) {
-        Reply::Done
-    } else if plain.has_vacuum() {
-        Reply::Refused(Refusal::VacuumRunning)
-    } else {
-        no_memory()
+    match of_making(plain, column) {
+        Expected::Due(due) => due,
+        Expected::Free => Reply::Done,
     }
 }
 

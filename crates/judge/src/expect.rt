@@ -238,18 +238,6 @@ fn may_lack_memory(plain: &PlainHistory, s: u8, refusal: Refusal) -> bool
     matches!(refusal, Refusal::NoMemory) && plain.reads_by_statement(s)
 }
 
-// Is it left open where an index would be made?
-fn is_left_open_to_making(plain: &PlainHistory, column: u8, refusal: Refusal) -> bool
-    ensures { IsTrue result
-        ↔ IsLeftOpen (world_of plain.now) (Step.CreateIndex column) (Reply.Refused refusal) }
-{
-    match refusal {
-        Refusal::IndexBusy => plain.is_anyone_open(),
-        Refusal::NoMemory => true,
-        _ => false,
-    }
-}
-
 /// Is the refusal left open at the step?
 pub(crate) fn is_left_open(plain: &PlainHistory, step: &Step, refusal: Refusal) -> bool
     ensures { IsTrue result
@@ -272,11 +260,28 @@ pub(crate) fn is_left_open(plain: &PlainHistory, step: &Step, refusal: Refusal) 
         Step::TakePage(_, _) => matches!(refusal, Refusal::NoSuchPage | Refusal::NoMemory),
         Step::Prune(_) => matches!(refusal, Refusal::NoSuchPage),
         Step::ApplyPlan(_, _) => matches!(refusal, Refusal::NoSuchPage | Refusal::Stale),
-        Step::CreateIndex(column) => is_left_open_to_making(plain, *column, refusal),
+        Step::CreateIndex(_) => matches!(refusal, Refusal::NoMemory),
         Step::BeginReadCommitted(_) | Step::Commit(_) | Step::Abort(_) => false,
         Step::RollbackTo(_) | Step::Release(_) => false,
         Step::Get(_, _) | Step::Close(_) => false,
         Step::VacuumBegin(_) | Step::VacuumStep | Step::VacuumCancel => false,
+    }
+}
+
+/// What may be answered to the making of an index. Where it may be done NoMemory is left open, if the index is lacking.
+pub(crate) fn of_making(plain: &PlainHistory, column: u8) -> Expected
+    ensures { Expects (world_of plain.now) (Step.CreateIndex column) result }
+{
+    if column > 3 {
+        Expected::Due(Reply::Refused(Refusal::NoSuchIndex))
+    } else if !lacks_index(plain, column) {
+        Expected::Free
+    } else if plain.has_vacuum() {
+        Expected::Due(Reply::Refused(Refusal::VacuumRunning))
+    } else if plain.has_anyone_written() {
+        Expected::Due(Reply::Refused(Refusal::IndexBusy))
+    } else {
+        Expected::Free
     }
 }
 
@@ -288,13 +293,17 @@ pub(crate) fn may_answer_making(plain: &PlainHistory, column: u8, reply: &Reply)
         Reply::Done => may_make(plain, column),
         Reply::Refused(Refusal::NoSuchIndex) => column > 3,
         Reply::Refused(Refusal::VacuumRunning) => lacks_index(plain, column) && plain.has_vacuum(),
-        Reply::Refused(Refusal::IndexBusy) => may_lack(plain, column) && plain.is_anyone_open(),
-        Reply::Refused(Refusal::NoMemory) => may_lack(plain, column),
+        Reply::Refused(Refusal::IndexBusy) => {
+            may_lack(plain, column) && plain.has_anyone_written()
+        }
+        Reply::Refused(Refusal::NoMemory) => {
+            lacks_index(plain, column) && may_make(plain, column)
+        }
         _ => false,
     }
 }
 
-pub(crate) fn may_make(plain: &PlainHistory, column: u8) -> bool
+fn may_make(plain: &PlainHistory, column: u8) -> bool
     ensures { IsTrue result
         ↔ AllowsReply (world_of plain.now) (Step.CreateIndex column) Reply.Done }
 {

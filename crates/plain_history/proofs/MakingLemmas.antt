@@ -1,63 +1,20 @@
--- Who holds a key, and what the making of an index notes.
-use Rattle.std.proofs.Common.{◌≡◌, ℕ, suc, ◌+◌, ◌<◌, ◌≤◌, List, [], ◌∷◌, ◌++◌, length, set, get_or, Option, Some, None, Bool, true, false, cond, nat_eq, refl, sym, ap, ◌∙◌, subst, add-one, inl, inr, arith}
-use Rattle.std.specs.Prelude.{IsSome, IsTrue}
+-- What the making of an index notes.
+use Rattle.std.proofs.Common.{◌≡◌, ℕ, suc, ◌+◌, ◌<◌, ◌≤◌, List, [], ◌∷◌, length, set, get_or, Option, Bool, true, false, cond, nat_eq, refl, sym, ap, ◌∙◌, subst, add-one, inl, inr, arith}
 use Rattle.std.specs.Option.{option_map}
 use mathlib.Core.Path.{fun_ext}
 use Rattle.std.proofs.lemmas.Bool.{cases_eq, cases_lt}
-use Rattle.std.proofs.lemmas.List.{append-nil, get_or-set_same, get_or-set_other, get_or_default, get_or_past, length-set}
-use Rattle.std.proofs.lemmas.List.Elements.{Contains-push, Contains-append_left, Contains-append_right}
-use Rattle.history.specs.History.{Write, written}
-use Rattle.history.specs.World.{World, OpenSession, Holds, NoKeyIsHeld, joined, own_write, is_indexed}
+use Rattle.std.proofs.lemmas.List.{get_or-set_same, get_or-set_other, get_or_default, get_or_past, length-set}
+use Rattle.history.specs.World.{is_indexed}
 use Rattle.history.specs.Moves.{is_open_by_snapshot, with_made_index}
-use Rattle.history.proofs.HistoryLemmas.{at_same, at_other, among-written}
+use Rattle.history.proofs.HistoryLemmas.{at_same, at_other}
 use Rattle.plain_history.specs.declared.plain.PlainSession.{PlainSession}
 use Rattle.plain_history.proofs.Sessions.{less, session_in-read, session_in-past}
 use Rattle.plain_history.proofs.Worlds.{too_new_in-set}
-use Rattle.plain_history.specs.Plain.{Plain, open_of, has_written, holds_any_key, session_in, too_new_in, world_of}
-
--- a level that has a write has one of a key
-pub written_key : (levels : List (List Write)) → has_written levels ≡ true → (key : ℕ) × IsSome (written (joined levels) key)
-written_key [] is = absurd (cc)
-written_key ([] ∷ older) is = let more = written_key older is in (more.0, subst (λ ws. IsSome (written ws more.0)) (sym (append-nil (joined older))) more.1)
-written_key ((write ∷ later) ∷ older) is = (
-  write.key,
-  among-written (joined older ++ write ∷ later) write (Contains-append_right (joined older) (write ∷ later) write (Contains-append_left (write ∷ []) later write (Contains-push [] write))),
-)
-
-pub nothing_written : (levels : List (List Write)) → has_written levels ≡ false → joined levels ≡ []
-nothing_written [] is = refl
-nothing_written ([] ∷ older) is = append-nil (joined older) ∙ nothing_written older is
-nothing_written ((write ∷ later) ∷ older) is = absurd (cc)
-
--- who has written holds a key, and the other way round
-pub wrote_key : (session : Option OpenSession) → holds_any_key session ≡ true → (key : ℕ) × (m : OpenSession) × (session ≡ Some m) × IsSome (own_write m key)
-wrote_key None is = absurd (cc)
-wrote_key (Some m) is = let some = written_key m.levels is in (some.0, m, refl, some.1)
-
-pub key_wrote : (session : Option OpenSession) (m : OpenSession) (key : ℕ) → session ≡ Some m → IsSome (own_write m key) → holds_any_key session ≡ true
-key_wrote session m key at some = by (has_written m.levels) refl
-  where
-    by : (b : Bool) → has_written m.levels ≡ b → holds_any_key session ≡ true
-    by true is = ap holds_any_key at ∙ is
-    by false is = absurd (let none : IsSome (written [] key) = subst (λ ws. IsSome (written ws key)) (nothing_written m.levels is) some in cc)
+use Rattle.plain_history.specs.Plain.{Plain, open_of, session_in, too_new_in, world_of}
 
 -- whether the column's index is there
 pub is_there : (columns : List Bool) (c : ℕ) (there : Bool) → there ≡ is_indexed columns (c + 1) → there ≡ is_indexed columns (suc c)
 is_there columns c there is = is ∙ ap (is_indexed columns) (add-one c)
-
--- an open session holds a key
-pub some_held : (w : World) (sessions : List (Option PlainSession)) (answer : Bool) → session_in sessions ≡ w.session → (IsTrue answer → (s : ℕ) × (holds_any_key (session_in sessions s) ≡ true))
-    → answer ≡ true → (s : ℕ) × (key : ℕ) × Holds w s key
-some_held w sessions answer same says is =
-    let found = says is in let wrote = wrote_key (w.session found.0) (subst (λ (f : ℕ → Option OpenSession). holds_any_key (f found.0) ≡ true) same found.1) in
-    (found.0, wrote.0, (wrote.1, wrote.2, wrote.3))
-
--- and none does
-pub none_held : (w : World) (sessions : List (Option PlainSession)) (answer : Bool) → session_in sessions ≡ w.session → ((s : ℕ) × (holds_any_key (session_in sessions s) ≡ true) → IsTrue answer)
-    → answer ≡ false → NoKeyIsHeld w
-none_held w sessions answer same says isnt s key (m, at, some) =
-    let held : holds_any_key (session_in sessions s) ≡ true = subst (λ (f : ℕ → Option OpenSession). holds_any_key (f s) ≡ true) (sym same) (key_wrote (w.session s) m key at some) in
-    let is : answer ≡ true = says (s, held) in absurd (let never : false ≡ true = sym isnt ∙ is in cc)
 
 -- one column more is indexed
 pub indexed-set : (columns : List Bool) (c i : ℕ) → c < length columns → is_indexed (set columns c true) i ≡ cond (nat_eq i (c + 1)) true (is_indexed columns i)

@@ -6,8 +6,8 @@ use Rattle.std.proofs.lemmas.Bool.{cases_eq, cases_lt}
 use Rattle.std.proofs.lemmas.Option.{slice_get_read, slice_get_past, same_Some, none-some}
 use Rattle.plain_history.specs.declared.plain.PlainSession.{PlainSession}
 use Rattle.tuple_header.specs.declared.version.Row.{Row}
-use Rattle.history.specs.World.{World, OpenSession, own_write, by_statement, IsSomeoneOpen}
-use Rattle.plain_history.specs.Plain.{open_of, session_in}
+use Rattle.history.specs.World.{World, OpenSession, own_write, by_statement, SomeoneHasWritten, NobodyHasWritten}
+use Rattle.plain_history.specs.Plain.{open_of, has_session_written, session_in}
 
 pub session_in-read : (sessions : List (Option PlainSession)) (o : ℕ) (x : Option PlainSession) → o < length sessions → x ≡ get_or sessions o x
     → session_in sessions o ≡ option_map open_of x
@@ -74,17 +74,22 @@ by_statement_says o m answer at says = (
 pub nobody_says : (o : Option OpenSession) → o ≡ None → IsTrue false ↔ ((n : OpenSession) × (o ≡ Some n) × (n.isolation ≡ by_statement))
 nobody_says o idle = (λ yes. absurd (cc), λ (n, at, by). absurd (none-some n (sym idle ∙ at)))
 
--- somebody is open
-some_open : (o : Option OpenSession) → is_some o ≡ true → (m : OpenSession) × (o ≡ Some m)
-some_open None is = absurd (cc)
-some_open (Some m) is = (m, refl)
+-- an open session has written
+some_wrote : (o : Option OpenSession) → has_session_written o ≡ true → (m : OpenSession) × (o ≡ Some m) × (m.has_written ≡ true)
+some_wrote None is = absurd (cc)
+some_wrote (Some m) is = (m, refl, is)
 
-open_some : (o : Option OpenSession) (m : OpenSession) → o ≡ Some m → is_some o ≡ true
-open_some o m at = ap is_some at
-
-pub someone_says : (w : World) (sessions : List (Option PlainSession)) (answer : Bool) → session_in sessions ≡ w.session → (IsTrue answer ↔ ((s : ℕ) × (is_some (session_in sessions s) ≡ true)))
-    → IsTrue answer ↔ IsSomeoneOpen w
+pub someone_says : (w : World) (sessions : List (Option PlainSession)) (answer : Bool) → session_in sessions ≡ w.session → (IsTrue answer ↔ ((s : ℕ) × (has_session_written (session_in sessions s) ≡ true)))
+    → IsTrue answer ↔ SomeoneHasWritten w
 someone_says w sessions answer same says = (
-  λ yes. (let found = says.0 yes in let open_ = some_open (w.session found.0) (subst (λ (f : ℕ → Option OpenSession). is_some (f found.0) ≡ true) same found.1) in (found.0, open_.0, open_.1)),
-  λ (s, m, at). says.1 (s, subst (λ (f : ℕ → Option OpenSession). is_some (f s) ≡ true) (sym same) (open_some (w.session s) m at)),
+  λ yes. (let found = says.0 yes in let wrote = some_wrote (w.session found.0) (subst (λ (f : ℕ → Option OpenSession). has_session_written (f found.0) ≡ true) same found.1) in (found.0, wrote.0, wrote.1, wrote.2)),
+  λ (s, m, at, wrote). says.1 (s, subst (λ (f : ℕ → Option OpenSession). has_session_written (f s) ≡ true) (sym same) (ap has_session_written at ∙ wrote)),
 )
+
+-- and none has
+pub nobody_wrote : (w : World) (answer : Bool) → (SomeoneHasWritten w → IsTrue answer) → answer ≡ false → NobodyHasWritten w
+nobody_wrote w answer says isnt s m at = by m.has_written refl
+  where
+    by : (b : Bool) → m.has_written ≡ b → m.has_written ≡ false
+    by true wrote = absurd (let is : answer ≡ true = says (s, m, at, wrote) in let never : false ≡ true = sym isnt ∙ is in cc)
+    by false none = none

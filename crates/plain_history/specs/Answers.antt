@@ -10,7 +10,7 @@ use Rattle.calls.specs.declared.reply.Refusal.TheVariants as refusal
 use Rattle.calls.specs.Bars.{BarsOpen, BarsFree}
 use Rattle.calls.specs.declared.step.TheConstants.{MOST_SESSIONS}
 use Rattle.history.specs.History.{Transaction, IsLate}
-use Rattle.history.specs.World.{World, world_sessions, OpenSession, start_now, view, Holds, LacksIndex, ClosesRing, MayScan, IsReady, IsWriter, MayWrite, IsBlocked}
+use Rattle.history.specs.World.{World, world_sessions, OpenSession, start_now, view, SomeoneHasWritten, LacksIndex, ClosesRing, MayScan, IsReady, IsWriter, MayWrite, IsBlocked}
 use Rattle.history.specs.Moves.{stepped, change, as_failed, blocked_by, opened, transaction_of}
 use Rattle.plain_cursor.specs.declared.order.PlainOrder.{PlainOrder}
 use Rattle.plain_cursor.specs.declared.order.Bounds.{Bounds}
@@ -88,10 +88,10 @@ RefusesIndex w s index low high refusal.IndexTooNew = (m : OpenSession) × IsWri
 RefusesIndex w s index low high refusal.BadBounds = (m : OpenSession) × IsWriter w s m × MayScan w s index × (high <ℤ low)
 RefusesIndex w s index low high why = BarsFree (world_sessions w) s why
 
--- why no index of the column is made: there is no such column, or an open session holds a key
+-- why no index of the column is made: there is no such column, or an open session has written
 abbrev pub RefusesMaking : World → (column : ℕ) → Refusal → Type 0
 RefusesMaking w c refusal.NoSuchIndex = 4 ≤ c
-RefusesMaking w c refusal.IndexBusy = LacksIndex w c × ((s : ℕ) × (key : ℕ) × Holds w s key)
+RefusesMaking w c refusal.IndexBusy = LacksIndex w c × SomeoneHasWritten w
 RefusesMaking w c why = ⊥
 
 abbrev pub RefusesBegin : World → ℕ → Refusal → Type 0

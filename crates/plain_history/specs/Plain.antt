@@ -1,5 +1,5 @@
 -- The world that the plain program's lists stand for.
-use Rattle.std.specs.Prelude.{ℕ, Bool, true, false, List, [], ◌∷◌, Option, Some, None, IfSome, ◌≡◌, slice_get, slice_index_or}
+use Rattle.std.specs.Prelude.{ℕ, Bool, false, List, [], ◌∷◌, Option, Some, None, IfSome, ◌≡◌, slice_get, slice_index_or}
 use Rattle.std.specs.Option.{option_map, option_flatten}
 use Rattle.tuple_header.specs.declared.version.Row.{Row}
 use Rattle.plain_cursor.specs.Hands.{cursor_of}
@@ -7,7 +7,7 @@ use Rattle.plain_history.specs.declared.plain.PlainSession.{PlainSession}
 use Rattle.plain_history.specs.declared.plain.PlainIsolation.{PlainIsolation}
 use Rattle.plain_history.specs.declared.plain.PlainIsolation.TheVariants.{BySnapshot, ByStatement}
 use Rattle.waits.specs.View.{wait_in}
-use Rattle.history.specs.History.{Write, Transaction}
+use Rattle.history.specs.History.{Transaction}
 use Rattle.history.specs.World.{World, is_indexed, Isolation, by_snapshot, by_statement, OpenSession}
 
 pub record Plain : Type 0 where
@@ -41,21 +41,16 @@ open_of m = record {
   levels = m.newest ∷ m.older.items;
   failed = m.failed;
   cursor = option_map cursor_of m.cursor;
+  has_written = m.has_written;
 }
 
 abbrev pub session_in : List (Option PlainSession) → ℕ → Option OpenSession
 session_in sessions s = option_map open_of (option_flatten (slice_get sessions s))
 
--- a level has a write
-abbrev pub has_written : List (List Write) → Bool
-has_written [] = false
-has_written ([] ∷ older) = has_written older
-has_written ((write ∷ later) ∷ older) = true
-
--- the session is open, and one of its levels has
-abbrev pub holds_any_key : Option OpenSession → Bool
-holds_any_key None = false
-holds_any_key (Some m) = has_written m.levels
+-- the session is open, and has written
+abbrev pub has_session_written : Option OpenSession → Bool
+has_session_written None = false
+has_session_written (Some m) = m.has_written
 
 abbrev pub too_new_in : List (List Bool) → (session index : ℕ) → Bool
 too_new_in marks s index = slice_index_or (slice_index_or marks s []) index false

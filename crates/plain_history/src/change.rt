@@ -34,6 +34,7 @@ fn write(
     if let Some(session) = session {
         let start = session.start_now(history);
         session.newest.push(PlainWrite { start, key, row })?;
+        session.has_written = true;
     }
     Ok(())
 }

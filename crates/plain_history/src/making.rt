@@ -1,68 +1,32 @@
 //! An index is made in use, and a vacuum begins and ends.
 
-ghost use Rattle.std.specs.Prelude.{◌≡◌, ◌<◌, ◌+◌, ℕ, ◌↔◌, ◌==◌, IsTrue, is_some, if◌then◌else◌, length, get_or, false, true, OnOk, IfErr};
+ghost use Rattle.std.specs.Prelude.{◌≡◌, ◌<◌, ◌+◌, ℕ, ◌↔◌, ◌==◌, IsTrue, if◌then◌else◌, length, get_or, false, true, OnOk, IfErr};
 ghost use Rattle.std.specs.Option.{option_map};
-ghost use Rattle.history.specs.World.{IsSomeoneOpen, MayIndex};
+ghost use Rattle.history.specs.World.{SomeoneHasWritten, MayIndex};
 ghost use Rattle.history.specs.Moves.{is_open_by_snapshot, with_index_on, with_made_index, with_vacuum};
-ghost use Rattle.plain_history.specs.Plain.{has_written, holds_any_key, open_of, session_in, too_new_in, world_of};
+ghost use Rattle.plain_history.specs.Plain.{has_session_written, open_of, session_in, too_new_in, world_of};
 ghost use Rattle.plain_history.specs.Answers.{RefusesMaking};
 
-use crate::plain::{PlainHistory, PlainIsolation, PlainLevel, PlainSession};
+use crate::plain::{PlainHistory, PlainIsolation, PlainSession};
 use calls::Refusal;
 
-fn have_written(levels: &[PlainLevel]) -> bool
-    ensures { result ≡ has_written levels.now }
-{
-    for level in levels {
-        if !level.writes.is_empty() {
-            return true;
-        }
-    }
-    false
-}
-
-/// Is the session open, with a write in its levels?
-fn holds_any_key(session: &Option<PlainSession>) -> bool
-    ensures { result ≡ holds_any_key (option_map open_of session.now) }
+/// Is the session open, and has it written?
+fn has_session_written(session: &Option<PlainSession>) -> bool
+    ensures { result ≡ has_session_written (option_map open_of session.now) }
 {
     match session {
-        Some(session) => {
-            if session.newest.writes.is_empty() {
-                have_written(&session.older)
-            } else {
-                true
-            }
-        }
+        Some(session) => session.has_written,
         None => false,
     }
 }
 
-/// Has an open session a write in its levels?
-fn is_any_held(sessions: &[Option<PlainSession>]) -> bool
-    ensures { IsTrue result ↔ ((s : ℕ) × (holds_any_key (session_in sessions.now s) ≡ true)) }
+/// Has an open session written?
+fn has_any_written(sessions: &[Option<PlainSession>]) -> bool
+    ensures { IsTrue result
+        ↔ ((s : ℕ) × (has_session_written (session_in sessions.now s) ≡ true)) }
 {
     for s in 0..sessions.len() {
-        if holds_any_key(&sessions[s]) {
-            return true;
-        }
-    }
-    false
-}
-
-fn is_open(session: &Option<PlainSession>) -> bool
-    ensures { result ≡ is_some (option_map open_of session.now) }
-{
-    match session {
-        Some(_) => true,
-        None => false,
-    }
-}
-
-fn is_any_open(sessions: &[Option<PlainSession>]) -> bool
-    ensures { IsTrue result ↔ ((s : ℕ) × (is_some (session_in sessions.now s) ≡ true)) }
-{
-    for s in 0..sessions.len() {
-        if is_open(&sessions[s]) {
+        if has_session_written(&sessions[s]) {
             return true;
         }
     }
@@ -131,18 +95,18 @@ impl PlainHistory {
     {
         if column > 3 {
             Err(Refusal::NoSuchIndex)
-        } else if !self.has_index(column + 1) && is_any_held(&self.sessions) {
+        } else if !self.has_index(column + 1) && has_any_written(&self.sessions) {
             Err(Refusal::IndexBusy)
         } else {
             Ok(())
         }
     }
 
-    /// Whether somebody is open.
-    pub fn is_anyone_open(&self) -> bool
-        ensures { IsTrue result ↔ IsSomeoneOpen (world_of self.now) }
+    /// Whether an open session has written, be it that all of it was rolled back since.
+    pub fn has_anyone_written(&self) -> bool
+        ensures { IsTrue result ↔ SomeoneHasWritten (world_of self.now) }
     {
-        is_any_open(&self.sessions)
+        has_any_written(&self.sessions)
     }
 
     /// Whether a vacuum runs.

@@ -62,6 +62,7 @@ pub struct PlainSession {
     pub(crate) older: Vec<PlainLevel>,
     pub(crate) failed: bool,
     pub(crate) cursor: Option<PlainCursor>,
+    pub(crate) has_written: bool,
 }
 
 /// The history and the sessions, as lists. It is slow on purpose: each answer is looked up in the whole history.

@@ -64,6 +64,7 @@ impl PlainHistory {
             older: Vec::new(self.alloc),
             failed: false,
             cursor: None,
+            has_written: false,
         };
         self.put(s, Some(session));
         self.may_scan_all(s);

@@ -39,7 +39,6 @@ fn is_of_the_engine(refusal: Refusal) -> bool
             | Refusal::NoMemory
             | Refusal::NoSuchPage
             | Refusal::Stale
-            | Refusal::IndexBusy
     )
 }
 

@@ -91,11 +91,6 @@ impl Levels {
             .count()
     }
 
-    /// Whether the session has an id, be it that of a level that was rolled back.
-    pub(crate) fn has_id(&self) -> bool {
-        self.first.is_some()
-    }
-
     /// How many ids the session has below its first.
     pub(crate) fn children(&self) -> u32 {
         let mut all: u32 = 0;

@@ -374,16 +374,6 @@ impl Pair {
         }
     }
 
-    // Whether an open session has an id.
-    fn has_writer(&self) -> bool {
-        for levels in &self.levels {
-            if levels.has_id() {
-                return true;
-            }
-        }
-        false
-    }
-
     // What hinders the step where the history lets it pass, and where the engine has replied this.
     fn hindrance(&self, step: &Step, before: Before, reply: &Reply) -> Option<Refusal> {
         if let Some(_) = writer_of(step) {
@@ -394,9 +384,6 @@ impl Pair {
                 Some(Refusal::NoSuchPage)
             }
             Step::ApplyPlan(_, _) => hindrance_of_plan(reply),
-            Step::CreateIndex(_) if before.lacks_index && self.has_writer() => {
-                Some(Refusal::IndexBusy)
-            }
             _ => None,
         }
     }

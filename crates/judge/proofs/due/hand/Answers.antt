@@ -1,4 +1,4 @@
-use Rattle.std.proofs.Common.{sym, ◌∙◌, ap, List}
+use Rattle.std.proofs.Common.{sym, ◌∙◌, ap}
 use Rattle.history.specs.Cursors.{keys_of}
 use Rattle.judge.proofs.Reasoning.{not_of, rows_due, keys_due}
 use Rattle.judge.proofs.due.hand.Goals as goal
