@@ -240,5 +240,5 @@ def exchanges_of(text: str) -> List[Exchange]:
 
 
 def left_open(text: str) -> int:
-    """How many refusals of a transcript that is allowed are for memory, ids, room, pages and plans, or for who has an id."""
-    return sum(re.match(r"error (14|15|16|19|21|25) ", said.answer[0]) is not None for said in exchanges_of(text) if not said.asked.startswith("page"))
+    """How many refusals of a transcript that is allowed are for memory, ids, room, pages and plans."""
+    return sum(re.match(r"error (14|15|16|19|21) ", said.answer[0]) is not None for said in exchanges_of(text) if not said.asked.startswith("page"))
