@@ -17,7 +17,8 @@ static REST: &str =
 fn said(alloc: Global, until: Until) -> Option<Vec<u8>> {
     let mut reader = TEXT.as_bytes();
     let mut out = Vec::new(alloc);
-    match judge_transcript(alloc, Begins::AsWritten, until, &mut reader, &mut out) {
+    let (judged, _) = judge_transcript(alloc, Begins::AsWritten, until, &mut reader, &mut out);
+    match judged {
         Ok(false) => Some(out),
         _ => None,
     }

@@ -4,3 +4,4 @@ pub mod TellingLemmas
 pub mod RulingLemmas
 pub mod ExchangeLemmas
 pub mod TextLemmas
+pub mod FailureLemmas

@@ -1,6 +1,5 @@
 -- A transcript from its first line to its end.
 use Rattle.std.proofs.Common.{◌≡◌, ℕ, ◌+◌, ◌≤◌, List, [], ◌∷◌, ◌++◌, length, take, drop, refl, ap, append_assoc, length-append, ◌∙◌, sym, subst, arith, Option, None, Some, true, false, Bool, ◌⊎◌, inr, Result, Ok, Err, IfSome}
-use Rattle.std.specs.Io.KnownBytes.{Keeps}
 use Rattle.std.proofs.lemmas.Option.{none-some, same_Some}
 use Rattle.std.proofs.lemmas.List.{append-nil, take-append-drop}
 use Rattle.std.proofs.Math.Seq.{take-append_seam}
@@ -106,8 +105,8 @@ judges_first begins s w text from (Err (BadLine n)) old out h are fits e first n
       whole_is s text from h.at h.xs h.text_is first,
       subst (λ (x : List ℕ). IsBadExchange n (line_ends x) (drop h.at text)) front ends,
     )
-judges_first begins s w text from (Err Input) old out h are fits e first none = tt
-judges_first begins s w text from (Err Output) old out h are fits e first none = tt
+judges_first begins s w text from (Err Input) old out h are fits e first none = absurd h.ends
+judges_first begins s w text from (Err Output) old out h are fits e first none = absurd h.ends
 judges_first begins s w text from (Err NoMemory) old out h are fits e first none = tt
 
 -- none is wrong: what was told is nothing, and all were allowed
@@ -142,20 +141,11 @@ judges_all begins s w text from (Err (BadLine n)) old out h are fits e first non
       whole_is s text from h.at h.xs h.text_is first,
       subst (λ (x : List ℕ). IsBadExchange n (line_ends x) (drop h.at text)) front ends,
     )
-judges_all begins s w text from (Err Input) old out h are fits e first none = tt
-judges_all begins s w text from (Err Output) old out h are fits e first none = tt
+judges_all begins s w text from (Err Input) old out h are fits e first none = absurd h.ends
+judges_all begins s w text from (Err Output) old out h are fits e first none = absurd h.ends
 judges_all begins s w text from (Err NoMemory) old out h are fits e first none = tt
-
-Keeps-refl : (a : Option (List ℕ)) → Keeps a a
-Keeps-refl None = tt
-Keeps-refl (Some xs) = refl
 
 -- the input that was read is the text
 pub known_text : (A : List ℕ → Type 0) (input : Option (List ℕ)) (old text : List ℕ) → old ≡ [] → IfSome input (λ xs. text ≡ old ++ xs) → A text → IfSome input (λ xs. A xs)
 known_text A None old text none is a = tt
 known_text A (Some xs) old text none is a = subst A (rw none at is) a
-
--- and of a known input, whichever it is
-pub all_known : (input : Option (List ℕ)) (A : List ℕ → Type 0) → ((xs : List ℕ) → A xs) → IfSome input A
-all_known None A a = tt
-all_known (Some xs) A a = a xs

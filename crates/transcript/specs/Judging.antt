@@ -82,10 +82,11 @@ abbrev pub IsPastExchange : Begins → World → List ℕ → ℕ → Past → W
 IsPastExchange begins w text at past new old out = (x : Exchange) × (told : List ℕ) × IsHeard begins w (line_ends (take at text) + 1) x past.allowed past.wrong past.left_open told
     × GoesOnBy w x.judged new × StandsInText text at past.next x.asked x.answer × (out ≡ old ++ told)
 
--- which line is bad, if that is the fault
+-- which line is bad, if that is the fault; else memory was refused
 abbrev pub MatchesExchange : List ℕ → ℕ → Fault → Type 0
 MatchesExchange text at (BadLine n) = IsBadExchange n (line_ends (take at text)) (drop at text)
-MatchesExchange text at fault = Unit {0}
+MatchesExchange text at NoMemory = Unit {0}
+MatchesExchange text at fault = ⊥
 
 -- how the exchanges end: all are allowed, the next is wrong, or a fault comes
 abbrev pub EndsExchanges : Begins → World → List ℕ → (at allowed open_ : ℕ) → Result Bool Fault → (old out : List ℕ) → Type 0

@@ -1,4 +1,5 @@
 pub mod Showing
+pub mod Failures
 pub mod Transcripts
 pub mod Cutting
 pub mod Judging

@@ -31,6 +31,7 @@ use Rattle.transcript.specs.declared.begins.Until.{Until}
 use Rattle.transcript.specs.declared.begins.Until.TheVariants.{FirstWrong, End}
 use Rattle.transcript.specs.declared.fault.Fault.{Fault}
 use Rattle.transcript.specs.declared.fault.Fault.TheVariants.{BadLine, Input, Output, NoMemory}
+use Rattle.transcript.specs.Failures.{WritesFront}
 
 -- which step is judged: a session may be judged as if it had begun by statement, or by snapshot
 abbrev pub judged_as : Begins → Step → Step
@@ -255,7 +256,7 @@ JudgesWrong begins End input out = (s : Settings) × (xs : List Exchange) × (al
     × AreJudged begins s xs allowed wrong open_ told × (0 < wrong) × (input ≡ transcript_text s xs) × (out ≡ told ++ end_text wrong allowed open_)
 
 -- What is said of a text. Where it is allowed, all of it is the text of exchanges that are allowed. After bad line n those before it were
--- judged, and n is the first line that can't be read. After another fault nothing is said
+-- judged, and n is the first line that can't be read. Memory may be refused, and then nothing is said
 abbrev pub JudgesText : Begins → Until → Result Bool Fault → (input out : List ℕ) → Type 0
 JudgesText begins until (Ok true) input out = (s : Settings) × (xs : List Exchange) × (open_ : ℕ)
     × AreAllowed begins s xs × AreJudged begins s xs (length (steps_judged xs)) 0 open_ [] × (input ≡ transcript_text s xs)
@@ -264,13 +265,15 @@ JudgesText begins until (Ok false) input out = JudgesWrong begins until input ou
 JudgesText begins until (Err (BadLine n)) input out = ((n ≡ 1) × IsBadFirst input)
     ⊎ ((s : Settings) × (xs : List Exchange) × (rest : List ℕ) × WentBefore begins until s xs
     × (input ≡ transcript_text s xs ++ rest) × IsBadExchange n (line_ends (transcript_text s xs)) rest)
-JudgesText begins until (Err fault) input out = Unit {0}
+JudgesText begins until (Err NoMemory) input out = Unit {0}
+JudgesText begins until (Err fault) input out = ⊥
 
--- And that is written. After a bad line nothing is, nor where memory was refused or what was read is not known
+-- And that is written, or a beginning of it where the writer fails. After a bad line nothing is, nor where memory was refused or the
+-- reader failed
 abbrev pub TranscriptOutcome : Begins → Until → Result Bool Fault → List ℕ → Option (List ℕ) → Option (List ℕ) → Type 0
 TranscriptOutcome begins until (Ok allowed) input before after = (out : List ℕ) × JudgesText begins until (Ok allowed) input out × Appends before after out
 TranscriptOutcome begins until (Err (BadLine n)) input before after = JudgesText begins until (Err (BadLine n)) input [] × Keeps before after
-TranscriptOutcome begins until (Err Output) input before after = Unit {0}
+TranscriptOutcome begins until (Err Output) input before after = (allowed : Bool) × (out : List ℕ) × JudgesText begins until (Ok allowed) input out × WritesFront before after out
 TranscriptOutcome begins until (Err fault) input before after = Keeps before after
 
 abbrev pub exit_status_for : Fault → ℕ

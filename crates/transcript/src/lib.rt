@@ -8,6 +8,7 @@
 mod begins;
 mod cutting;
 mod exchanges;
+mod failures;
 mod fault;
 mod question;
 mod ruling;
@@ -16,5 +17,6 @@ mod telling;
 mod transcripts;
 
 pub use begins::{Begins, Until};
+pub use failures::FailureLog;
 pub use fault::Fault;
 pub use transcripts::judge_transcript;
