@@ -1,8 +1,9 @@
-//! A heap that can be looked into: scripts with looks, as a run, as a journal, or as a talk.
+//! A heap that can be looked into: scripts with looks, as a run, as a journal, as a talk, or as a picture.
 #![tactic(auto)]
 
 use clap::error::ErrorKind as Mistake;
-use clap::{ArgMatches, Command, Error};
+use clap::{Arg, ArgAction, ArgMatches, Command, Error};
+use drawing::{DrawFault, draw};
 use std::alloc::{AllocError, Global};
 use std::env;
 use std::io::ErrorKind;
@@ -30,6 +31,23 @@ fn command<'a>(alloc: Global) -> Result<Command<'a>, AllocError> {
     let talk = Command::new(alloc, "talk").about(
         "Asks for each line, and says what was expected; help lists the lines",
     );
+    let draw = Command::new(alloc, "draw")
+        .about("Runs one, and writes a picture of the table as SVG")
+        .arg(
+            Arg::new(alloc, "line")
+                .long("line")
+                .value_name("N")
+                .help("Draws the table behind line N")
+                .value_parser(clap::value_parser!(u32).range(1..)),
+        )?
+        .arg(
+            Arg::new(alloc, "page")
+                .long("page")
+                .value_name("P")
+                .help("Draws page P, and others that are named so")
+                .action(ArgAction::Append)
+                .value_parser(clap::value_parser!(u32)),
+        )?;
     Command::new(alloc, "heapview")
         .version("0.4")
         .about("Runs scripts from standard input over a heap that can be looked into")
@@ -37,7 +55,8 @@ fn command<'a>(alloc: Global) -> Result<Command<'a>, AllocError> {
         .arg_required_else_help(true)
         .subcommand(run)?
         .subcommand(journal)?
-        .subcommand(talk)
+        .subcommand(talk)?
+        .subcommand(draw)
 }
 
 // Says what is wrong with the words, with status 1; or help or the version, as asked for.
@@ -49,10 +68,52 @@ fn tells(rt: &HostRuntime, error: &Error) -> ExitCode {
     }
 }
 
+// The pages that are named.
+fn pages_of(rt: &HostRuntime, matches: &ArgMatches<'_>) -> Result<Vec<u32>, AllocError> {
+    let mut pages = Vec::new(rt.alloc());
+    if let Some(numbers) = matches.get_many::<u32>("page") {
+        for number in numbers {
+            if let Ok(number) = number {
+                pages.push(number)?;
+            }
+        }
+    }
+    Ok(pages)
+}
+
+fn ends_drawing(rt: &impl Eprint, ended: Result<(), DrawFault>) -> ExitCode {
+    match ended {
+        Ok(()) => ExitCode::SUCCESS,
+        Err(fault) => {
+            let _ = rt.eprintln(fault);
+            ExitCode::from(fault.status())
+        }
+    }
+}
+
+fn draws(rt: &HostRuntime, matches: &ArgMatches<'_>) -> ExitCode {
+    let Ok(pages) = pages_of(rt, matches) else {
+        return fails(rt, ShellFault::NoMemory);
+    };
+    let most = matches
+        .get_one::<u32>("line")
+        .unwrap_or(u32::MAX)
+        .saturating_sub(1);
+    let (ended, _) = draw(
+        rt.alloc(),
+        &mut rt.stdin(),
+        &mut rt.stdout(),
+        most,
+        pages.as_slice(),
+    );
+    ends_drawing(rt, ended)
+}
+
 fn runs(rt: &HostRuntime, matches: &ArgMatches<'_>) -> ExitCode {
-    let (ended, _) = match matches.subcommand_name() {
-        Some("journal") => run_views(rt.alloc(), &mut rt.stdin(), &mut rt.stdout(), true),
-        Some("talk") => talk(rt.alloc(), &mut rt.stdin(), &mut rt.stdout()),
+    let (ended, _) = match matches.subcommand() {
+        Some(("draw", of)) => return draws(rt, of),
+        Some(("journal", _)) => run_views(rt.alloc(), &mut rt.stdin(), &mut rt.stdout(), true),
+        Some(("talk", _)) => talk(rt.alloc(), &mut rt.stdin(), &mut rt.stdout()),
         _ => run_views(rt.alloc(), &mut rt.stdin(), &mut rt.stdout(), false),
     };
     ends(rt, ended)

@@ -1,3 +1,3 @@
 mod ExplainingLemmas
 mod LookLemmas
-mod RunLemmas
+pub mod RunLemmas

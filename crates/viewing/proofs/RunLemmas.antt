@@ -182,7 +182,7 @@ adv_close notes from state before now old new w0 w1 w2 text left number end r lo
 
 -- From the first line on.
 
-ran_views : (s : Settings) (from : WaitingView) (events : List ViewEvent) (last : WaitingView) → AreSettings s → length s.indexed ≡ 4 → IsNewWaiting s from
+abbrev pub ran_views : (s : Settings) (from : WaitingView) (events : List ViewEvent) (last : WaitingView) → AreSettings s → length s.indexed ≡ 4 → IsNewWaiting s from
     → AllByRecursion IsViewAllowed events → ViewsLead from events last → IsViewRun s events
 ran_views s from events last fits columns new allowed led = record {
   run = ran_from s from (done_of events) last fits columns new (allowed_lines events allowed) (without_looks from events last led);

@@ -14,6 +14,6 @@ mod looks;
 mod run;
 mod talking;
 
-pub use run::run_views;
+pub use run::{do_view, run_views};
 pub use script::{IoLog, ShellFault};
 pub use talking::talk;

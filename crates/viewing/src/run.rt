@@ -16,8 +16,8 @@ use std::alloc::Global;
 use std::io::{Read, Write};
 use view_text::look_at;
 
-// Does what a line asks for, a script's or a look, and adds its answer; false where it is neither, and then nothing is done.
-pub(crate) fn do_view(
+/// Does what a line asks for, a script's or a look, and adds its answer; false where it is neither, and then nothing is done.
+pub fn do_view(
     alloc: Global,
     engine: &mut Engine,
     reply: &mut Reply,
