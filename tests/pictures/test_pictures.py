@@ -5,6 +5,7 @@ test_pictures.py HEAPVIEW [COUNT]
 A picture is read by an XML parser. What stands beside which slot is told by its height alone, and which session's a dot is by the number
 in it. So nothing here knows how a picture is drawn, but for the words that are read in it.
 """
+import glob
 import os
 import random
 import re
@@ -226,13 +227,22 @@ def compare(heapview: str, lines: List[str]) -> int:
     return len(picture.dots)
 
 
-def readme(heapview: str) -> None:
-    """Compares the picture of README.md with that of its example."""
-    with open(f"{TOP}/examples/horizon.script", encoding="ascii") as script:
-        drawn = run(heapview, ["draw", "--line", "12"], script.read().splitlines())
-    with open(f"{TOP}/docs/horizon.svg", encoding="utf-8") as picture:
-        if drawn != picture.read():
-            sys.exit("test_pictures.py: docs/horizon.svg is not what the program draws behind line 12 of examples/horizon.script")
+def kept(heapview: str) -> int:
+    """Compares the pictures of README.md and of the example pages with what the program draws behind their lines. Answers how many they are."""
+    pictures = {"docs/horizon.svg": ("horizon", "12")}
+    for page in sorted(glob.glob(f"{TOP}/examples/*.md")):
+        with open(page, encoding="utf-8") as text:
+            pictures.update({f"examples/pictures/{name}-{line}.svg": (name, line) for name, line in re.findall(r"\(pictures/(\w+)-(\d+)\.svg\)", text.read())})
+    for path in glob.glob(f"{TOP}/examples/pictures/*"):
+        if os.path.relpath(path, TOP) not in pictures:
+            sys.exit(f"test_pictures.py: no page shows {os.path.relpath(path, TOP)}")
+    for path, (name, line) in pictures.items():
+        with open(f"{TOP}/examples/{name}.script", encoding="ascii") as script:
+            drawn = run(heapview, ["draw", "--line", line], script.read().splitlines())
+        with open(f"{TOP}/{path}", encoding="utf-8") as picture:
+            if drawn != picture.read():
+                sys.exit(f"test_pictures.py: {path} is not what the program draws behind line {line} of examples/{name}.script")
+    return len(pictures)
 
 
 def faults(heapview: str) -> None:
@@ -252,7 +262,7 @@ def faults(heapview: str) -> None:
 def main() -> None:
     heapview = sys.argv[1]
     count = int(sys.argv[2]) if len(sys.argv) > 2 else SCRIPTS
-    readme(heapview)
+    pages = kept(heapview)
     faults(heapview)
     dots = 0
     for seed in range(count):
@@ -261,7 +271,7 @@ def main() -> None:
             dots += compare(heapview, lines)
         except AssertionError as wrong:
             sys.exit(f"test_pictures.py: script {seed}: {wrong}\n" + "\n".join(lines))
-    print(f"test_pictures.py: the pictures of {count} scripts, with {dots} dots, show what is answered")
+    print(f"test_pictures.py: the pictures of {count} scripts, with {dots} dots, show what is answered; {pages} are on their pages")
 
 
 if __name__ == "__main__":
