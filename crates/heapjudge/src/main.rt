@@ -69,8 +69,13 @@ fn explains(rt: &(impl Print + Eprint), error: &Error) -> ExitCode {
 }
 
 fn judges(rt: &HostRuntime, begins: Begins, until: Until) -> ExitCode {
-    let (judged, _) =
-        judge_transcript(rt.alloc(), begins, until, &mut rt.stdin(), &mut rt.stdout());
+    let (judged, _) = judge_transcript(
+        rt.alloc(),
+        begins,
+        until,
+        &mut rt.stdin(),
+        &mut rt.stdout(),
+    );
     match judged {
         Ok(true) => ExitCode::SUCCESS,
         Ok(false) => ExitCode::from(WRONG),
