@@ -204,13 +204,6 @@ pointer-placed a b count i e sound within good above written =
       others = pointers;
     }
 
-pub extent-pointed : (a : List ℕ) (e : Extent) → length a ≡ 8192 → IsExtent a e → IsPointed (Pointer.Normal e)
-extent-pointed a e whole good =
-    let size = part-long a e whole good in
-    let least : 66 ≤ e.len = good.least in
-    let from_end : e.from + e.len ≤ 8192 = size.1 in
-    (omega arith, omega arith)
-
 rounded-even : (n : ℕ) → next_multiple_of n 8 % 8 ≡ 0
 rounded-even n = grind (arith, nat_tests)
 
@@ -230,6 +223,47 @@ extent-written a b count e v sound len_is room upper none =
       least = omega arith;
       within = omega arith;
       faultless = none;
+    }
+
+-- a version that was put below all others, and the pointer to it
+pub record IsAdded (a b : List ℕ) (count i : ℕ) (e : Extent) (v : Version) : Type 0 where
+  pub sound : IsSound b count
+  pub slots : slots_in count b ≡ set (slots_in count a) i (Slot.Normal v)
+  pub change : change_in b ≡ change_in a
+  pub flags : flags_in b ≡ flags_in a
+  pub upper : upper_in b ≡ e.from
+  pub here : pointer_in b i ≡ Pointer.Normal e
+  pub others : (j : ℕ) → j < count → j ≢ i → pointer_in b j ≡ pointer_in a j
+
+pub added : (a m n b : List ℕ) (count i : ℕ) (e : Extent) (v : Version) → IsSound a count → i < count → 24 + 4 * count ≤ e.from → e.from + rounded_size_of v.row ≡ upper_in a
+    → e.len ≡ size_of v.row → IsVersion v → m ≡ with_bytes e.from (encoding v) a → n ≡ with_number 14 2 e.from m → b ≡ with_number (24 + 4 * i) 4 (word_of (Pointer.Normal e)) n
+    → IsAdded a b count i e v
+added a m n b count i e v sound within gap room len_is fits first second third =
+    let up = rounded-up (size_of v.row) in
+    let top : upper_in a ≤ 8192 = sound.upper in
+    let below = written-below a m count e.from v sound gap (omega arith) fits first in
+    let written = below.written in
+    let upper : upper_in m ≡ upper_in a = written.upper in
+    let lowered = upper-lowered m n count e.from below.sound gap (omega arith) (below-aligned (upper_in a) e.from (size_of v.row) sound.aligned room) second in
+    let part : part_of n e ≡ part_of m e = lowered.parts e (omega arith) (omega arith) in
+    let none : first_fault (part_of n e) ≡ None = ap first_fault part ∙ ap (λ (k : ℕ). first_fault (take k (drop e.from m))) len_is ∙ written.faultless in
+    let good : IsExtent n e = extent-written a n count e v sound len_is room lowered.upper none in
+    let same : (j : ℕ) → j < count → pointer_in n j ≡ pointer_in a j = λ j h. lowered.pointers j ∙ written.pointers j (omega arith) in
+    let above : AreAbove n count i e = λ j d h other is.
+    let over : upper_in a ≤ d.from = (extent-in a count j d sound h (sym (same j h) ∙ is)).over in
+    let size : next_multiple_of e.len 8 ≡ rounded_size_of v.row = ap (λ (k : ℕ). next_multiple_of k 8) len_is in
+    omega arith in
+    let placed = pointer-placed n b count i e lowered.sound within good above third in
+    let version : decoded_version (part_of n e) ≡ v = ap decoded_version part ∙ ap (λ (k : ℕ). decoded_version (take k (drop e.from m))) len_is ∙ written.value in
+    record {
+      sound = placed.sound;
+      slots = placed.slots ∙ ap (λ (xs : List Slot). set xs i (Slot.Normal (decoded_version (part_of n e)))) (lowered.slots ∙ below.slots)
+          ∙ ap (λ (w : Version). set (slots_in count a) i (Slot.Normal w)) version;
+      change = placed.change ∙ lowered.change ∙ written.change;
+      flags = placed.flags ∙ lowered.flags ∙ written.flags;
+      upper = placed.upper ∙ lowered.upper;
+      here = placed.here;
+      others = λ j h other. placed.others j other ∙ same j h;
     }
 
 -- Where no slot holds a version, the upper bound may be anywhere behind the pointers.

@@ -22,6 +22,7 @@ pub record IsGrown (a b : List ℕ) (count : ℕ) : Type 0 where
   pub flags : flags_in b ≡ flags_in a
   pub upper : upper_in b ≡ upper_in a
   pub pointers : (j : ℕ) → j < count → pointer_in b j ≡ pointer_in a j
+  pub last : pointer_in b count ≡ Pointer.Unused
 
 pointer-grown : (a b : List ℕ) (count : ℕ) (p : Pointer) → upper_in b ≡ upper_in a → IsPointer a count p
     → ((e : Extent) → p ≡ Pointer.Normal e → part_of b e ≡ part_of a e) → IsPointer b (count + 1) p
@@ -106,4 +107,5 @@ grown a m b count sound few room first second =
       flags = flags;
       upper = upper;
       pointers = pointers;
+      last = last;
     }

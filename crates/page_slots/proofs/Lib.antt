@@ -11,6 +11,7 @@ pub mod Sounds
 pub mod PackLemmas
 pub mod PlacingLemmas
 pub mod RunLemmas
+pub mod LyingLemmas
 pub mod Blank
 pub mod Ids
 pub mod Dead

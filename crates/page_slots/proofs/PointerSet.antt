@@ -70,6 +70,7 @@ pub record IsRepointed (a b : List ℕ) (count i : ℕ) (p : Pointer) : Type 0 w
   pub change : change_in b ≡ change_in a
   pub flags : flags_in b ≡ flags_in a
   pub upper : upper_in b ≡ upper_in a
+  pub here : pointer_in b i ≡ p
   pub others : (j : ℕ) → j ≢ i → pointer_in b j ≡ pointer_in a j
 
 pub pointer-set : (a b : List ℕ) (count i : ℕ) (p : Pointer) → IsSound a count → i < count → HoldsNoVersion count p → b ≡ with_number (24 + 4 * i) 4 (word_of p) a → IsRepointed a b count i p
@@ -122,6 +123,7 @@ pointer-set a b count i p sound within bare written =
       change = at 0 8 (omega arith);
       flags = at 10 2 (omega arith);
       upper = upper;
+      here = here;
       others = pointers;
     }
 

@@ -15,10 +15,12 @@
 //! which slot is the first unused one (`AreTallied`), so it goes through no slots for either. A version is written into the gap
 //! between pointers and versions, and looked at where it stands ([`Page::row`]); [`Page::slot`] makes a copy. Where the gap is
 //! too small, versions are moved together first, from the end of the page downward in the order of their slots (`packing.rt`,
-//! `specs/Packing.antt`).
+//! `specs/Packing.antt`). A `Sheet` keeps what is known of how they lie, so that mostly no pointer is looked at then (`lying.rt`,
+//! `specs/Lying.antt`).
 #![tactic(auto)]
 
 mod check;
+mod lying;
 mod marks;
 mod packing;
 mod page;

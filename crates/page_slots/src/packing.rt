@@ -189,8 +189,8 @@ fn close_hole(bytes: &mut [u8], count: usize, first: usize, upper: usize) -> Opt
     Some(low + by)
 }
 
-/// Moves the versions together, and answers how far down they reach.
-pub(crate) fn move_together(bytes: &mut [u8; PAGE_BYTES], count: usize) -> usize
+/// Moves the versions together, however they lie, and answers how far down they reach.
+pub(crate) fn pack_all(bytes: &mut [u8; PAGE_BYTES], count: usize) -> usize
     requires sound { IsSound bytes.old count }
     requires room { 4 * count + sum_by bytes_taken (slots_in count bytes.old) ≤ MOST_BYTES }
     ensures { IsPacked bytes.old bytes.new count count result }

@@ -1,26 +1,26 @@
 //! The bytes of a page, and what is read in them where it stands.
 
-ghost use Rattle.std.specs.Prelude.{◌≡◌, ◌≤◌, ◌<◌, ◌+◌, ◌-◌, ◌*◌, ◌%◌, ◌++◌, ◌∷◌, ℕ, [], length, sum_by, drop, slice_set, slice_index_or, true, false, ◌==◌, ◌&&◌, Some, None, IfSome, IsTrue, ◌↔◌, MatchOption, if◌then◌else◌};
+ghost use Rattle.std.specs.Prelude.{◌≡◌, ◌≢◌, ◌≤◌, ◌<◌, ◌+◌, ◌-◌, ◌*◌, ◌++◌, ◌∷◌, ℕ, List, [], length, sum_by, drop, slice_set, slice_index_or, true, false, ◌==◌, ◌&&◌, Some, None, IfSome, IsTrue, ◌↔◌, MatchOption, if◌then◌else◌};
 ghost use Rattle.std.specs.Option.{option_map};
 ghost use Rattle.std.specs.List.{position_or_len};
-ghost use Rattle.tuple_header.specs.Layout.{number_at, with_bytes, header_bytes, encoding, decoded_version};
+ghost use Rattle.tuple_header.specs.Layout.{number_at, with_bytes, header_bytes, encoding};
 ghost use Rattle.tuple_header.specs.declared.version.TheConstants.{MOST_SLOTS};
 ghost use Rattle.tuple_header.specs.Version.{size_of, rounded_size_of};
-ghost use Rattle.tuple_header.specs.Faults.{HeaderFits, IsVersion, header_fault, first_fault};
+ghost use Rattle.tuple_header.specs.Faults.{HeaderFits, IsVersion, header_fault};
 ghost use Rattle.page_slots.specs.declared.sheet.TheConstants.{MOST_BYTES};
 ghost use Rattle.page_layout.specs.declared.sizes.TheConstants.{PAGE_BYTES, PAGE_HEADER_BYTES};
 ghost use Rattle.page_slots.specs.Slots.{is_unused, is_dead, is_undeleted_by, redirects_to, with_header, version_of, target_of, head_of, bytes_taken};
 ghost use Rattle.page_layout.specs.Layout.{pointer_in, part_of, slot_count_in, change_in, flags_in, upper_in};
 ghost use Rattle.page_slots.specs.Layout.{SomeRedirects, shown_by, slot_in, slots_in};
 ghost use Rattle.page_slots.specs.Packing.{LieInOrder};
+ghost use Rattle.page_slots.specs.Lying.{IsCleared, IsLying};
 ghost use Rattle.page_slots.specs.Placing.{AllStay, OthersStay, HasGap, IsPutBelow, loses_last};
 ghost use Rattle.page_slots.specs.Standing.{StandsAt, IsVersionAt};
 ghost use Rattle.page_slots.specs.Faults.{AreSoundRedirects, page_fault};
-ghost use Rattle.page_layout.specs.declared.pointer.Extent.{Extent as SpecExtent};
 ghost use Rattle.page_layout.specs.declared.pointer.Pointer.{Pointer as SpecPointer};
-ghost use Rattle.page_layout.specs.Sound.{AreAbove, IsExtent, HoldsNoVersion, IsSound, IsWritten, IsPointer};
+ghost use Rattle.page_layout.specs.Sound.{HoldsNoVersion, IsSound, IsPointer};
 
-use crate::packing::move_together;
+use crate::lying::{Lying, move_together};
 use crate::slot::{Slot, SlotHead};
 use page_layout::{
     Extent, PAGE_BYTES, PAGE_HEADER_BYTES, Pointer, part, pointer_at, put_pointer, put_u16,
@@ -42,17 +42,20 @@ const _: () = prove!(MOST_BYTES == PAGE_BYTES - PAGE_HEADER_BYTES);
 pub(crate) struct Sheet {
     bytes: [u8; PAGE_BYTES],
     count: usize,
+    // how the versions lie, as far as it is known
+    lying: Lying,
 }
 
 impl Model for Sheet {
     ghost use Rattle.page_slots.specs.Sheet.{SheetView};
     ghost use Rattle.page_layout.specs.Sound.{IsSound};
+    ghost use Rattle.page_slots.specs.Lying.{IsLying};
 
     ghost Value = { SheetView };
 
     ghost view = { λ s. record { bytes = s.bytes; count = s.count } };
 
-    ghost invariant = { λ s. IsSound s.bytes s.count };
+    ghost invariant = { λ s. IsSound s.bytes s.count × IsLying s.bytes s.count s.lying };
 }
 
 /// Writes a header over that of the version in these bytes.
@@ -79,6 +82,34 @@ fn put_encoding(bytes: &mut [u8], from: usize, header: &Header, row: &Row)
     put_version(header, row, &mut bytes[from..]);
 }
 
+/// Puts a version at an index, below all others, where the gap has room for it.
+fn put_below(bytes: &mut [u8; PAGE_BYTES], count: usize, index: usize, header: &Header, row: &Row)
+    requires sound { IsSound bytes.old count }
+    requires there { index < count }
+    requires room { PAGE_HEADER_BYTES + 4 * count + rounded_size_of row.now ≤ upper_in bytes.old }
+    requires faultless { header_fault header.now ≡ None }
+    ensures sound { IsSound bytes.new count }
+    ensures slots { slots_in count bytes.new
+        ≡ slice_set (slots_in count bytes.old) index
+        (Slot.Normal (record { header = header.now; row = row.now })) }
+    ensures change { change_in bytes.new ≡ change_in bytes.old }
+    ensures flags { flags_in bytes.new ≡ flags_in bytes.old }
+    ensures upper { upper_in bytes.new + rounded_size_of row.now ≡ upper_in bytes.old }
+    ensures here { pointer_in bytes.new index
+        ≡ SpecPointer.Normal (record { from = upper_in bytes.new; len = size_of row.now }) }
+    ensures places { (i : ℕ) → i < count → i ≢ index
+        → pointer_in bytes.new i ≡ pointer_in bytes.old i }
+{
+    let from = usize::from(u16_at(bytes, 14)) - row_size(row);
+    let extent = Extent {
+        from: from as u16,
+        len: 66 + row.body.len() as u16,
+    };
+    put_encoding(bytes, from, header, row);
+    put_u16(bytes, 14, from as u16);
+    put_pointer(bytes, index, Pointer::Normal(extent));
+}
+
 /// Whether these bytes of a version say that this id made it and nobody deleted it: both ids are read as one number.
 #[inline(always)]
 fn is_undeleted_by(part: &[u8], inserter: u32) -> bool
@@ -102,7 +133,11 @@ impl Sheet {
         put_u16(&mut bytes, 14, PAGE_BYTES as u16);
         put_u16(&mut bytes, 16, PAGE_BYTES as u16);
         put_u16(&mut bytes, 18, PAGE_BYTES as u16 + 4);
-        Sheet { bytes, count: 0 }
+        Sheet {
+            bytes,
+            count: 0,
+            lying: Lying::InOrder,
+        }
     }
 
     /// The sheet of these bytes, which are those of a page with so many slots.
@@ -110,7 +145,11 @@ impl Sheet {
         requires { IsSound bytes count }
         ensures { result ≡ record { bytes = bytes; count = count } }
     {
-        Sheet { bytes, count }
+        Sheet {
+            bytes,
+            count,
+            lying: Lying::Anyhow,
+        }
     }
 
     /// Becomes equal to another.
@@ -119,6 +158,7 @@ impl Sheet {
     {
         self.bytes = other.bytes;
         self.count = other.count;
+        self.lying = other.lying;
     }
 
     /// How many slots there are.
@@ -460,6 +500,26 @@ impl Sheet {
         }
     }
 
+    /// What is known of how the versions lie, once the slot at an index holds none.
+    #[inline(always)]
+    fn lying_without(&self, index: usize) -> Lying
+        requires { index < self.now.count }
+        ensures { (new : List ℕ) → IsCleared self.now.bytes new self.now.count index
+            → IsLying new self.now.count result }
+    {
+        match self.lying {
+            Lying::Anyhow => Lying::Anyhow,
+            Lying::InOrder => match self.pointer(index) {
+                Pointer::Normal(extent) => Lying::Without(index as u16, extent),
+                _ => Lying::InOrder,
+            },
+            Lying::Without(first, extent) => match self.pointer(index) {
+                Pointer::Normal(_extent) => Lying::Anyhow,
+                _ => Lying::Without(first, extent),
+            },
+        }
+    }
+
     /// Lets a slot without a version be at an index.
     fn set_pointer(&mut self, index: usize, pointer: Pointer)
         requires there { index < self.old.count }
@@ -472,7 +532,9 @@ impl Sheet {
         ensures upper { upper_in self.new.bytes ≡ upper_in self.old.bytes }
         ensures places { OthersStay self.old self.new index }
     {
+        let lying = self.lying_without(index);
         put_pointer(&mut self.bytes, index, pointer);
+        self.lying = lying;
     }
 
     /// Lets a slot without a version be at an index. Where that takes away the last version, the gap reaches to the end of the page.
@@ -499,95 +561,12 @@ impl Sheet {
         }
     }
 
-    /// Writes the bytes of a version below all others, where no pointer leads yet.
-    fn write_version(&mut self, from: usize, header: &Header, row: &Row)
-        requires gap { PAGE_HEADER_BYTES + 4 * self.old.count ≤ from }
-        requires room { from + rounded_size_of row.now ≤ upper_in self.old.bytes }
-        requires faultless { header_fault header.now ≡ None }
-        ensures count { self.new.count ≡ self.old.count }
-        ensures slots { slots_in self.new.count self.new.bytes
-            ≡ slots_in self.old.count self.old.bytes }
-        ensures written { IsWritten self.old.bytes self.new.bytes from (size_of row.now)
-            (record { header = header.now; row = row.now }) }
-    {
-        let _count = self.count;
-        put_encoding(&mut self.bytes, from, header, row);
-    }
-
     /// Where the versions begin: none lies below.
     #[inline(always)]
     fn upper(&self) -> usize
         ensures { result ≡ upper_in self.now.bytes }
     {
         usize::from(u16_at(&self.bytes, 14))
-    }
-
-    /// Lets the versions begin further down, behind the pointers.
-    fn lower_upper(&mut self, upper: usize)
-        requires gap { PAGE_HEADER_BYTES + 4 * self.old.count ≤ upper }
-        requires down { upper ≤ upper_in self.old.bytes }
-        requires aligned { upper % 8 ≡ 0 }
-        ensures count { self.new.count ≡ self.old.count }
-        ensures slots { slots_in self.new.count self.new.bytes
-            ≡ slots_in self.old.count self.old.bytes }
-        ensures change { change_in self.new.bytes ≡ change_in self.old.bytes }
-        ensures flags { flags_in self.new.bytes ≡ flags_in self.old.bytes }
-        ensures upper { upper_in self.new.bytes ≡ upper }
-        ensures parts { (e : SpecExtent) → PAGE_HEADER_BYTES ≤ e.from → e.from + e.len ≤ PAGE_BYTES
-            → part_of self.new.bytes e ≡ part_of self.old.bytes e }
-        ensures pointers { (i : ℕ) → pointer_in self.new.bytes i ≡ pointer_in self.old.bytes i }
-    {
-        let _count = self.count;
-        put_u16(&mut self.bytes, 14, upper as u16);
-    }
-
-    /// Lets the slot at an index lead to a version that lies below all others.
-    fn place(&mut self, index: usize, extent: Extent)
-        requires there { index < self.old.count }
-        requires good { IsExtent self.old.bytes extent }
-        requires above { AreAbove self.old.bytes self.old.count index extent }
-        ensures count { self.new.count ≡ self.old.count }
-        ensures slots { slots_in self.new.count self.new.bytes
-            ≡ slice_set (slots_in self.old.count self.old.bytes) index
-            (Slot.Normal (decoded_version (part_of self.old.bytes extent))) }
-        ensures change { change_in self.new.bytes ≡ change_in self.old.bytes }
-        ensures flags { flags_in self.new.bytes ≡ flags_in self.old.bytes }
-        ensures upper { upper_in self.new.bytes ≡ upper_in self.old.bytes }
-        ensures here { pointer_in self.new.bytes index ≡ SpecPointer.Normal extent }
-        ensures places { OthersStay self.old self.new index }
-    {
-        let _count = self.count;
-        put_pointer(&mut self.bytes, index, Pointer::Normal(extent));
-    }
-
-    /// Puts a version at an index, below all others, where the gap has room for it.
-    fn put_below(&mut self, index: usize, header: &Header, row: &Row)
-        requires there { index < self.old.count }
-        requires room { PAGE_HEADER_BYTES + 4 * self.old.count + rounded_size_of row.now
-            ≤ upper_in self.old.bytes }
-        requires faultless { header_fault header.now ≡ None }
-        ensures count { self.new.count ≡ self.old.count }
-        ensures slots { slots_in self.new.count self.new.bytes
-            ≡ slice_set (slots_in self.old.count self.old.bytes) index
-            (Slot.Normal (record { header = header.now; row = row.now })) }
-        ensures change { change_in self.new.bytes ≡ change_in self.old.bytes }
-        ensures flags { flags_in self.new.bytes ≡ flags_in self.old.bytes }
-        ensures upper { upper_in self.new.bytes + rounded_size_of row.now
-            ≡ upper_in self.old.bytes }
-        ensures here { pointer_in self.new.bytes index
-            ≡ SpecPointer.Normal
-            (record { from = upper_in self.new.bytes; len = size_of row.now }) }
-        ensures places { OthersStay self.old self.new index }
-    {
-        let _count = self.count;
-        let from = self.upper() - row_size(row);
-        self.write_version(from, header, row);
-        self.lower_upper(from);
-        let extent = Extent {
-            from: from as u16,
-            len: 66 + row.body.len() as u16,
-        };
-        self.place(index, extent);
     }
 
     /// Adds a last slot, which is unused. There are fewer than a page may have, and the gap has room for its pointer.
@@ -601,6 +580,7 @@ impl Sheet {
         ensures flags { flags_in self.new.bytes ≡ flags_in self.old.bytes }
         ensures upper { upper_in self.new.bytes ≡ upper_in self.old.bytes }
         ensures places { AllStay self.old self.new }
+        ensures last { pointer_in self.new.bytes self.old.count ≡ SpecPointer.Unused }
     {
         put_pointer(&mut self.bytes, self.count, Pointer::Unused);
         self.count += 1;
@@ -626,8 +606,9 @@ impl Sheet {
         ensures order { LieInOrder self.new.bytes (slots_in self.old.count self.old.bytes)
             self.new.count }
     {
-        let upper = move_together(&mut self.bytes, self.count);
+        let upper = move_together(&mut self.bytes, self.count, self.lying);
         put_u16(&mut self.bytes, 14, upper as u16);
+        self.lying = Lying::InOrder;
     }
 
     /// Makes the gap between pointers and versions as wide as so many bytes. Versions are moved only where it is not.
@@ -669,7 +650,8 @@ impl Sheet {
             (rounded_size_of row.now) }
     {
         self.make_way(row_size(row));
-        self.put_below(index, header, row);
+        put_below(&mut self.bytes, self.count, index, header, row);
+        self.lying = Lying::Anyhow;
     }
 
     /// Puts a version behind all slots, of which there are fewer than a page may have.
@@ -691,7 +673,7 @@ impl Sheet {
         self.make_way(row_size(row) + 4);
         let index = self.count;
         self.grow();
-        self.put_below(index, header, row);
+        put_below(&mut self.bytes, self.count, index, header, row);
     }
 
     /// Lets the gap reach to the end of the page, on which no version is.
@@ -707,5 +689,6 @@ impl Sheet {
     {
         let _count = self.count;
         put_u16(&mut self.bytes, 14, PAGE_BYTES as u16);
+        self.lying = Lying::InOrder;
     }
 }

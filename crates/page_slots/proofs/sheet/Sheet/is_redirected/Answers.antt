@@ -1,7 +1,5 @@
-use Rattle.std.proofs.Common.{rules, ◌≡◌, ◌∙◌, ◌+◌, ◌<◌, ◌≤◌, inl, inr, ℕ, List, sym, ap, subst, arith}
+use Rattle.std.proofs.Common.{◌≡◌, ◌∙◌, ◌+◌, ◌<◌, inl, inr, sym, subst, arith}
 use Rattle.std.proofs.lemmas.Bool.{cases_lt, ltb-true, lt-ltb}
-use Rattle.page_layout.specs.declared.pointer.Pointer.{Pointer}
-use Rattle.page_layout.specs.Layout.{pointer_in}
 use Rattle.page_layout.specs.Sound.{IsPointer}
 use Rattle.page_slots.specs.Sheet.{SheetView}
 use Rattle.page_slots.specs.Layout.{SomeRedirects}
@@ -12,7 +10,7 @@ use Rattle.page_slots.proofs.sheet.Sheet.is_redirected.Goals.{then-u32_at-sought
 pub returns-then-from-self : goal.returns-then-from-self
 returns-then-from-self c =
     let none = none-beyond c.self.inside.bytes c.args.number c.self.inside.count
-    (λ i lt is. let there = subst (IsPointer c.self.inside.bytes c.self.inside.count) is (c.self.invariant.pointers i lt) in there.1)
+    (λ i lt is. let there = subst (IsPointer c.self.inside.bytes c.self.inside.count) is (c.self.invariant.0.pointers i lt) in there.1)
     (omega (arith, c.from.ensures, c.if-from-self.true)) in
     (λ t. absurd (cc t), λ some. absurd (none (subst (λ (s : SheetView). SomeRedirects s.bytes s.count c.args.number) (sym c.self.view_is) some)))
 
@@ -20,20 +18,20 @@ pub loop-index-init : goal.loop-index-init
 loop-index-init c = (counted-start c.self.inside.bytes c.args.number, omega (arith, c.from-sought.ensures))
 
 pub overflow_add-found : goal.overflow_add-found
-overflow_add-found c = omega (arith, c.loop-index.invariant.0.few, c.loop-index-test.true, c.self.invariant.few)
+overflow_add-found c = omega (arith, c.loop-index.invariant.0.few, c.loop-index-test.true, c.self.invariant.0.few)
 
 pub loop-index-preserved : goal.loop-index-preserved
 loop-index-preserved c = elim c.if-u32_at-sought.branch [
   | then-u32_at-sought w ↦ (
     subst (IsCounted c.self.inside.bytes c.args.number (c.loop-index.index + 1)) (sym w.found-is)
         (counted-one c.self.inside.bytes c.args.number c.loop-index.index c.loop-index.found c.u32_at.result c.u32_at.ensures
-        (w.if-u32_at-sought.true ∙ c.loop-index.invariant.1) (omega (arith, c.if-from-self.false, c.from.ensures, c.self.invariant.few)) c.loop-index.invariant.0),
+        (w.if-u32_at-sought.true ∙ c.loop-index.invariant.1) (omega (arith, c.if-from-self.false, c.from.ensures, c.self.invariant.0.few)) c.loop-index.invariant.0),
     c.loop-index.invariant.1,
   )
   | else-u32_at-sought w ↦ (
     subst (IsCounted c.self.inside.bytes c.args.number (c.loop-index.index + 1)) (sym w.found-is)
         (counted-none c.self.inside.bytes c.args.number c.loop-index.index c.loop-index.found c.u32_at.result c.u32_at.ensures
-        (λ same. w.if-u32_at-sought.false (same ∙ sym c.loop-index.invariant.1)) (c.self.invariant.plain c.loop-index.index c.loop-index-test.true) c.loop-index.invariant.0),
+        (λ same. w.if-u32_at-sought.false (same ∙ sym c.loop-index.invariant.1)) (c.self.invariant.0.plain c.loop-index.index c.loop-index-test.true) c.loop-index.invariant.0),
     c.loop-index.invariant.1,
   )
 ]

@@ -1,18 +1,25 @@
-use Rattle.std.proofs.Common.{◌≡◌, sum_by, sym, subst}
+use Rattle.std.proofs.Common.{◌≡◌, ◌∙◌, List, sum_by, ap, sym, subst}
 use Rattle.page_slots.specs.Sheet.{SheetView}
 use Rattle.page_slots.specs.Slots.{bytes_taken}
 use Rattle.page_slots.specs.Layout.{slots_in}
 use Rattle.page_slots.proofs.Added.{IsLifted, upper-lifted, none-taken}
+use Rattle.page_slots.specs.declared.slot.Slot.{Slot}
+use Rattle.page_slots.proofs.LyingLemmas.{lying-bare_page}
 use Rattle.page_slots.proofs.sheet.Sheet.lift_upper.Goals as goal
 
-lifted : (c : goal.After-put_u16) → IsLifted c.self.inside.bytes c.put_u16.new.bytes c.self.inside.count
+lifted : (c : goal.After-self-1) → IsLifted c.self.inside.bytes c.put_u16.new.bytes c.self.inside.count
 lifted c =
     let nothing = subst (λ (s : SheetView). sum_by bytes_taken (slots_in s.count s.bytes) ≡ 0) (sym c.self.view_is) c.requires.none in
-    upper-lifted c.self.inside.bytes c.put_u16.new.bytes c.self.inside.count c.self.invariant
-    (λ j e h is. none-taken c.self.inside.bytes c.self.inside.count j e c.self.invariant nothing h is) c.put_u16.ensures
+    upper-lifted c.self.inside.bytes c.put_u16.new.bytes c.self.inside.count c.self.invariant.0
+    (λ j e h is. none-taken c.self.inside.bytes c.self.inside.count j e c.self.invariant.0 nothing h is) c.put_u16.ensures
 
 pub invariant_of-self : goal.invariant_of-self
-invariant_of-self c = (lifted c).sound
+invariant_of-self c =
+    let nothing = subst (λ (s : SheetView). sum_by bytes_taken (slots_in s.count s.bytes) ≡ 0) (sym c.self.view_is) c.requires.none in (
+      (lifted c).sound,
+      lying-bare_page c.put_u16.new.bytes c.self.inside.count (lifted c).sound
+          (ap (λ (xs : List Slot). sum_by bytes_taken xs) (lifted c).slots ∙ nothing) (lifted c).upper,
+    )
 
 pub returns-clause-slots : goal.returns-clause-slots
 returns-clause-slots c = rw (← c.self.view_is) (lifted c).slots

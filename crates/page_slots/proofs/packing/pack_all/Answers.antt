@@ -1,7 +1,7 @@
 use Rattle.std.proofs.Common.{◌≡◌, ℕ, List, sym, subst}
 use Rattle.page_slots.specs.Packing.{IsPacked}
 use Rattle.page_slots.proofs.RunLemmas.{packed-run}
-use Rattle.page_slots.proofs.packing.move_together.Goals as goal
+use Rattle.page_slots.proofs.packing.pack_all.Goals as goal
 
 pub pack-requires-clause-packed : goal.pack-requires-clause-packed
 pack-requires-clause-packed c =
