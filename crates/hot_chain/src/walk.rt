@@ -46,8 +46,8 @@ pub(crate) fn successor(page: &Page, header: &Header, statuses: &StatusTable) ->
     }
 }
 
-/// Where the chain goes on from a slot.
-fn next(page: &Page, number: u16, statuses: &StatusTable) -> Option<u16>
+/// Where a chain goes on from a slot, on any page: to no slot, or to one that is there. It takes no memory.
+pub fn next_in_chain(page: &Page, number: u16, statuses: &StatusTable) -> Option<u16>
     ensures value { result ≡ next_in_chain (has_aborted statuses.now) page.now.slots number }
     ensures there { IfSome result (λ n. SlotIsThere page.now.slots n) }
 {
@@ -72,7 +72,7 @@ pub fn list_chain(
             break;
         }
         visited.push(n);
-        at = next(page, n, statuses);
+        at = next_in_chain(page, n, statuses);
     }
 }
 

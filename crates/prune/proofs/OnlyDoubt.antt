@@ -8,7 +8,7 @@ use Rattle.page_slots.specs.Slots.{header_at}
 use Rattle.tuple_header.specs.Version.{Version}
 use Rattle.commit_status.specs.Window.{Window}
 use Rattle.space_maps.specs.Hints.{AddsDoubt}
-use Rattle.hot_chain.specs.Chain.{has_aborted, first_of, IsChain}
+use Rattle.hot_chain.specs.Chain.{has_aborted, first_of, next_in_chain, IsChain}
 use Rattle.hot_chain.proofs.Chains.{chain-one, distinct-places, any-contains, contains-any, root-there}
 use Rattle.prune_actions.specs.declared.Action.{Action}
 use Rattle.prune_actions.specs.declared.Action.TheVariants as action
@@ -21,7 +21,7 @@ use Rattle.prune.specs.Cutting.{IsCutCount}
 use Rattle.prune.specs.Pruning.{root_action, chain_action, orphan_action, IsInChainOf, PrunesSlot, by_root, IsPlan}
 use Rattle.prune.specs.Marks.{NoneDead, IsSpared}
 use Rattle.prune.specs.Glances.{IsPlainAt, ArePlainBut, AreDoubts}
-use Rattle.prune.specs.OneDoubt.{BeginsIn, AreThose, first_cut}
+use Rattle.prune.specs.OneDoubt.{BeginsIn, AreThose, second_of, first_cut}
 use Rattle.prune.proofs.Passed.{kept-alive}
 use Rattle.prune.proofs.Idle.{spared-does, nothing-lost}
 use Rattle.prune.proofs.Stays.{stays-none_dead}
@@ -29,6 +29,7 @@ use Rattle.prune.proofs.Glancing.{starts-stays}
 use Rattle.prune.proofs.Doubting.{plain-there}
 use Rattle.prune.proofs.Planned.{does-has_target}
 use Rattle.prune.proofs.FirstCut.{NamesBoth, names-both}
+use Rattle.prune.proofs.Seconds.{chain-by_second}
 
 pub one-alone : (n m : ℕ) → Contains (n ∷ []) m → m ≡ n
 one-alone n m c =
@@ -151,10 +152,10 @@ module _ (w : Window) (horizon : ℕ) (slots : List Slot) (n : ℕ) (few : lengt
     both = names-both (length slots) root n a (root-there slots root only.0.starts) (version-there slots n dead.version dead.there)
         (does-has_target w horizon slots root (Some a) a root-does refl)
 
-    pub cut-can : CanApply (length slots) (first_cut root n a)
+    cut-can : CanApply (length slots) (first_cut root n a)
     cut-can = both.can
 
-    pub cut-plan : IsPlan w horizon slots (first_cut root n a)
+    cut-plan : IsPlan w horizon slots (first_cut root n a)
     cut-plan = record {
       in_order = both.in_order;
       exact = λ m there. ⊎_elim
@@ -167,6 +168,18 @@ module _ (w : Window) (horizon : ℕ) (slots : List Slot) (n : ℕ) (few : lengt
           (cases_eq m n))
           (cases_eq m root);
     }
+
+  -- the same by where the chain goes on from there
+
+  module _ (root : ℕ) (next : Option ℕ) (a : Action) (dead : IsDeadAt w horizon slots n) (only : AreThose (BeginsIn slots n) (One root)) (goes_on : next_in_chain (has_aborted w) slots n ≡ next) (becomes : root_action 1 (second_of n next) ≡ Some a) where
+    held : (chain : List ℕ) × IsChain (has_aborted w) slots root chain × (slice_get chain 1 ≡ second_of n next)
+    held = chain-by_second w slots root n next only.0.first goes_on other-plain
+
+    pub second-can : CanApply (length slots) (first_cut root n a)
+    second-can = cut-can root held.0 a dead only held.1 (ap (root_action 1) held.2 ∙ becomes)
+
+    pub second-plan : IsPlan w horizon slots (first_cut root n a)
+    second-plan = cut-plan root held.0 a dead only held.1 (ap (root_action 1) held.2 ∙ becomes)
 
 -- The only doubt.
 

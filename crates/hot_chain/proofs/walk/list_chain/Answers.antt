@@ -33,8 +33,8 @@ walk-preserved c =
     let first = first_of c.args.page.now.slots c.args.number in
     let w : Walk next first c.walk.visited.items (Some c.in-Some.n) = subst (Walk next first c.walk.visited.items) c.in-Some.is c.walk.invariant in
     let new = new-from_contains c.in-Some.n c.walk.visited.items c.deref.result.now false c.deref.ensures.0 (sym c.if-contains.ensures.value) in
-    rw c.push.ensures.items (walk-more next first c.walk.visited.items c.in-Some.n c.next-at.result w new c.next-at.ensures.value
-    (small-from_there c.next-at.result _ c.next-at.ensures.there few))
+    rw c.push.ensures.items (walk-more next first c.walk.visited.items c.in-Some.n c.next_in_chain-at.result w new c.next_in_chain-at.ensures.value
+    (small-from_there c.next_in_chain-at.result _ c.next_in_chain-at.ensures.there few))
 
 pub returns-then-contains : goal.returns-then-contains
 returns-then-contains c =
