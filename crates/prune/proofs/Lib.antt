@@ -29,4 +29,5 @@ pub mod RoomLemmas
 pub mod Doubting
 pub mod FirstCut
 pub mod OnlyDoubt
+pub mod Seconds
 pub mod Redirects

@@ -1,5 +1,5 @@
 -- Pages on which one version alone may be dead: the chains that begin there, and what becomes of their roots.
-use Rattle.std.specs.Prelude.{◌≡◌, ◌≢◌, ℕ, ◌<◌, ◌≤◌, true, nat_lt, List, [], ◌∷◌, Option, Some, if◌then◌else◌, MatchOption}
+use Rattle.std.specs.Prelude.{◌≡◌, ◌≢◌, ℕ, ◌<◌, ◌≤◌, true, nat_lt, ◌==◌, List, [], ◌∷◌, Option, Some, None, if◌then◌else◌, MatchOption}
 use Rattle.xid_circle.specs.Numbers.{SlotNo}
 use Rattle.page_slots.specs.declared.slot.Slot.{Slot}
 use Rattle.page_slots.specs.declared.slot.Slot.TheVariants.{Redirect}
@@ -30,6 +30,11 @@ abbrev pub AreThose : (SlotNo → Type 0) → SlotsOfKind → Type 0
 AreThose Q NoSlot = (n : ℕ) → ¬ Q n
 AreThose Q (One only) = Q only × ((n : ℕ) → Q n → n ≡ only)
 AreThose Q Several = (a b : ℕ) × Q a × Q b × (a ≢ b)
+
+-- the second slot of a chain that begins in this one and goes on so, if it has another
+abbrev pub second_of : (start : SlotNo) → (next : Option SlotNo) → Option SlotNo
+second_of start None = None
+second_of start (Some next) = if next == start then None else Some next
 
 -- What is done, in order of slots, where the first version of a root's chain goes alone: the root becomes what this action makes of it,
 -- and the version's slot unused, unless it is the root.

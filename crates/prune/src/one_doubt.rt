@@ -1,20 +1,19 @@
-//! The plan of a page on which one version alone may be dead, now or later. It marks no slot, and lists those of one chain.
+//! The plan of a page on which one version alone may be dead, now or later. It marks no slot, and lists no chain.
 
-ghost use Rattle.std.specs.Prelude.{◌≡◌, ◌≤◌, ◌<◌, [], ◌∷◌, false, IsTrue, IfSome, Some, length, slice_get};
+ghost use Rattle.std.specs.Prelude.{◌≡◌, ◌≤◌, ◌<◌, [], ◌∷◌, false, IsTrue, IfSome, Some, length};
 ghost use Rattle.page_slots.specs.Slots.{slot_at, SlotIsThere, IsNormalAt, redirects_to, the_slot};
 ghost use Rattle.sound_page.specs.Dead.{IsDeadAt};
 ghost use Rattle.prune.specs.Actions.{CanApply};
 ghost use Rattle.prune.specs.Pruning.{root_action, IsPlan};
 ghost use Rattle.prune.specs.Glances.{ArePlainBut, AreDoubts};
-ghost use Rattle.prune.specs.OneDoubt.{IsRedirectTo, IsFirstRedirect, BeginsIn, AreThose, first_cut};
+ghost use Rattle.prune.specs.OneDoubt.{IsRedirectTo, IsFirstRedirect, BeginsIn, AreThose, second_of, first_cut};
 
 use crate::action::Actions;
 use crate::dead::is_dead_at;
-use crate::glance::{Numbers, is_plain_at};
+use crate::glance::is_plain_at;
 use crate::planning::orphan_action;
-use arrayvec::ArrayVec;
 use commit_status::StatusTable;
-use hot_chain::{is_root, list_chain};
+use hot_chain::{is_root, next_in_chain};
 use page_slots::{Page, SlotHead};
 use prune_actions::Action;
 use space_maps::{DOUBT_PLACES, Doubts, with_doubt};
@@ -132,12 +131,18 @@ fn list_both(actions: &mut Actions, root: u16, start: u16, action: Action)
     }
 }
 
-/// What becomes of a root when the first version of its chain goes alone.
-fn first_action(chain: &[u16]) -> Action
-    ensures { Some result ≡ root_action 1 (slice_get chain.now 1) }
+/// What becomes of a root when the first version of its chain goes alone, which is in this slot, and leads to the next, if to any.
+fn first_action(start: u16, next: Option<u16>) -> Action
+    ensures { Some result ≡ root_action 1 (second_of start next) }
 {
-    match chain.get(1) {
-        Some(next) => Action::Redirect(*next),
+    match next {
+        Some(next) => {
+            if next == start {
+                Action::Kill
+            } else {
+                Action::Redirect(next)
+            }
+        }
         None => Action::Kill,
     }
 }
@@ -160,9 +165,8 @@ fn list_cut(
     ensures exact { IsPlan statuses.now horizon.0 page.now.slots actions.new.items }
 {
     let _limit = page.slots();
-    let mut chain: Numbers = ArrayVec::new();
-    list_chain(page, root, statuses, &mut chain);
-    let action = first_action(chain.as_slice());
+    let next = next_in_chain(page, start, statuses);
+    let action = first_action(start, next);
     list_both(actions, root, start, action);
 }
 
