@@ -1,9 +1,9 @@
 -- The head of a page, and its slots, as C reads them.
 use Rattle.std.specs.Prelude.{ℕ, length, Option, slice_get}
 use Rattle.std.specs.Option.{option_and_then, option_map}
-use Rattle.page_slots.specs.Slots.{slot_at}
-use Rattle.page_slots.specs.declared.slot.Slot.{Slot}
-use Rattle.page_slots.specs.declared.slot.Slot.TheVariants.{Unused, Normal, Redirect, Dead}
+use Rattle.page_sheet.specs.Slots.{slot_at}
+use Rattle.page_sheet.specs.declared.slot.Slot.{Slot}
+use Rattle.page_sheet.specs.declared.slot.Slot.TheVariants.{Unused, Normal, Redirect, Dead}
 use Rattle.page_slots.specs.View.{PageView}
 use Rattle.space_maps.specs.View.{mark_on}
 use Rattle.session_steps.specs.State.{State, bits_of}

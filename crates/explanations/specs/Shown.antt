@@ -3,8 +3,8 @@ use Rattle.std.specs.Prelude.{◌≡◌, ◌≤◌, ℕ, pos, List, length, Opti
 use Rattle.std.specs.Option.{option_map}
 use Rattle.xid_circle.specs.Numbers.{Key, SlotNo, Count}
 use Rattle.xid_circle.specs.declared.Tid.{Tid}
-use Rattle.page_slots.specs.declared.slot.Slot.{Slot}
-use Rattle.page_slots.specs.Slots.{version_at}
+use Rattle.page_sheet.specs.declared.slot.Slot.{Slot}
+use Rattle.page_sheet.specs.Slots.{version_at}
 use Rattle.tuple_header.specs.Version.{Version}
 use Rattle.commit_status.specs.Window.{Window}
 use Rattle.snapshot.specs.Snap.{Snap}

@@ -1,9 +1,9 @@
 -- A page is frozen slot by slot, and its mark is made up on the way.
 use Rattle.std.proofs.Common.{◌≡◌, ℕ, ◌+◌, ◌≤◌, List, [], ◌∷◌, ◌++◌, length, if◌then◌else◌, arith, refl, subst, sym, ◌∙◌}
-use Rattle.page_slots.specs.Slots.{slot_at, the_slot, is_dead}
-use Rattle.page_slots.specs.declared.slot.Slot.{Slot}
+use Rattle.page_sheet.specs.Slots.{slot_at, the_slot, is_dead}
+use Rattle.page_sheet.specs.declared.slot.Slot.{Slot}
 use Rattle.page_slots.specs.View.{PageView}
-use Rattle.page_slots.proofs.SlotLemmas.{slot_at-there, the_slot-from_slot_at, slot_at-with_slot_other}
+use Rattle.page_sheet.proofs.SlotLemmas.{slot_at-there, the_slot-from_slot_at, slot_at-with_slot_other}
 use Rattle.commit_status.specs.Window.{Window}
 use Rattle.space_maps.specs.declared.mark.Mark.{Mark}
 use Rattle.space_maps.specs.declared.mark.Mark.TheVariants.{AllFrozen}

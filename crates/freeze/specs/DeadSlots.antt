@@ -1,9 +1,9 @@
 -- The dead slots of a page.
 use Rattle.std.specs.Prelude.{◌≡◌, ◌↔◌, ◌<◌, ℕ, List, [], ◌∷◌, ◌++◌, Some, Contains, if◌then◌else◌}
 use Rattle.std.specs.List.{AllPairs}
-use Rattle.page_slots.specs.declared.slot.Slot.{Slot}
-use Rattle.page_slots.specs.declared.slot.Slot.TheVariants.{Dead}
-use Rattle.page_slots.specs.Slots.{slot_at, the_slot, is_dead}
+use Rattle.page_sheet.specs.declared.slot.Slot.{Slot}
+use Rattle.page_sheet.specs.declared.slot.Slot.TheVariants.{Dead}
+use Rattle.page_sheet.specs.Slots.{slot_at, the_slot, is_dead}
 
 -- the numbers of the dead slots, in ascending order
 pub record ListsDead (slots : List Slot) (numbers : List ℕ) : Type 0 where

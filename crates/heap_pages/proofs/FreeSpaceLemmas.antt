@@ -6,7 +6,7 @@ use Rattle.std.proofs.Math.Seq.{map-set_same}
 use Rattle.std.proofs.lemmas.List.{length-map, map-append, map-set}
 use Rattle.std.proofs.lemmas.Option.{slice_get_cases, slice_get-map, slice_get_within, get_or_from_slice_get}
 use Rattle.page_slots.specs.View.{PageView}
-use Rattle.page_slots.specs.Slots.{room_of}
+use Rattle.page_sheet.specs.Slots.{room_of}
 use Rattle.space_maps.specs.FreeSpace.{NoByte, FindsRoom}
 use Rattle.heap_pages.specs.View.{free_space_bytes}
 use Rattle.heap_pages.specs.Choice.{free_byte_of, Promises, HasRoom, FindsFirstPage}

@@ -2,7 +2,7 @@
 -- (src/backend/storage/freespace/README: one byte, in units of a 256th of a page). The order of choice is this project's.
 use Rattle.std.specs.Prelude.{◌≡◌, ℕ, ◌*◌, ◌/◌, ◌<◌, ◌≤◌, min, List, length, Option, Some, None, slice_get}
 use Rattle.page_slots.specs.View.{PageView}
-use Rattle.page_slots.specs.Slots.{room_of}
+use Rattle.page_sheet.specs.Slots.{room_of}
 use Rattle.heap_pages.specs.declared.pages.Placement.{Placement}
 use Rattle.heap_pages.specs.declared.pages.Placement.TheVariants.{Page, NewPage, Nowhere}
 

@@ -6,7 +6,7 @@ use Rattle.std.specs.declared.sync.Arc.{Arc}
 use Rattle.std.specs.declared.boxed.Box.{Box}
 use Rattle.std.specs.declared.alloc.Global.{Global}
 use Rattle.page_slots.specs.View.{PageView}
-use Rattle.page_slots.specs.Slots.{room_of}
+use Rattle.page_sheet.specs.Slots.{room_of}
 use Rattle.space_maps.specs.View.{MarksView, says_visible}
 use Rattle.space_maps.specs.FreeSpace.{FreeView}
 use Rattle.space_maps.specs.declared.mark.Mark.{Mark}

@@ -1,7 +1,7 @@
 //! The choice of a page: the first that has room.
 
 ghost use Rattle.std.specs.Prelude.{◌≡◌, ◌≤◌, IsTrue, ◌↔◌, length};
-ghost use Rattle.page_slots.specs.Slots.{room_of};
+ghost use Rattle.page_sheet.specs.Slots.{room_of};
 ghost use Rattle.heap_pages.specs.Choice.{free_byte_of, HasRoom, FindsFirstPage};
 ghost use Rattle.heap_pages.specs.View.{free_space_bytes};
 ghost use Rattle.heap_pages.specs.declared.pages.TheConstants.{MOST_PAGES};

@@ -4,11 +4,11 @@ use Rattle.std.specs.Option.{option_and_then}
 use Rattle.std.proofs.lemmas.Option.{same_Some, none-some}
 use Rattle.std.proofs.lemmas.Bool.{cases_eq}
 use Rattle.xid_circle.specs.declared.Xid.{Xid}
-use Rattle.page_slots.specs.declared.slot.Slot.{Slot}
-use Rattle.page_slots.specs.declared.slot.Slot.TheVariants.{Normal}
+use Rattle.page_sheet.specs.declared.slot.Slot.{Slot}
+use Rattle.page_sheet.specs.declared.slot.Slot.TheVariants.{Normal}
 use Rattle.page_slots.specs.View.{PageView}
-use Rattle.page_slots.specs.Slots.{version_at, version_of, with_slot, with_added, free_number, IsNormalAt, SlotIsThere}
-use Rattle.page_slots.proofs.SlotLemmas.{normal_at, same_or_other, slot_at-with_added, slot_at-with_added_other, slot_at-with_slot, slot_at-with_slot_other, length-with_slot, version_at-from_slot_at}
+use Rattle.page_sheet.specs.Slots.{version_at, version_of, with_slot, with_added, free_number, IsNormalAt, SlotIsThere}
+use Rattle.page_sheet.proofs.SlotLemmas.{normal_at, same_or_other, slot_at-with_added, slot_at-with_added_other, slot_at-with_slot, slot_at-with_slot_other, length-with_slot, version_at-from_slot_at}
 use Rattle.tuple_header.specs.Version.{Version}
 use Rattle.tuple_header.specs.declared.version.Header.{Header}
 use Rattle.tuple_header.specs.declared.version.Row.{Row}

@@ -6,9 +6,9 @@ use Rattle.std.proofs.lemmas.Bool.{cases_Bool}
 use Rattle.std.proofs.lemmas.List.{length_push, length-map, length-take-le, get_or-take, get_or_default, get_or-map, map_more, take-map, take_all}
 use Rattle.std.proofs.lemmas.List.Elements.{Contains-append_left, Contains-push, Contains-push_cases}
 use Rattle.xid_circle.specs.declared.Tid.{Tid}
-use Rattle.page_slots.specs.declared.slot.Slot.{Slot}
-use Rattle.page_slots.specs.declared.slot.Slot.TheVariants.{Unused, Dead}
-use Rattle.page_slots.specs.Slots.{slot_at, next_change}
+use Rattle.page_sheet.specs.declared.slot.Slot.{Slot}
+use Rattle.page_sheet.specs.declared.slot.Slot.TheVariants.{Unused, Dead}
+use Rattle.page_sheet.specs.Slots.{slot_at, next_change}
 use Rattle.page_slots.specs.View.{PageView}
 use Rattle.hot_chain.proofs.Chains.{contains-any, any-contains}
 use Rattle.prune.specs.Actions.{raised}

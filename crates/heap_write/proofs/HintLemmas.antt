@@ -10,7 +10,7 @@ use Rattle.xid_circle.specs.declared.Tid.{Tid}
 use Rattle.tuple_header.specs.declared.version.Row.{Row}
 use Rattle.tuple_writes.specs.Writes.{with_root, with_updated}
 use Rattle.page_slots.specs.View.{PageView}
-use Rattle.page_slots.specs.Slots.{IsNormalAt}
+use Rattle.page_sheet.specs.Slots.{IsNormalAt}
 use Rattle.commit_status.specs.declared.status.Status.{Status}
 use Rattle.commit_status.specs.declared.status.Status.TheVariants.{Aborted}
 use Rattle.commit_status.specs.Window.{Window, IsWindow, IsAborted, IsUpToNext, turns}

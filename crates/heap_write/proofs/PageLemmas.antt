@@ -6,7 +6,7 @@ use Rattle.std.proofs.lemmas.List.{get_or_past, get_or-set_same, get_or-set_othe
 use Rattle.xid_circle.specs.declared.Tid.{Tid}
 use Rattle.page_slots.specs.View.{PageView}
 use Rattle.heap_pages.specs.View.{PagesView, with_page}
-use Rattle.page_slots.specs.Slots.{IsNormalAt, row_at, room_of}
+use Rattle.page_sheet.specs.Slots.{IsNormalAt, row_at, room_of}
 use Rattle.table_indexes.specs.Indexes.{SameEntries}
 use Rattle.table_indexes.proofs.Columns.{entries-then}
 use Rattle.table_indexes.proofs.IndexLemmas.{same-entries}

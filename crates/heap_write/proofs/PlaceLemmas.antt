@@ -5,7 +5,7 @@ use Rattle.std.proofs.lemmas.Option.{slice_get-get_or, slice_get_within, same_So
 use Rattle.std.proofs.lemmas.List.{length-set}
 use Rattle.std.proofs.Math.Nat.{min-le_left}
 use Rattle.page_slots.specs.View.{PageView}
-use Rattle.page_slots.specs.Slots.{room_of}
+use Rattle.page_sheet.specs.Slots.{room_of}
 use Rattle.heap_pages.specs.Choice.{free_byte_of, Promises, HasRoom, NoPage, IsFirstPage, IsPlaceFor}
 use Rattle.heap_pages.specs.Choice.IsPlaceFor.{by_byte, on_new_page, by_room, nowhere}
 use Rattle.heap_pages.specs.declared.pages.Placement.{Placement}

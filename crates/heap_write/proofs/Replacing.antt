@@ -3,7 +3,7 @@ use Rattle.std.proofs.Common.{◌≡◌, ℕ, ◌<◌, Bool, List, length, subst
 use Rattle.std.specs.Prelude.{IsFalse, IsTrue, ◌↔◌}
 use Rattle.std.proofs.lemmas.Bool.{iff_false}
 use Rattle.xid_circle.specs.declared.Tid.{Tid}
-use Rattle.page_slots.specs.Slots.{room_of}
+use Rattle.page_sheet.specs.Slots.{room_of}
 use Rattle.snapshot.specs.Own.{Own}
 use Rattle.prune_actions.specs.declared.Action.{Action}
 use Rattle.prune.specs.Actions.{applied}

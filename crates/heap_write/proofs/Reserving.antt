@@ -8,7 +8,7 @@ use Rattle.tuple_header.specs.declared.version.Row.{Row}
 use Rattle.tuple_header.specs.Version.{rounded_size_of}
 use Rattle.snapshot.specs.Own.{Own}
 use Rattle.page_slots.specs.View.{PageView}
-use Rattle.page_slots.specs.Slots.{room_of}
+use Rattle.page_sheet.specs.Slots.{room_of}
 use Rattle.heap_pages.specs.View.{PagesView}
 use Rattle.heap_pages.specs.Choice.{HasRoom, IsPlaceFor}
 use Rattle.heap_pages.specs.declared.pages.Placement.TheVariants as to

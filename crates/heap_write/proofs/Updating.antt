@@ -7,7 +7,7 @@ use Rattle.xid_circle.specs.declared.Tid.{Tid}
 use Rattle.tuple_header.specs.declared.version.Row.{Row}
 use Rattle.tuple_header.specs.Version.{rounded_size_of}
 use Rattle.page_slots.specs.View.{PageView}
-use Rattle.page_slots.specs.Slots.{room_of}
+use Rattle.page_sheet.specs.Slots.{room_of}
 use Rattle.heap_pages.specs.Choice.{HasRoom}
 use Rattle.commit_status.specs.Window.{Window, IsWindow}
 use Rattle.snapshot.specs.Own.{Own, unassigned_levels}

@@ -6,7 +6,7 @@ use Rattle.xid_circle.specs.declared.Tid.{Tid}
 use Rattle.tuple_header.specs.declared.version.Row.{Row}
 use Rattle.tuple_header.specs.Version.{rounded_size_of}
 use Rattle.page_slots.specs.View.{PageView}
-use Rattle.page_slots.specs.Slots.{room_of, free_number, next_change, row_at, IsNormalAt}
+use Rattle.page_sheet.specs.Slots.{room_of, free_number, next_change, row_at, IsNormalAt}
 use Rattle.snapshot.specs.Own.{Own}
 use Rattle.std.proofs.lemmas.Option.{slice_get_within}
 use Rattle.tuple_writes.specs.Writes.{with_root, with_updated, replaced_change, PutsXmax, AddsToPage}

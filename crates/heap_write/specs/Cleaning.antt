@@ -4,9 +4,9 @@
 use Rattle.std.specs.Prelude.{◌≡◌, ◌≢◌, ◌↔◌, ℕ, List, length, Option, Some, slice_get, slice_set, Contains}
 use Rattle.xid_circle.specs.Numbers.{Id, PageNo, SlotNo}
 use Rattle.xid_circle.specs.declared.Tid.{Tid}
-use Rattle.page_slots.specs.declared.slot.Slot.{Slot}
-use Rattle.page_slots.specs.declared.slot.Slot.TheVariants.{Unused, Dead}
-use Rattle.page_slots.specs.Slots.{slot_at}
+use Rattle.page_sheet.specs.declared.slot.Slot.{Slot}
+use Rattle.page_sheet.specs.declared.slot.Slot.TheVariants.{Unused, Dead}
+use Rattle.page_sheet.specs.Slots.{slot_at}
 use Rattle.page_slots.specs.View.{PageView}
 use Rattle.commit_status.specs.Changes.{Truncates}
 use Rattle.prune.specs.Actions.{raised}

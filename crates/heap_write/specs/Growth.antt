@@ -2,7 +2,7 @@
 use Rattle.std.specs.Prelude.{◌≡◌, ℕ, ◌<◌, ◌≤◌, Bool, false, List, [], length, Option, Some, None, slice_index_or}
 use Rattle.tuple_header.specs.declared.version.Row.{Row}
 use Rattle.page_slots.specs.View.{PageView}
-use Rattle.page_slots.specs.Slots.{room_of, free_number, next_change}
+use Rattle.page_sheet.specs.Slots.{room_of, free_number, next_change}
 use Rattle.tuple_writes.specs.Writes.{with_root}
 use Rattle.heap_pages.specs.View.{PagesView}
 use Rattle.heap_pages.specs.declared.pages.Placement.{Placement}

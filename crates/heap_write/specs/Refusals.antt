@@ -8,7 +8,7 @@ use Rattle.commit_status.specs.Window.{IsWindow}
 use Rattle.tuple_header.specs.declared.version.Row.{Row}
 use Rattle.tuple_header.specs.Version.{rounded_size_of}
 use Rattle.snapshot.specs.Own.{Own, unassigned_levels}
-use Rattle.page_slots.specs.Slots.{room_of, IsNormalAt}
+use Rattle.page_sheet.specs.Slots.{room_of, IsNormalAt}
 use Rattle.heap_pages.specs.Choice.{IsPlaceFor}
 use Rattle.heap_pages.specs.declared.pages.Placement.TheVariants.{NewPage}
 use Rattle.table_indexes.specs.Indexes.{NeedsEntry}

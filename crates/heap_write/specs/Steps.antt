@@ -9,7 +9,7 @@ use Rattle.prune_actions.specs.declared.Action.{Action}
 use Rattle.prune.specs.Actions.{CanApply, applied}
 use Rattle.prune.specs.Pruning.{IsPlan}
 use Rattle.prune.specs.Room.{IsPlanOf}
-use Rattle.page_slots.specs.Slots.{IsNormalAt}
+use Rattle.page_sheet.specs.Slots.{IsNormalAt}
 use Rattle.heap_pages.specs.View.{with_page}
 use Rattle.heap_write.specs.Heap.{HeapView, page_on}
 use Rattle.heap_write.specs.Growth.{place_of_target}

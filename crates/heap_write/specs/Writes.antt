@@ -7,7 +7,7 @@ use Rattle.xid_circle.specs.declared.Tid.{Tid}
 use Rattle.tuple_header.specs.declared.version.Row.{Row}
 use Rattle.tuple_header.specs.Version.{rounded_size_of}
 use Rattle.page_slots.specs.View.{PageView}
-use Rattle.page_slots.specs.Slots.{room_of, free_number, next_change, row_at, IsNormalAt}
+use Rattle.page_sheet.specs.Slots.{room_of, free_number, next_change, row_at, IsNormalAt}
 use Rattle.snapshot.specs.Own.{Own}
 use Rattle.prune_actions.specs.declared.Action.{Action}
 use Rattle.prune.specs.Actions.{applied}

@@ -3,8 +3,8 @@
 ghost use Rattle.std.specs.Prelude.{◌≡◌, ◌<◌, ℕ, [], ◌∷◌, Some, MatchOption, Contains, length, map, slice_get};
 ghost use Rattle.std.specs.List.{AllPairs};
 ghost use Rattle.xid_circle.specs.declared.Tid.{Tid as Place};
-ghost use Rattle.page_slots.specs.declared.slot.Slot.TheVariants.{Dead};
-ghost use Rattle.page_slots.specs.Slots.{slot_at, next_change};
+ghost use Rattle.page_sheet.specs.declared.slot.Slot.TheVariants.{Dead};
+ghost use Rattle.page_sheet.specs.Slots.{slot_at, next_change};
 ghost use Rattle.commit_status.specs.Window.{IsWindow, IsUpToNext};
 ghost use Rattle.prune.specs.Actions.{raised};
 ghost use Rattle.table_indexes.specs.Indexes.{IsInUse, HasIndexes, IsNextIndex, all_entries};

@@ -6,7 +6,7 @@
 ghost use Rattle.std.specs.Prelude.{◌≡◌, ℕ, ◌≤◌, ◌<◌, IfErr, IfOk, IfSome, OnErr, OnOk};
 ghost use Rattle.commit_status.specs.Window.{IsWindow};
 ghost use Rattle.snapshot.specs.Own.{unassigned_levels};
-ghost use Rattle.page_slots.specs.Slots.{room_of};
+ghost use Rattle.page_sheet.specs.Slots.{room_of};
 ghost use Rattle.tuple_header.specs.Version.{rounded_size_of};
 ghost use Rattle.prune.specs.Actions.{applied};
 ghost use Rattle.table_indexes.specs.Indexes.{HasEntries};

@@ -2,7 +2,7 @@
 
 ghost use Rattle.std.specs.Prelude.{◌≡◌, ◌≤◌, ◌⊎◌, false, IfErr, IfOk, OnErr};
 ghost use Rattle.xid_circle.specs.Circle.{IsNormal};
-ghost use Rattle.page_slots.specs.Slots.{free_number};
+ghost use Rattle.page_sheet.specs.Slots.{free_number};
 ghost use Rattle.tuple_header.specs.Version.{rounded_size_of};
 ghost use Rattle.commit_status.specs.Window.{IsWindow};
 ghost use Rattle.table_indexes.specs.Indexes.{HasEntries, NeedsEntry};

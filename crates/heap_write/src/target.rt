@@ -2,7 +2,7 @@
 
 ghost use Rattle.std.specs.Prelude.{◌≡◌, ◌≤◌, ◌<◌, IfOk, IfSome, OnOk, OnErr};
 ghost use Rattle.xid_circle.specs.Circle.{IsNormal};
-ghost use Rattle.page_slots.specs.Slots.{free_number};
+ghost use Rattle.page_sheet.specs.Slots.{free_number};
 ghost use Rattle.tuple_header.specs.Version.{rounded_size_of};
 ghost use Rattle.heap_pages.specs.Choice.{IsPlaceFor};
 ghost use Rattle.heap_write.specs.Growth.{SamePages, page_in, IsFreshPage, IsReserved, place_of_target, target_number, PutsVersion};

@@ -2,7 +2,7 @@
 
 ghost use Rattle.std.specs.Prelude.{◌≡◌, ℕ, ◌≤◌, ◌⊎◌, IfSome, IsFalse, IsSome, IsTrue, OnErr, OnOk, ◌↔◌};
 ghost use Rattle.snapshot.specs.Own.{unassigned_levels};
-ghost use Rattle.page_slots.specs.Slots.{room_of, row_at};
+ghost use Rattle.page_sheet.specs.Slots.{room_of, row_at};
 ghost use Rattle.tuple_header.specs.Version.{rounded_size_of};
 ghost use Rattle.table_indexes.specs.Indexes.{HasEntries, NeedsEntry, SameValues};
 ghost use Rattle.heap_write.specs.Heap.{page_on, Keeps};

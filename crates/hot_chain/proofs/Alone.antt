@@ -2,9 +2,9 @@
 use Rattle.std.proofs.Common.{◌≡◌, ℕ, Bool, false, nat_eq, List, [], ◌∷◌, Some, None, arith, sym, ap, ◌∙◌, refl, subst}
 use Rattle.std.specs.List.{IsDistinct}
 use Rattle.std.specs.Option.{option_and_then}
-use Rattle.page_slots.specs.declared.slot.Slot.{Slot}
-use Rattle.page_slots.specs.Slots.{header_at}
-use Rattle.page_slots.proofs.SlotLemmas.{version-from_header, slot_at-from_version_at}
+use Rattle.page_sheet.specs.declared.slot.Slot.{Slot}
+use Rattle.page_sheet.specs.Slots.{header_at}
+use Rattle.page_sheet.proofs.SlotLemmas.{version-from_header, slot_at-from_version_at}
 use Rattle.tuple_header.specs.declared.version.Header.{Header}
 use Rattle.tuple_header.specs.Marks.{is_hot_updated}
 use Rattle.hot_chain.specs.Chain.{is_replaced, successor, start_in, first_of, IsChain, IsEnd}

@@ -5,7 +5,7 @@ use Rattle.std.proofs.lemmas.List.{ext_get_or, get_or_default}
 use Rattle.std.proofs.lemmas.Map.Keys.{apart_from_distinct}
 use Rattle.std.proofs.lemmas.Option.{slice_get-get_or, slice_get_past}
 use Rattle.std.specs.List.{IsDistinct, list_any, Contains}
-use Rattle.page_slots.specs.declared.slot.Slot.{Slot}
+use Rattle.page_sheet.specs.declared.slot.Slot.{Slot}
 use Rattle.hot_chain.specs.Chain.{next_in_chain, IsEnd, IsChain, is_root, is_root_in, LeadsTo}
 
 pub by-test : {P : Type 0} (b : Bool) → (b ≡ true → P) → (b ≡ false → P) → P

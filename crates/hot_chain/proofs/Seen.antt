@@ -1,8 +1,8 @@
 -- The first version of some slots that is seen.
 use Rattle.std.proofs.Common.{◌≡◌, ℕ, ◌<◌, List, length, get_or, Option, Some, sym, ◌∙◌, subst, refl}
-use Rattle.page_slots.specs.declared.slot.Slot.{Slot}
-use Rattle.page_slots.specs.Slots.{version_at, header_at}
-use Rattle.page_slots.proofs.SlotLemmas.{version-from_header}
+use Rattle.page_sheet.specs.declared.slot.Slot.{Slot}
+use Rattle.page_sheet.specs.Slots.{version_at, header_at}
+use Rattle.page_sheet.proofs.SlotLemmas.{version-from_header}
 use Rattle.tuple_header.specs.Version.{Version}
 use Rattle.tuple_header.specs.declared.version.Header.{Header}
 use Rattle.hot_chain.specs.Chain.{IsSeenIn}

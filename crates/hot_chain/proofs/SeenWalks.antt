@@ -6,10 +6,10 @@ use Rattle.std.proofs.lemmas.Bool.{cases_lt}
 use Rattle.std.proofs.lemmas.Option.{same_Some, slice_get-get_or, slice_get_past}
 use Rattle.tuple_header.specs.Version.{Version}
 use Rattle.tuple_header.specs.declared.version.Header.{Header}
-use Rattle.page_slots.specs.declared.slot.Slot.{Slot}
-use Rattle.page_slots.specs.declared.slot.Slot.TheVariants.{Unused, Normal, Redirect, Dead}
-use Rattle.page_slots.specs.Slots.{slot_at, version_at, header_at}
-use Rattle.page_slots.proofs.SlotLemmas.{version-from_header, slot_at-from_version_at, there-from_slot_at}
+use Rattle.page_sheet.specs.declared.slot.Slot.{Slot}
+use Rattle.page_sheet.specs.declared.slot.Slot.TheVariants.{Unused, Normal, Redirect, Dead}
+use Rattle.page_sheet.specs.Slots.{slot_at, version_at, header_at}
+use Rattle.page_sheet.proofs.SlotLemmas.{version-from_header, slot_at-from_version_at, there-from_slot_at}
 use Rattle.hot_chain.specs.Chain.{start_in, first_of, is_made_by, successor, next_in_chain, IsChain, IsEnd, NoneSeen, IsSeenIn}
 use Rattle.hot_chain.proofs.Chains.{by-test, any-place}
 use Rattle.hot_chain.proofs.Seen.{seen-here}

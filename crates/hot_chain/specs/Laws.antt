@@ -1,6 +1,6 @@
 -- The law of chains.
 use Rattle.std.specs.Prelude.{◌≡◌, ℕ, Bool, List}
-use Rattle.page_slots.specs.declared.slot.Slot.{Slot}
+use Rattle.page_sheet.specs.declared.slot.Slot.{Slot}
 use Rattle.hot_chain.specs.Chain.{IsChain}
 
 -- a slot has one chain

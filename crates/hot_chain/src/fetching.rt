@@ -1,7 +1,7 @@
 //! The version of a chain that a reader sees.
 
 ghost use Rattle.std.specs.Prelude.{◌≡◌};
-ghost use Rattle.page_slots.specs.Slots.{version_at};
+ghost use Rattle.page_sheet.specs.Slots.{version_at};
 ghost use Rattle.visibility.specs.Reading.{IsSeenBy};
 ghost use Rattle.hot_chain.specs.Chain.{has_aborted, SeenAlong, Fetched};
 

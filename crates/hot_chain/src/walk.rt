@@ -1,7 +1,7 @@
 //! The walk along a chain. It trusts nothing that it reads: it returns on any page, and visits no slot twice.
 
 ghost use Rattle.std.specs.Prelude.{◌≡◌, IfSome};
-ghost use Rattle.page_slots.specs.Slots.{SlotIsThere};
+ghost use Rattle.page_sheet.specs.Slots.{SlotIsThere};
 ghost use Rattle.hot_chain.specs.Chain.{has_aborted, first_of, is_replaced, successor, next_in_chain, IsChain};
 ghost use Rattle.hot_chain.specs.Laws.{ChainIsOne};
 

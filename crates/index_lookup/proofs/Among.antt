@@ -8,10 +8,10 @@ use Rattle.xid_circle.specs.declared.Tid.{Tid}
 use Rattle.xid_circle.specs.declared.Xid.{Xid}
 use Rattle.tuple_header.specs.Version.{Version}
 use Rattle.tuple_header.specs.declared.version.Header.{Header}
-use Rattle.page_slots.specs.declared.slot.Slot.{Slot}
-use Rattle.page_slots.specs.Slots.{version_at, header_at}
+use Rattle.page_sheet.specs.declared.slot.Slot.{Slot}
+use Rattle.page_sheet.specs.Slots.{version_at, header_at}
 use Rattle.page_slots.specs.View.{PageView}
-use Rattle.page_slots.proofs.SlotLemmas.{version_at-none, version-from_header}
+use Rattle.page_sheet.proofs.SlotLemmas.{version_at-none, version-from_header}
 use Rattle.commit_status.specs.Window.{Window}
 use Rattle.visibility.proofs.Makers.{touch-cases}
 use Rattle.visibility.specs.Visible.{IsFrozen}

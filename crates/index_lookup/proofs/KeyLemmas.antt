@@ -9,7 +9,7 @@ use Rattle.index_lookup.specs.declared.index_scan.IndexPosition.{IndexPosition}
 use Rattle.index_lookup.specs.declared.index_scan.IndexRange.{IndexRange}
 use Rattle.hot_chain.specs.Chain.{has_aborted}
 use Rattle.hot_chain.proofs.Chains.{chain-one}
-use Rattle.page_slots.specs.declared.slot.Slot.{Slot}
+use Rattle.page_sheet.specs.declared.slot.Slot.{Slot}
 use Rattle.xid_circle.specs.declared.Tid.{Tid}
 use Rattle.index_lookup.specs.Pages.{page_slots_of, slots_on}
 use Rattle.index_lookup.specs.Looking.{FetchedAt, SomeAmong, SomeAt}

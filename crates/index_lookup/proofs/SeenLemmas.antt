@@ -5,9 +5,9 @@ use Rattle.std.proofs.lemmas.Option.{same_Some}
 use Rattle.tuple_header.specs.Version.{Version}
 use Rattle.tuple_header.specs.declared.version.Header.{Header}
 use Rattle.tuple_header.specs.declared.version.Row.{Row}
-use Rattle.page_slots.specs.declared.slot.Slot.{Slot}
-use Rattle.page_slots.specs.Slots.{version_at, header_at, row_at}
-use Rattle.page_slots.proofs.SlotLemmas.{version-from_header}
+use Rattle.page_sheet.specs.declared.slot.Slot.{Slot}
+use Rattle.page_sheet.specs.Slots.{version_at, header_at, row_at}
+use Rattle.page_sheet.proofs.SlotLemmas.{version-from_header}
 use Rattle.page_slots.specs.View.{PageView}
 use Rattle.index_lookup.specs.Walking.{NoneSeenFrom, IsSeenRow, SeenRow}
 use Rattle.index_lookup.specs.ByPlace.{IsSeenRowOf}

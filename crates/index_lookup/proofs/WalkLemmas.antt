@@ -5,7 +5,7 @@ use Rattle.std.proofs.lemmas.Int.{ints}
 use Rattle.std.proofs.lemmas.Option.{slice_get_within}
 use Rattle.tuple_header.specs.declared.version.Header.{Header}
 use Rattle.tuple_header.specs.declared.version.Row.{Row}
-use Rattle.page_slots.specs.declared.slot.Slot.{Slot}
+use Rattle.page_sheet.specs.declared.slot.Slot.{Slot}
 use Rattle.commit_status.specs.Window.{Window}
 use Rattle.index_entries.specs.declared.entry.Entry.{Entry}
 use Rattle.index_entries.specs.Order.{IsAscending}

@@ -5,8 +5,8 @@ use Rattle.xid_circle.specs.declared.Xid.{Xid}
 use Rattle.tuple_header.specs.Version.{Version}
 use Rattle.tuple_header.specs.declared.version.Header.{Header}
 use Rattle.tuple_header.specs.declared.version.Row.{Row}
-use Rattle.page_slots.specs.declared.slot.Slot.{Slot}
-use Rattle.page_slots.specs.Slots.{version_at}
+use Rattle.page_sheet.specs.declared.slot.Slot.{Slot}
+use Rattle.page_sheet.specs.Slots.{version_at}
 use Rattle.commit_status.specs.Window.{Window}
 use Rattle.hot_chain.specs.Chain.{has_aborted, IsChain, NoneSeen, IsSeenIn, Fetched}
 use Rattle.index_entries.specs.declared.entry.Entry.{Entry}

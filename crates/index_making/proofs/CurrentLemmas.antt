@@ -9,8 +9,8 @@ use Rattle.tuple_header.specs.Version.{Version}
 use Rattle.tuple_header.specs.declared.version.Header.{Header}
 use Rattle.tuple_header.specs.declared.version.Row.{Row}
 use Rattle.tuple_header.specs.Marks.{is_hot_updated}
-use Rattle.page_slots.specs.declared.slot.Slot.{Slot}
-use Rattle.page_slots.specs.Slots.{version_at, header_at, row_at}
+use Rattle.page_sheet.specs.declared.slot.Slot.{Slot}
+use Rattle.page_sheet.specs.Slots.{version_at, header_at, row_at}
 use Rattle.commit_status.specs.Window.{Window, next_id}
 use Rattle.snapshot.specs.Snap.{Snap, empty_at}
 use Rattle.visibility.specs.declared.reader.Reader.{Reader}

@@ -2,7 +2,7 @@
 use Rattle.std.specs.Prelude.{◌≡◌, true, false, [], replicate}
 use Rattle.tuple_header.specs.declared.version.TheConstants.{MOST_BODY, MOST_SLOTS}
 use Rattle.dead_places.specs.declared.dead_set.TheConstants.{MOST_PLACES}
-use Rattle.page_slots.specs.Slots.{room_of}
+use Rattle.page_sheet.specs.Slots.{room_of}
 use Rattle.root_index.specs.View.{free_places}
 use Rattle.heap_pages.specs.declared.pages.TheConstants.{MOST_PAGES}
 use Rattle.status_cache.specs.declared.cache.TheConstants.{MOST_STATUSES}

@@ -10,18 +10,19 @@ use Rattle.page_layout.specs.declared.faults.PageFault.{PageFault}
 use Rattle.page_layout.specs.declared.faults.PageFault.TheVariants.{Overlap}
 use Rattle.page_layout.specs.declared.pointer.Pointer.{Pointer}
 use Rattle.page_layout.specs.declared.pointer.Extent.{Extent}
-use Rattle.page_slots.specs.Slots.{bytes_taken}
+use Rattle.page_sheet.specs.Slots.{bytes_taken}
 use Rattle.page_layout.specs.Layout.{pointer_in, upper_in}
-use Rattle.page_slots.specs.Layout.{slot_in}
+use Rattle.page_sheet.specs.Layout.{slot_in}
 use Rattle.page_layout.specs.Sound.{IsExtent, AreApart, end_of}
 use Rattle.page_slots.specs.Faults.{overlap, overlaps_among, overlap_fault}
 use Rattle.page_layout.specs.Faults.{first_among}
 use Rattle.page_layout.specs.Units.{is_marked, units_marked, AreMarked, SomeIsMarked}
 use Rattle.page_slots.specs.Marking.{SomeLiesOn, IsCovered}
 use Rattle.page_layout.proofs.PointerLemmas.{rounded-up}
-use Rattle.page_slots.proofs.Shown.{shown}
+use Rattle.page_sheet.proofs.Shown.{shown}
 use Rattle.page_layout.proofs.OrderLemmas.{below_or_last, same_or_other}
-use Rattle.page_slots.proofs.HeaderSet.{same_extent}
+use Rattle.page_sheet.proofs.HeaderSet.{same_extent}
+use Rattle.page_sheet.proofs.PackLemmas.{rounded_even}
 use Rattle.page_layout.proofs.FirstLemmas.{first-more, none-each}
 use Rattle.page_layout.proofs.FaultLemmas.{none-of_one}
 use Rattle.page_layout.proofs.MarkLemmas.{counted-above}
@@ -151,9 +152,6 @@ apart-from_none bytes count i j none h k = ⊎_elim (λ same. inl same) (λ othe
     (same_or_other i j)
 
 -- Units.
-
-pub rounded_even : (n : ℕ) → next_multiple_of n 8 % 8 ≡ 0
-rounded_even n = grind (arith, nat_tests)
 
 -- where a version begins and ends
 record IsSpan (e : Extent) : Type 0 where

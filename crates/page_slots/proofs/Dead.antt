@@ -2,9 +2,9 @@
 use Rattle.std.proofs.Common.{◌≡◌, true, sym, Some, None, refl}
 use Rattle.std.specs.Prelude.{Option}
 use Rattle.std.proofs.lemmas.Bool.{true≢false}
-use Rattle.page_slots.specs.declared.slot.Slot.{Slot}
-use Rattle.page_slots.specs.declared.slot.Slot.TheVariants.{Unused, Normal, Redirect, Dead}
-use Rattle.page_slots.specs.Slots.{is_dead}
+use Rattle.page_sheet.specs.declared.slot.Slot.{Slot}
+use Rattle.page_sheet.specs.declared.slot.Slot.TheVariants.{Unused, Normal, Redirect, Dead}
+use Rattle.page_sheet.specs.Slots.{is_dead}
 
 pub dead-slot : (s : Slot) → (is_dead s ≡ true → Some s ≡ Some Dead) × (Some s ≡ Some Dead → is_dead s ≡ true)
 dead-slot Unused = (λ e. absurd (true≢false (sym e)), λ e. absurd (cc e))

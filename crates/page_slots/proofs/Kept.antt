@@ -8,16 +8,16 @@ use Rattle.std.proofs.lemmas.Option.{slice_get-get_or}
 use Rattle.std.specs.Prelude.{Option, Some, None, slice_get, unwrap_or}
 use Rattle.std.specs.Option.{option_map, option_and_then}
 use Rattle.std.proofs.Math.ListN.{length-set}
-use Rattle.page_slots.specs.declared.slot.Slot.{Slot}
-use Rattle.page_slots.specs.declared.slot.Slot.TheVariants.{Unused, Normal, Redirect, Dead}
+use Rattle.page_sheet.specs.declared.slot.Slot.{Slot}
+use Rattle.page_sheet.specs.declared.slot.Slot.TheVariants.{Unused, Normal, Redirect, Dead}
 use Rattle.tuple_header.specs.Hints.{same_but_hints}
 use Rattle.tuple_header.specs.declared.version.Header.{Header}
 use Rattle.tuple_header.specs.Version.{Version}
-use Rattle.page_slots.specs.declared.sheet.TheConstants.{MOST_BYTES}
+use Rattle.page_sheet.specs.declared.sheet.TheConstants.{MOST_BYTES}
 use Rattle.page_slots.specs.View.{AreTallied}
-use Rattle.page_slots.specs.Slots.{is_unused, bytes_taken, version_of, with_header, has_unused, free_number, with_added, free_bytes, room_of, differs_in_hints_alone}
-use Rattle.page_slots.proofs.SlotLemmas.{first_within, free_number-new, length-with_added}
-use Rattle.page_slots.proofs.FreeLemmas.{taken-after_added}
+use Rattle.page_sheet.specs.Slots.{is_unused, bytes_taken, version_of, with_header, has_unused, free_number, with_added, free_bytes, room_of, differs_in_hints_alone}
+use Rattle.page_sheet.proofs.SlotLemmas.{first_within, free_number-new, length-with_added}
+use Rattle.page_sheet.proofs.FreeLemmas.{taken-after_added}
 
 -- a slot that takes as many bytes as the one that was there, and is unused where that was
 pub kept_as_before : (slots : List Slot) (free bytes i : ℕ) (old new : Slot) → i < length slots → get_or slots i Unused ≡ old

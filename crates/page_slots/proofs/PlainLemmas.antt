@@ -8,16 +8,16 @@ use Rattle.tuple_header.specs.Marks.{is_heap_only}
 use Rattle.tuple_header.specs.Version.{Version}
 use Rattle.tuple_header.specs.Layout.{number_at}
 use Rattle.page_layout.specs.declared.pointer.Pointer.{Pointer}
-use Rattle.page_slots.specs.declared.slot.Slot.{Slot}
-use Rattle.page_slots.specs.Slots.{version_at, redirect_at, target_of, the_slot}
+use Rattle.page_sheet.specs.declared.slot.Slot.{Slot}
+use Rattle.page_sheet.specs.Slots.{version_at, redirect_at, target_of, the_slot}
 use Rattle.page_layout.specs.Layout.{flags_in, lower_in, upper_in, slot_count_in, pointer_in, word_of}
-use Rattle.page_slots.specs.Layout.{slot_in, slots_in}
+use Rattle.page_sheet.specs.Layout.{slot_in, slots_in}
 use Rattle.page_layout.specs.Sound.{IsSound, IsPointer, IsHeaded, end_of}
 use Rattle.page_layout.specs.Faults.{has_wrong_header, has_wrong_bounds, frame_fault, word_in, is_bad_word, has_bad_tuple, is_fault, slot_fault}
 use Rattle.page_slots.specs.Faults.{holds_heap_only, leads_astray, redirect_fault, overlap_fault, page_fault, AreSoundRedirects}
-use Rattle.page_slots.proofs.Shown.{shown}
-use Rattle.page_slots.proofs.Sounds.{length-slots_in, slots_in-at}
-use Rattle.page_slots.proofs.SlotLemmas.{slot_at-from_version_at, the_slot-from_slot_at}
+use Rattle.page_sheet.proofs.Shown.{shown}
+use Rattle.page_sheet.proofs.Sounds.{length-slots_in, slots_in-at}
+use Rattle.page_sheet.proofs.SlotLemmas.{slot_at-from_version_at, the_slot-from_slot_at}
 use Rattle.page_layout.proofs.FirstLemmas.{each-none}
 use Rattle.page_layout.proofs.FaultLemmas.{three-false, slot_fault-none}
 use Rattle.page_slots.proofs.RedirectLemmas.{redirect-tested}

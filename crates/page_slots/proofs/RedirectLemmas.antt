@@ -4,7 +4,7 @@ use Rattle.page_layout.specs.declared.faults.PageFault.{PageFault}
 use Rattle.page_layout.specs.declared.faults.PageFault.TheVariants.{BadRedirect}
 use Rattle.page_layout.specs.declared.pointer.Pointer.{Pointer}
 use Rattle.page_layout.specs.Layout.{pointer_in}
-use Rattle.page_slots.specs.Layout.{slot_in}
+use Rattle.page_sheet.specs.Layout.{slot_in}
 use Rattle.page_slots.specs.Faults.{holds_heap_only, leads_astray, redirect_fault}
 
 pub redirect-tested : (bytes : List ℕ) (i : ℕ) (a : Bool) → leads_astray bytes (pointer_in bytes i) ≡ a → (if a then Some (BadRedirect (i + 1)) else None) ≡ redirect_fault bytes i

@@ -7,10 +7,10 @@ use Rattle.xid_circle.specs.Numbers.{Count}
 use Rattle.page_layout.specs.declared.faults.PageFault.{PageFault}
 use Rattle.page_layout.specs.declared.faults.PageFault.TheVariants.{BadRedirect, Overlap}
 use Rattle.page_layout.specs.declared.pointer.Pointer.{Pointer}
-use Rattle.page_slots.specs.declared.slot.Slot.{Slot}
-use Rattle.page_slots.specs.Slots.{version_at, redirect_at}
+use Rattle.page_sheet.specs.declared.slot.Slot.{Slot}
+use Rattle.page_sheet.specs.Slots.{version_at, redirect_at}
 use Rattle.page_layout.specs.Layout.{slot_count_in, pointer_in}
-use Rattle.page_slots.specs.Layout.{slot_in}
+use Rattle.page_sheet.specs.Layout.{slot_in}
 use Rattle.page_layout.specs.Sound.{end_of}
 use Rattle.page_slots.specs.View.{PageView}
 use Rattle.page_slots.specs.Reading.{page_of}

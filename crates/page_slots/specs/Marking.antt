@@ -5,9 +5,9 @@ use Rattle.page_layout.specs.declared.units.TheConstants.{PAGE_UNITS}
 use Rattle.page_layout.specs.declared.sizes.TheConstants.{PAGE_BYTES}
 use Rattle.page_layout.specs.declared.pointer.Pointer.{Pointer}
 use Rattle.page_layout.specs.declared.pointer.Extent.{Extent}
-use Rattle.page_slots.specs.Slots.{bytes_taken}
+use Rattle.page_sheet.specs.Slots.{bytes_taken}
 use Rattle.page_layout.specs.Layout.{pointer_in, upper_in}
-use Rattle.page_slots.specs.Layout.{slots_in}
+use Rattle.page_sheet.specs.Layout.{slots_in}
 use Rattle.page_layout.specs.Sound.{AreApart, end_of}
 use Rattle.page_slots.specs.Faults.{overlap_fault}
 use Rattle.page_layout.specs.Faults.{first_among}

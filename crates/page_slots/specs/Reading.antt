@@ -1,6 +1,6 @@
 -- The page that bytes say.
 use Rattle.std.specs.Prelude.{ℕ, List}
-use Rattle.page_slots.specs.Layout.{slots_in}
+use Rattle.page_sheet.specs.Layout.{slots_in}
 use Rattle.page_layout.specs.Layout.{slot_count_in, change_in, is_all_visible_in}
 use Rattle.page_slots.specs.View.{PageView}
 

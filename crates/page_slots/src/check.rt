@@ -1,11 +1,11 @@
 //! A page from bytes that come from elsewhere, or what is wrong with them.
 
 ghost use Rattle.std.specs.Prelude.{◌≡◌, ◌≤◌, ◌<◌, ◌+◌, ◌*◌, ℕ, length, sum_by, Ok};
-ghost use Rattle.page_slots.specs.declared.sheet.TheConstants.{MOST_BYTES};
+ghost use Rattle.page_sheet.specs.declared.sheet.TheConstants.{MOST_BYTES};
 ghost use Rattle.page_layout.specs.declared.sizes.TheConstants.{PAGE_BYTES};
-ghost use Rattle.page_slots.specs.Slots.{bytes_taken};
+ghost use Rattle.page_sheet.specs.Slots.{bytes_taken};
 ghost use Rattle.page_layout.specs.Layout.{pointer_in, slot_count_in};
-ghost use Rattle.page_slots.specs.Layout.{slot_in, slots_in};
+ghost use Rattle.page_sheet.specs.Layout.{slot_in, slots_in};
 ghost use Rattle.page_layout.specs.Sound.{IsSound, IsPointer};
 ghost use Rattle.page_slots.specs.Reading.{page_of};
 ghost use Rattle.page_layout.specs.Faults.{first_among};
@@ -13,10 +13,10 @@ ghost use Rattle.page_slots.specs.Faults.{holds_heap_only, redirect_fault, check
 
 use crate::marks::units_of;
 use crate::page::Page;
-use crate::sheet::Sheet;
 use page_layout::{
     PAGE_BYTES, PageFault, Pointer, count_of, first_slot_fault_of, frame_fault_of, part, pointer_at,
 };
+use page_sheet::Sheet;
 use tuple_header::{MOST_SLOTS, header_of};
 
 /// Whether a slot, whose pointer this is, holds a heap-only version.

@@ -6,28 +6,20 @@
 //! number, and the all-visible flag. It promises that a call changes nothing but what it names, and that [`Page::add`] takes the
 //! lowest unused slot and is full exactly where the version is larger than the room. [`Page::add_row`] is for those who have
 //! asked for room before. The change number counts changes of slots, modulo 2^64, except changes of hint bits alone. What stands
-//! at a number, the room and the change number are defined in `specs/Slots.antt`, hints in `specs/Hints.antt` of `tuple_header`;
-//! `proofs/SlotLemmas.antt` says, for the crates above, what each change does to the map from numbers to slots.
+//! at a number, the room and the change number are defined in `specs/Slots.antt` of `page_sheet`, hints in `specs/Hints.antt` of
+//! `tuple_header`; `proofs/SlotLemmas.antt` of `page_sheet` says, for the crates above, what each change does to the map from numbers
+//! to slots.
 //!
-//! Where the parts of a page stand among its bytes is said by `page_layout` below, what slots the bytes say by
-//! `specs/Layout.antt`; [`Page::bytes`] hands them out. There are two layers. A `Sheet` knows bytes: it keeps what `Sound` of
-//! `page_layout` says of them, and its contract names them. A [`Page`] knows slots: it keeps how many bytes versions take and
-//! which slot is the first unused one (`AreTallied`), so it goes through no slots for either. A version is written into the gap
-//! between pointers and versions, and looked at where it stands ([`Page::row`]); [`Page::slot`] makes a copy. Where the gap is
-//! too small, versions are moved together first, from the end of the page downward in the order of their slots (`packing.rt`,
-//! `specs/Packing.antt`). A `Sheet` keeps what is known of how they lie, so that mostly no pointer is looked at then (`lying.rt`,
-//! `specs/Lying.antt`).
+//! There are two layers. A [`Sheet`](page_sheet::Sheet) knows bytes. A [`Page`] knows slots: it keeps how many bytes versions take and
+//! which slot is the first unused one (`AreTallied`), so it goes through no slots for either. A version is looked at where it stands
+//! ([`Page::row`]); [`Page::slot`] makes a copy. [`Page::bytes`] hands the bytes out, and [`check_page`] reads them.
 #![tactic(auto)]
 
 mod check;
-mod lying;
 mod marks;
-mod packing;
 mod page;
-mod sheet;
-mod slot;
 
 pub use check::{check_page, reads_back};
 pub use page::{AddFault, Page};
 pub use page_layout::{PAGE_BYTES, PageFault};
-pub use slot::{Slot, SlotHead};
+pub use page_sheet::{Slot, SlotHead};

@@ -3,18 +3,18 @@
 ghost use Rattle.std.specs.Prelude.{◌≡◌, ◌⊎◌, ◌≤◌, ◌<◌, ◌+◌, ◌*◌, ℕ, sum_by, [], true, false, length, IfSome, IsSome, IsTrue, ◌↔◌, Some, None, MatchOption, Err, OnOk, OnErr, IfOk};
 ghost use Rattle.tuple_header.specs.Faults.{header_fault};
 ghost use Rattle.tuple_header.specs.Version.{rounded_size_of};
-ghost use Rattle.page_slots.specs.declared.sheet.TheConstants.{MOST_BYTES};
+ghost use Rattle.page_sheet.specs.declared.sheet.TheConstants.{MOST_BYTES};
 ghost use Rattle.page_layout.specs.declared.sizes.TheConstants.{PAGE_BYTES};
-ghost use Rattle.page_slots.specs.Layout.{shown_by};
+ghost use Rattle.page_sheet.specs.Layout.{shown_by};
 ghost use Rattle.page_slots.specs.Reading.{page_of};
 ghost use Rattle.page_slots.specs.Faults.{AreSoundRedirects, page_fault};
-ghost use Rattle.page_slots.specs.Standing.{length_at, LiesWithin, IsPointedTo};
+ghost use Rattle.page_sheet.specs.Standing.{length_at, LiesWithin};
+ghost use Rattle.page_slots.specs.Standing.{IsPointedTo};
 ghost use Rattle.page_layout.specs.Sound.{HoldsNoVersion};
-ghost use Rattle.page_slots.specs.Slots.{is_unused, is_dead, is_undeleted_by, redirects_to, head_of, slot_at, header_at, row_at, key_at, redirect_at, IsRedirected, SlotIsThere, IsNormalAt, the_slot, with_slot, with_header_at, has_unused, free_number, with_added, bytes_taken, free_bytes, room_of, next_change, change_unless, differs_in_hints_alone};
+ghost use Rattle.page_sheet.specs.Slots.{is_unused, is_dead, is_undeleted_by, redirects_to, head_of, slot_at, header_at, row_at, key_at, redirect_at, IsRedirected, SlotIsThere, IsNormalAt, the_slot, with_slot, with_header_at, has_unused, free_number, with_added, bytes_taken, free_bytes, room_of, next_change, change_unless, differs_in_hints_alone};
 
-use crate::sheet::{MOST_BYTES, Sheet};
-use crate::slot::{Slot, SlotHead};
 use page_layout::Pointer;
+use page_sheet::{MOST_BYTES, Sheet, Slot, SlotHead};
 use std::marker::Model;
 use thiserror::Error;
 use tuple_header::{Header, MOST_SLOTS, Row, RowRef, Tuple, differ_in_hints_alone, row_size};
@@ -42,7 +42,7 @@ impl Model for Page {
     ghost use Rattle.std.specs.Prelude.{◌==◌, not};
     ghost use Rattle.page_slots.specs.View.{PageView, AreTallied};
     ghost use Rattle.page_layout.specs.Layout.{change_in, flags_in};
-    ghost use Rattle.page_slots.specs.Layout.{slots_in};
+    ghost use Rattle.page_sheet.specs.Layout.{slots_in};
 
     ghost Value = { PageView };
 
@@ -242,7 +242,7 @@ impl Page {
 
     /// The number of the first slot, from the number `from` on, that holds anything but a version of this inserter which nobody
     /// deleted; or one more than the last slot's, where there is none. From 0 on is from 1 on.
-    #[tactic(auto, using(crate::proofs::Sounds::length_is))]
+    #[tactic(auto, using(page_sheet::proofs::Sounds::length_is))]
     pub fn next_unlike(&self, from: u16, inserter: Xid) -> u16
         ensures passed { (n : ℕ) → from ≤ n → 1 ≤ n → n < result
             → is_undeleted_by inserter.0 (the_slot self.now.slots n) ≡ true }
@@ -258,7 +258,7 @@ impl Page {
     /// The number of the last slot, up to the number `upto`, which is not over the last slot's, that holds anything but a version
     /// of this inserter which nobody deleted; or 0, where there is none.
     #[inline(always)]
-    #[tactic(auto, using(crate::proofs::Sounds::length_is))]
+    #[tactic(auto, using(page_sheet::proofs::Sounds::length_is))]
     pub fn last_unlike(&self, upto: u16, inserter: Xid) -> u16
         requires { upto ≤ length self.now.slots }
         ensures passed { (n : ℕ) → result < n → n ≤ upto
@@ -280,7 +280,7 @@ impl Page {
 
     /// The number that the next version added gets: of the lowest unused slot, or else of a new last one. It is 292 where
     /// there is no place.
-    #[tactic(auto, using(crate::proofs::SlotLemmas::first_within))]
+    #[tactic(auto, using(page_sheet::proofs::SlotLemmas::first_within))]
     pub fn free_number(&self) -> u16
         ensures value { result ≡ free_number self.now.slots }
         ensures limit { result ≤ MOST_SLOTS + 1 }
@@ -289,7 +289,7 @@ impl Page {
     }
 
     /// What of 8168 bytes neither versions nor pointers of 4 bytes take.
-    #[tactic(auto, using(crate::proofs::Sounds::length_is))]
+    #[tactic(auto, using(page_sheet::proofs::Sounds::length_is))]
     pub fn free_bytes(&self) -> usize
         ensures value { result ≡ free_bytes self.now.slots }
         ensures all { result + (4 * length self.now.slots + sum_by bytes_taken self.now.slots)
@@ -300,7 +300,7 @@ impl Page {
 
     /// The largest size of a version that fits, in bytes, as if versions were moved together: of 8168 bytes what neither
     /// versions nor pointers of 4 bytes take, less 4 for a new slot where none is unused.
-    #[tactic(auto, using(crate::proofs::SlotLemmas::first_within, crate::proofs::Sounds::length_is))]
+    #[tactic(auto, using(page_sheet::proofs::SlotLemmas::first_within, page_sheet::proofs::Sounds::length_is))]
     pub fn room(&self) -> usize
         ensures value { result ≡ room_of self.now.slots }
         ensures limit { result ≤ 8164 }

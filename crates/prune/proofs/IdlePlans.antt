@@ -2,9 +2,9 @@
 use Rattle.std.proofs.Common.{◌≡◌, ℕ, ◌<◌, true, false, List, get_or, Some, None, IsSome, ⊎_elim, sym, ap, ◌∙◌, refl, subst, slice_get, arith}
 use Rattle.std.specs.Option.{option_and_then}
 use Rattle.std.proofs.lemmas.Option.{none-some}
-use Rattle.page_slots.specs.declared.slot.Slot.TheVariants.{Dead}
+use Rattle.page_sheet.specs.declared.slot.Slot.TheVariants.{Dead}
 use Rattle.page_slots.specs.View.{PageView}
-use Rattle.page_slots.specs.Slots.{slot_at, version_at, version_of}
+use Rattle.page_sheet.specs.Slots.{slot_at, version_at, version_of}
 use Rattle.commit_status.specs.Window.{Window}
 use Rattle.visibility.specs.Visible.{IsDead}
 use Rattle.hot_chain.specs.Chain.{has_aborted, is_root, is_root_in}

@@ -2,8 +2,8 @@
 use Rattle.std.proofs.Common.{◌≡◌, ◌≢◌, ℕ, ◌+◌, ◌<◌, ◌≤◌, ◌==◌, if◌then◌else◌, List, [], ◌∷◌, ◌++◌, length, get_or, drop, Option, Some, None, arith, ⊎_elim, sym, ap, ◌∙◌, refl, subst, add-one, drop-cons}
 use Rattle.std.proofs.lemmas.Bool.{cases_lt, cases_Bool, eqb-true, eq-eqb, ne_eqb, cond-true, cond-false}
 use Rattle.page_slots.specs.View.{PageView}
-use Rattle.page_slots.specs.Slots.{slot_at}
-use Rattle.page_slots.proofs.SlotLemmas.{length-with_slot, slot_at-with_slot, slot_at-with_slot_other}
+use Rattle.page_sheet.specs.Slots.{slot_at}
+use Rattle.page_sheet.proofs.SlotLemmas.{length-with_slot, slot_at-with_slot, slot_at-with_slot_other}
 use Rattle.prune_actions.specs.declared.Action.{Action}
 use Rattle.prune.specs.Actions.{made_by, acted, after_action, applied, HasTarget, CanDo, CanApply, AreInOrder, action_of}
 

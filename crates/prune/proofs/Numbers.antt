@@ -1,6 +1,6 @@
 -- The numbers in a chain are those of slots.
 use Rattle.std.proofs.Common.{◌≡◌, ℕ, ◌≤◌, Bool, List, length, take, arith}
-use Rattle.page_slots.specs.declared.slot.Slot.{Slot}
+use Rattle.page_sheet.specs.declared.slot.Slot.{Slot}
 use Rattle.std.proofs.lemmas.List.{length-take-le, get_or-take}
 use Rattle.prune.specs.Marks.{AreNumbers}
 use Rattle.hot_chain.specs.Chain.{IsChain}

@@ -1,10 +1,10 @@
 -- Slots that are passed over: versions of an inserter that was not aborted, which nobody deleted.
 use Rattle.std.proofs.Common.{◌≡◌, ℕ, zero, suc, ◌+◌, ◌-◌, ◌<◌, ◌≤◌, ◌&&◌, ◌==◌, not, Bool, true, false, List, length, Some, arith, inr, refl, ap, subst}
 use Rattle.std.proofs.lemmas.Bool.{eqb-true}
-use Rattle.page_slots.specs.declared.slot.Slot.{Slot}
-use Rattle.page_slots.specs.declared.slot.Slot.TheVariants.{Unused, Normal, Redirect, Dead}
-use Rattle.page_slots.specs.Slots.{slot_at, version_at, header_at, the_slot, SlotIsThere, is_undeleted_by}
-use Rattle.page_slots.proofs.SlotLemmas.{slot_at-there, version_at-from_slot_at}
+use Rattle.page_sheet.specs.declared.slot.Slot.{Slot}
+use Rattle.page_sheet.specs.declared.slot.Slot.TheVariants.{Unused, Normal, Redirect, Dead}
+use Rattle.page_sheet.specs.Slots.{slot_at, version_at, header_at, the_slot, SlotIsThere, is_undeleted_by}
+use Rattle.page_sheet.proofs.SlotLemmas.{slot_at-there, version_at-from_slot_at}
 use Rattle.std.specs.Option.{option_map}
 use Rattle.tuple_header.specs.Version.{Version}
 use Rattle.tuple_header.specs.declared.version.Header.{Header}

@@ -1,11 +1,11 @@
 -- A plan that checks changes each slot that it names.
 use Rattle.std.proofs.Common.{◌≡◌, ℕ, ◌==◌, true, false, List, [], ◌∷◌, length, Option, Some, None, arith, ⊎_elim, sym, ap, ◌∙◌, refl, subst}
 use Rattle.std.proofs.lemmas.Bool.{eq-eqb, ne_eqb, cond-true, cond-false}
-use Rattle.page_slots.specs.declared.slot.Slot.{Slot}
-use Rattle.page_slots.specs.declared.slot.Slot.TheVariants.{Unused, Normal, Redirect, Dead}
+use Rattle.page_sheet.specs.declared.slot.Slot.{Slot}
+use Rattle.page_sheet.specs.declared.slot.Slot.TheVariants.{Unused, Normal, Redirect, Dead}
 use Rattle.page_slots.specs.View.{PageView}
-use Rattle.page_slots.specs.Slots.{slot_at, version_at, the_slot, next_change, change_unless, SlotIsThere}
-use Rattle.page_slots.proofs.SlotLemmas.{slot_at-there, the_slot-from_slot_at, slot_at-from_version_at, slot_at-with_slot_other, length-with_slot}
+use Rattle.page_sheet.specs.Slots.{slot_at, version_at, the_slot, next_change, change_unless, SlotIsThere}
+use Rattle.page_sheet.proofs.SlotLemmas.{slot_at-there, the_slot-from_slot_at, slot_at-from_version_at, slot_at-with_slot_other, length-with_slot}
 use Rattle.tuple_header.specs.Version.{Version}
 use Rattle.commit_status.specs.Window.{Window}
 use Rattle.hot_chain.specs.Chain.{has_aborted, is_root, is_root_in}

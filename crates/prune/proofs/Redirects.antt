@@ -1,10 +1,10 @@
 -- Several roots whose chains begin in one slot: the slot itself, and redirects to it.
 use Rattle.std.proofs.Common.{◌≡◌, ◌≢◌, ℕ, Bool, true, false, if◌then◌else◌, List, Some, None, is_some, sym, ap, ◌∙◌, refl}
 use Rattle.std.specs.Option.{option_and_then}
-use Rattle.page_slots.specs.declared.slot.Slot.{Slot}
-use Rattle.page_slots.specs.declared.slot.Slot.TheVariants.{Normal, Redirect}
-use Rattle.page_slots.specs.Slots.{slot_at, version_at, IsNormalAt}
-use Rattle.page_slots.proofs.SlotLemmas.{normal_at, version_at-from_slot_at}
+use Rattle.page_sheet.specs.declared.slot.Slot.{Slot}
+use Rattle.page_sheet.specs.declared.slot.Slot.TheVariants.{Normal, Redirect}
+use Rattle.page_sheet.specs.Slots.{slot_at, version_at, IsNormalAt}
+use Rattle.page_sheet.proofs.SlotLemmas.{normal_at, version_at-from_slot_at}
 use Rattle.hot_chain.specs.Chain.{is_root, is_root_in, start_in}
 use Rattle.sound_page.proofs.ChainPlaces.{first-normal}
 use Rattle.prune.specs.declared.one_doubt.SlotsOfKind.{SlotsOfKind}

@@ -5,11 +5,11 @@ use Rattle.std.proofs.lemmas.List.{length-set, get_or-set_same, get_or-set_other
 use Rattle.std.proofs.lemmas.List.Sums.{fails_before_first, passes_at_first, sum_by-set}
 use Rattle.std.specs.List.{position_or_len}
 use Rattle.tuple_header.specs.Version.{Version}
-use Rattle.page_slots.specs.declared.slot.Slot.{Slot}
-use Rattle.page_slots.specs.declared.slot.Slot.TheVariants.{Unused, Normal, Redirect, Dead}
+use Rattle.page_sheet.specs.declared.slot.Slot.{Slot}
+use Rattle.page_sheet.specs.declared.slot.Slot.TheVariants.{Unused, Normal, Redirect, Dead}
 use Rattle.page_slots.specs.View.{PageView}
-use Rattle.page_slots.specs.Slots.{is_unused, bytes_taken, slot_at, version_at, the_slot, has_unused, free_number}
-use Rattle.page_slots.proofs.SlotLemmas.{the_slot-from_slot_at, slot_at-from_version_at, same_or_other}
+use Rattle.page_sheet.specs.Slots.{is_unused, bytes_taken, slot_at, version_at, the_slot, has_unused, free_number}
+use Rattle.page_sheet.proofs.SlotLemmas.{the_slot-from_slot_at, slot_at-from_version_at, same_or_other}
 use Rattle.commit_status.specs.Window.{Window}
 use Rattle.hot_chain.specs.Chain.{has_aborted, is_root, is_root_in}
 use Rattle.sound_page.proofs.Links.{member-version}

@@ -2,7 +2,7 @@
 use Rattle.std.proofs.Common.{◌≡◌, ℕ, zero, suc, ◌+◌, ◌<◌, Bool, true, false, nat_eq, if◌then◌else◌, ◌||◌, List, length, get_or, replicate, [], ◌∷◌, ◌≤◌, drop, drop-cons, add-one, arith, inl, inr, ⊎_elim, ap, ◌∙◌, refl, subst}
 use Rattle.std.specs.List.{list_any, Contains}
 use Rattle.std.proofs.lemmas.Bool.{cases_lt, cases_Bool, or_cases, eqb-true, eqb-false, or_parts}
-use Rattle.page_slots.specs.declared.slot.Slot.{Slot}
+use Rattle.page_sheet.specs.declared.slot.Slot.{Slot}
 use Rattle.commit_status.specs.Window.{Window}
 use Rattle.hot_chain.specs.Chain.{has_aborted, is_root}
 use Rattle.hot_chain.proofs.Chains.{chain-one, any-contains, contains-any, root-there}

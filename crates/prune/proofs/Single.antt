@@ -1,9 +1,9 @@
 -- A chain of one version: how many of its versions are cut, and where it starts.
 use Rattle.std.proofs.Common.{IsTrue, ◌↔◌, ◌≡◌, ℕ, if◌then◌else◌, Bool, true, false, List, [], ◌∷◌, get_or, Option, Some, None, arith, sym, ap, ◌∙◌, refl, subst}
 use Rattle.std.specs.Option.{option_and_then, option_map, unwrap_or}
-use Rattle.page_slots.specs.declared.slot.Slot.{Slot}
-use Rattle.page_slots.specs.declared.slot.Slot.TheVariants.{Unused, Normal, Redirect, Dead}
-use Rattle.page_slots.specs.Slots.{slot_at, version_at, header_at, redirect_at, version_of, target_of}
+use Rattle.page_sheet.specs.declared.slot.Slot.{Slot}
+use Rattle.page_sheet.specs.declared.slot.Slot.TheVariants.{Unused, Normal, Redirect, Dead}
+use Rattle.page_sheet.specs.Slots.{slot_at, version_at, header_at, redirect_at, version_of, target_of}
 use Rattle.tuple_header.specs.Version.{Version}
 use Rattle.tuple_header.specs.declared.version.Header.{Header}
 use Rattle.tuple_header.specs.Marks.{is_hot_updated}

@@ -3,10 +3,10 @@ use Rattle.std.proofs.Common.{◌≡◌, ◌⊎◌, ℕ, zero, suc, ◌+◌, ◌
 use Rattle.std.specs.Option.{option_and_then}
 use Rattle.std.proofs.lemmas.Bool.{cases_lt, cases_Bool}
 use Rattle.std.proofs.lemmas.Option.{slice_get_within, get_or_from_slice_get, slice_get-get_or, same_Some, none-some}
-use Rattle.page_slots.specs.declared.slot.Slot.{Slot}
-use Rattle.page_slots.specs.declared.slot.Slot.TheVariants.{Unused, Normal, Redirect, Dead}
-use Rattle.page_slots.specs.Slots.{slot_at, version_at, version_of, SlotIsThere}
-use Rattle.page_slots.proofs.SlotLemmas.{there-from_slot_at, version_at-from_slot_at, slot_at-from_version_at}
+use Rattle.page_sheet.specs.declared.slot.Slot.{Slot}
+use Rattle.page_sheet.specs.declared.slot.Slot.TheVariants.{Unused, Normal, Redirect, Dead}
+use Rattle.page_sheet.specs.Slots.{slot_at, version_at, version_of, SlotIsThere}
+use Rattle.page_sheet.proofs.SlotLemmas.{there-from_slot_at, version_at-from_slot_at, slot_at-from_version_at}
 use Rattle.tuple_header.specs.Version.{Version}
 use Rattle.xid_circle.specs.Following.{ReachesIn}
 use Rattle.commit_status.specs.declared.status.Status.TheVariants.{Committed, Aborted}

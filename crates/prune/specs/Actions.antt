@@ -1,8 +1,8 @@
 -- What a plan does to a page.
 use Rattle.std.specs.Prelude.{ℕ, zero, suc, ◌<◌, ◌≤◌, ◌==◌, Bool, List, [], ◌∷◌, Option, Some, None, if◌then◌else◌}
-use Rattle.page_slots.specs.declared.slot.Slot.{Slot}
-use Rattle.page_slots.specs.declared.slot.Slot.TheVariants.{Unused, Redirect, Dead}
-use Rattle.page_slots.specs.Slots.{is_unused, is_dead, redirects_to, the_slot, with_slot, next_change, change_unless}
+use Rattle.page_sheet.specs.declared.slot.Slot.{Slot}
+use Rattle.page_sheet.specs.declared.slot.Slot.TheVariants.{Unused, Redirect, Dead}
+use Rattle.page_sheet.specs.Slots.{is_unused, is_dead, redirects_to, the_slot, with_slot, next_change, change_unless}
 use Rattle.page_slots.specs.View.{PageView}
 use Rattle.prune_actions.specs.declared.Action.{Action}
 use Rattle.prune_actions.specs.declared.Action.TheVariants as action

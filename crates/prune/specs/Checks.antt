@@ -1,8 +1,8 @@
 -- A plan that may be applied, whoever made it, and when: it cuts of each chain a prefix that pruning would cut now, or less.
 use Rattle.std.specs.Prelude.{◌≡◌, ◌↔◌, ℕ, ◌<◌, ◌≤◌, true, List, length, Option, Some, IsSome, slice_get, slice_index}
 use Rattle.xid_circle.specs.Numbers.{Id, SlotNo, Count}
-use Rattle.page_slots.specs.declared.slot.Slot.{Slot}
-use Rattle.page_slots.specs.Slots.{header_at}
+use Rattle.page_sheet.specs.declared.slot.Slot.{Slot}
+use Rattle.page_sheet.specs.Slots.{header_at}
 use Rattle.page_slots.specs.View.{PageView}
 use Rattle.tuple_header.specs.declared.version.Header.{Header}
 use Rattle.tuple_header.specs.Marks.{is_heap_only}

@@ -2,8 +2,8 @@
 -- src/include/storage/bufpage.h: the oldest id whose work may be pruned once nobody needs what it replaced.)
 use Rattle.std.specs.Prelude.{◌≡◌, ◌⊎◌, ℕ, ◌≤◌, List, length, Some}
 use Rattle.xid_circle.specs.Numbers.{Id, SlotNo, Count}
-use Rattle.page_slots.specs.declared.slot.Slot.{Slot}
-use Rattle.page_slots.specs.Slots.{version_at}
+use Rattle.page_sheet.specs.declared.slot.Slot.{Slot}
+use Rattle.page_sheet.specs.Slots.{version_at}
 use Rattle.tuple_header.specs.Version.{Version}
 use Rattle.tuple_header.specs.declared.version.Header.{Header}
 use Rattle.commit_status.specs.Window.{Window, IsAborted, IsGiven, IsUpToNext, turns}

@@ -1,9 +1,9 @@
 -- What pruning keeps.
 use Rattle.std.specs.Prelude.{◌≡◌, ℕ, List, [], length, Option, Some}
-use Rattle.page_slots.specs.declared.slot.Slot.{Slot}
-use Rattle.page_slots.specs.Slots.{slot_at}
+use Rattle.page_sheet.specs.declared.slot.Slot.{Slot}
+use Rattle.page_sheet.specs.Slots.{slot_at}
 use Rattle.page_slots.specs.View.{PageView}
-use Rattle.page_slots.specs.declared.slot.Slot.TheVariants.{Redirect}
+use Rattle.page_sheet.specs.declared.slot.Slot.TheVariants.{Redirect}
 use Rattle.commit_status.specs.Window.{Window}
 use Rattle.hot_chain.specs.Chain.{has_aborted}
 use Rattle.prune_actions.specs.declared.Action.{Action}

@@ -2,10 +2,10 @@
 use Rattle.std.specs.Prelude.{◌≡◌, ◌+◌, ◌<◌, ◌||◌, ◌==◌, ℕ, nat_eq, Bool, false, IsTrue, ◌↔◌, List, [], ◌∷◌, Option, Some, None, length, slice_index, slice_index_or, if◌then◌else◌}
 use Rattle.std.specs.List.{list_any}
 use Rattle.xid_circle.specs.Numbers.{Id, SlotNo}
-use Rattle.page_slots.specs.declared.slot.Slot.{Slot}
+use Rattle.page_sheet.specs.declared.slot.Slot.{Slot}
 use Rattle.commit_status.specs.Window.{Window}
 use Rattle.hot_chain.specs.Chain.{has_aborted, is_replaced, first_of, IsChain}
-use Rattle.page_slots.specs.Slots.{header_at}
+use Rattle.page_sheet.specs.Slots.{header_at}
 use Rattle.tuple_header.specs.declared.version.Header.{Header}
 use Rattle.tuple_header.specs.declared.version.TheConstants.{MOST_SLOT_NUMBERS}
 use Rattle.visibility.specs.Visible.{IsDead}

@@ -1,9 +1,9 @@
 -- Pages on which one version alone may be dead: the chains that begin there, and what becomes of their roots.
 use Rattle.std.specs.Prelude.{◌≡◌, ◌≢◌, ℕ, ◌<◌, ◌≤◌, true, nat_lt, ◌==◌, List, [], ◌∷◌, Option, Some, None, if◌then◌else◌, MatchOption}
 use Rattle.xid_circle.specs.Numbers.{SlotNo}
-use Rattle.page_slots.specs.declared.slot.Slot.{Slot}
-use Rattle.page_slots.specs.declared.slot.Slot.TheVariants.{Redirect}
-use Rattle.page_slots.specs.Slots.{slot_at}
+use Rattle.page_sheet.specs.declared.slot.Slot.{Slot}
+use Rattle.page_sheet.specs.declared.slot.Slot.TheVariants.{Redirect}
+use Rattle.page_sheet.specs.Slots.{slot_at}
 use Rattle.hot_chain.specs.Chain.{first_of, is_root}
 use Rattle.prune_actions.specs.declared.Action.{Action}
 use Rattle.prune_actions.specs.declared.Action.TheVariants as action

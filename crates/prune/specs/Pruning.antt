@@ -3,8 +3,8 @@
 -- free at once. An aborted heap-only version that no chain reaches has no entry either.)
 use Rattle.std.specs.Prelude.{◌≡◌, ◌⊎◌, ℕ, zero, suc, ◌==◌, ◌&&◌, not, Bool, true, false, nat_eq, List, length, take, Option, Some, None, slice_get, if◌then◌else◌, Contains}
 use Rattle.std.specs.List.{list_any}
-use Rattle.page_slots.specs.declared.slot.Slot.{Slot}
-use Rattle.page_slots.specs.Slots.{slot_at, header_at, SlotIsThere}
+use Rattle.page_sheet.specs.declared.slot.Slot.{Slot}
+use Rattle.page_sheet.specs.Slots.{slot_at, header_at, SlotIsThere}
 use Rattle.tuple_header.specs.declared.version.Header.{Header}
 use Rattle.tuple_header.specs.Marks.{is_frozen, is_heap_only}
 use Rattle.commit_status.specs.Window.{Window}

@@ -1,6 +1,6 @@
 -- Plans of a page's pruning, whenever it is.
 use Rattle.std.specs.Prelude.{ℕ, List}
-use Rattle.page_slots.specs.declared.slot.Slot.{Slot}
+use Rattle.page_sheet.specs.declared.slot.Slot.{Slot}
 use Rattle.commit_status.specs.Window.{Window}
 use Rattle.prune_actions.specs.declared.Action.{Action}
 use Rattle.prune.specs.Pruning.{IsPlan}

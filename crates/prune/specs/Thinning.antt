@@ -1,9 +1,9 @@
 -- What a part of pruning leaves of a page's slots: of each chain a prefix goes that pruning would cut too, or nothing.
 use Rattle.std.specs.Prelude.{◌≡◌, ◌≢◌, ℕ, ◌<◌, ◌≤◌, true, false, List, length, Some, slice_get, slice_index}
 use Rattle.xid_circle.specs.Numbers.{Id, SlotNo, Count}
-use Rattle.page_slots.specs.declared.slot.Slot.{Slot}
-use Rattle.page_slots.specs.declared.slot.Slot.TheVariants.{Unused}
-use Rattle.page_slots.specs.Slots.{slot_at, version_at, SlotIsThere}
+use Rattle.page_sheet.specs.declared.slot.Slot.{Slot}
+use Rattle.page_sheet.specs.declared.slot.Slot.TheVariants.{Unused}
+use Rattle.page_sheet.specs.Slots.{slot_at, version_at, SlotIsThere}
 use Rattle.tuple_header.specs.Version.{Version}
 use Rattle.commit_status.specs.Window.{Window}
 use Rattle.hot_chain.specs.Chain.{has_aborted, is_root, IsChain}

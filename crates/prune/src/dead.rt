@@ -4,7 +4,7 @@ ghost use Rattle.std.specs.Prelude.{◌≡◌, ◌↔◌, ◌⊎◌, ◌+◌, �
 ghost use Rattle.xid_circle.specs.Circle.{Precedes};
 ghost use Rattle.commit_status.specs.Window.{IsAborted, IsCommitted};
 ghost use Rattle.visibility.specs.Visible.{IsFrozen, IsDead};
-ghost use Rattle.page_slots.specs.Slots.{SlotIsThere, the_slot, is_undeleted_by};
+ghost use Rattle.page_sheet.specs.Slots.{SlotIsThere, the_slot, is_undeleted_by};
 ghost use Rattle.sound_page.specs.Dead.{IsDeadAt, HasDead};
 ghost use Rattle.prune.specs.Deaths.{IsNoLaterThan, IsTurnOf, IsTurnThere, MayDieFrom, NothingDiesBefore, LivesAt};
 

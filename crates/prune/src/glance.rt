@@ -4,7 +4,7 @@
 ghost use Rattle.std.specs.Prelude.{◌≡◌, ◌+◌, ◌<◌, ℕ, [], true, false, IsTrue, Contains, length, reverse};
 ghost use Rattle.tuple_header.specs.declared.version.TheConstants.{MOST_SLOT_NUMBERS};
 ghost use Rattle.commit_status.specs.Window.{IsAborted};
-ghost use Rattle.page_slots.specs.Slots.{SlotIsThere};
+ghost use Rattle.page_sheet.specs.Slots.{SlotIsThere};
 ghost use Rattle.prune.specs.Marks.{ListsAllBut};
 ghost use Rattle.prune.specs.Glances.{IsPlain, IsPlainAt, StartsPlainly, ArePlainOrNotedOver, IsGlance, is_noted, StartsUnnoted, ArePlainBut, AreDoubts};
 

@@ -1,7 +1,7 @@
 //! The plan of a page on which one version alone may be dead, now or later. It marks no slot, and lists no chain.
 
 ghost use Rattle.std.specs.Prelude.{◌≡◌, ◌≤◌, ◌<◌, [], ◌∷◌, false, IsTrue, IfSome, Some, length};
-ghost use Rattle.page_slots.specs.Slots.{slot_at, SlotIsThere, IsNormalAt, redirects_to, the_slot};
+ghost use Rattle.page_sheet.specs.Slots.{slot_at, SlotIsThere, IsNormalAt, redirects_to, the_slot};
 ghost use Rattle.sound_page.specs.Dead.{IsDeadAt};
 ghost use Rattle.prune.specs.Actions.{CanApply};
 ghost use Rattle.prune.specs.Pruning.{root_action, IsPlan};

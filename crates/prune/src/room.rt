@@ -1,7 +1,7 @@
 //! The room that a page has once it is pruned.
 
 ghost use Rattle.std.specs.Prelude.{◌≡◌, length};
-ghost use Rattle.page_slots.specs.Slots.{room_of};
+ghost use Rattle.page_sheet.specs.Slots.{room_of};
 ghost use Rattle.prune.specs.Actions.{CanApply, applied};
 ghost use Rattle.prune.specs.Room.{IsPlanOf};
 

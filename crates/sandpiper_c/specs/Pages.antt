@@ -1,7 +1,7 @@
 -- The head of a page, and its slots, in C's places.
 use Rattle.std.specs.Prelude.{◌≡◌, ℕ, Option, Some, None}
 use Rattle.xid_circle.specs.Numbers.{PageNo, SlotNo}
-use Rattle.page_slots.specs.declared.slot.Slot.{Slot}
+use Rattle.page_sheet.specs.declared.slot.Slot.{Slot}
 use Rattle.c_views.specs.declared.page.SandpiperPage.{SandpiperPage}
 use Rattle.c_views.specs.declared.page.SandpiperSlot.{SandpiperSlot}
 use Rattle.c_views.specs.Pages.{head_in, shown_slot, page_slot}

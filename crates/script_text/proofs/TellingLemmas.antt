@@ -1,7 +1,7 @@
 -- The lines of slots, one more.
 use Rattle.std.proofs.Common.{◌≡◌, ℕ, ◌+◌, List, ◌++◌, refl, add-one, ap, append_assoc, sym, ◌∙◌}
-use Rattle.page_slots.specs.Slots.{slot_at}
-use Rattle.page_slots.specs.declared.slot.Slot.{Slot}
+use Rattle.page_sheet.specs.Slots.{slot_at}
+use Rattle.page_sheet.specs.declared.slot.Slot.{Slot}
 use Rattle.script_text.specs.Answers.{slot_lines, slot_line_text}
 use Rattle.script_text.specs.Inspected.{inspected_lines, inspected_line}
 

@@ -4,7 +4,7 @@ ghost use Rattle.std.specs.Prelude.{◌≡◌, ◌≤◌, ◌<◌, ◌+◌, ◌*
 ghost use Rattle.page_layout.specs.declared.sizes.TheConstants.{PAGE_BYTES};
 ghost use Rattle.tuple_header.specs.declared.version.TheConstants.{MOST_SLOTS};
 ghost use Rattle.page_layout.specs.Faults.{word_in};
-ghost use Rattle.page_slots.specs.Slots.{slot_at};
+ghost use Rattle.page_sheet.specs.Slots.{slot_at};
 ghost use Rattle.script_text.specs.Grammar.{spaced, with_feed};
 ghost use Rattle.script_text.specs.Inspected.{hex16_text, place_text, marks_text, bytes_text, inspected_line, inspected_lines, inspected_head, page_line, inspected_text};
 

@@ -3,7 +3,7 @@ use Rattle.std.specs.Prelude.{◌≡◌, ◌↔◌, ℕ, true, Option, Some, Non
 use Rattle.xid_circle.specs.Numbers.{Key, PageNo, Count}
 use Rattle.xid_circle.specs.declared.Tid.{Tid}
 use Rattle.tuple_header.specs.Version.{Version}
-use Rattle.page_slots.specs.Slots.{version_at}
+use Rattle.page_sheet.specs.Slots.{version_at}
 use Rattle.page_slots.specs.View.{PageView}
 use Rattle.prune.specs.declared.action.PrunePlan.{PrunePlan}
 use Rattle.prune.specs.Pruning.{IsPlan}

@@ -8,7 +8,7 @@ use Rattle.std.proofs.lemmas.Option.{same_Some, none-some}
 use Rattle.std.proofs.lemmas.List.{append-nil}
 use Rattle.std.proofs.lemmas.List.Elements.{Contains-append_cases}
 use Rattle.xid_circle.proofs.Members.{Contains-none}
-use Rattle.page_slots.specs.declared.slot.Slot.{Slot}
+use Rattle.page_sheet.specs.declared.slot.Slot.{Slot}
 use Rattle.commit_status.specs.Window.{Window, IsWindow, IsActive, IsCommitted, IsGiven, IsGivenBefore, IsUpToNext, top_of, place}
 use Rattle.commit_status.proofs.Places.{place-lt, some-from_is, is-from_some}
 use Rattle.commit_status.proofs.Ancestors.{top-same}

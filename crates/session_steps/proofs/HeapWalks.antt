@@ -7,9 +7,9 @@ use Rattle.xid_circle.specs.declared.Tid.{Tid}
 use Rattle.tuple_header.specs.declared.version.Row.{Row}
 use Rattle.tuple_header.specs.declared.version.Header.{Header}
 use Rattle.tuple_header.specs.Version.{Version}
-use Rattle.page_slots.specs.Slots.{version_at}
+use Rattle.page_sheet.specs.Slots.{version_at}
 use Rattle.page_slots.specs.View.{PageView}
-use Rattle.page_slots.proofs.SlotLemmas.{version_at-none}
+use Rattle.page_sheet.proofs.SlotLemmas.{version_at-none}
 use Rattle.commit_status.specs.Window.{IsWindow}
 use Rattle.index_lookup.specs.Pages.{slots_on}
 use Rattle.heap_write.specs.Heap.{slots_of}

@@ -8,8 +8,8 @@ use Rattle.tuple_header.specs.Version.{Version}
 use Rattle.tuple_header.specs.declared.version.Row.{Row}
 use Rattle.tuple_header.specs.IndexValue.{value_in}
 use Rattle.page_slots.specs.View.{PageView}
-use Rattle.page_slots.specs.declared.slot.Slot.TheVariants.{Dead}
-use Rattle.page_slots.specs.Slots.{slot_at, version_at, version_of}
+use Rattle.page_sheet.specs.declared.slot.Slot.TheVariants.{Dead}
+use Rattle.page_sheet.specs.Slots.{slot_at, version_at, version_of}
 use Rattle.std.specs.Option.{option_and_then}
 use Rattle.commit_status.specs.declared.status.Status.TheVariants.{InProgress, Committed}
 use Rattle.commit_status.specs.Window.{IsCommitted}

@@ -7,9 +7,9 @@ use Rattle.xid_circle.specs.declared.Tid.{Tid}
 use Rattle.commit_status.specs.Window.{Window, IsWindow, place, status_of}
 use Rattle.commit_status.proofs.Places.{place-lt}
 use Rattle.commit_status.proofs.Giving.{finished-place}
-use Rattle.page_slots.specs.Slots.{version_at}
+use Rattle.page_sheet.specs.Slots.{version_at}
 use Rattle.page_slots.specs.View.{PageView}
-use Rattle.page_slots.specs.declared.slot.Slot.{Slot}
+use Rattle.page_sheet.specs.declared.slot.Slot.{Slot}
 use Rattle.index_lookup.specs.Pages.{version_in, slots_on}
 use Rattle.table_indexes.specs.Indexes.{since_at, entries_at, new_entries}
 use Rattle.heap_write.specs.Heap.{slots_of}

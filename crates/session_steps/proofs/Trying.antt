@@ -6,7 +6,7 @@ use Rattle.xid_circle.specs.declared.Tid.{Tid}
 use Rattle.xid_circle.specs.declared.Xid.{Xid}
 use Rattle.tuple_header.specs.declared.version.Row.{Row}
 use Rattle.tuple_header.specs.Version.{rounded_size_of}
-use Rattle.page_slots.specs.Slots.{version_at}
+use Rattle.page_sheet.specs.Slots.{version_at}
 use Rattle.index_lookup.specs.Pages.{slots_on, version_in}
 use Rattle.commit_status.specs.Window.{Window, IsWindow, IsGiven, IsActive}
 use Rattle.snapshot.specs.Own.{Own, current_xid, ArePrefixes}

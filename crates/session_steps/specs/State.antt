@@ -4,7 +4,7 @@ use Rattle.std.specs.Option.{option_map, option_flatten}
 use Rattle.snapshot.specs.Snap.{Snap, Sees, earliest}
 use Rattle.commit_status.specs.Window.{Window, next_id}
 use Rattle.visibility.specs.Visible.{state_of}
-use Rattle.page_slots.specs.declared.slot.Slot.{Slot}
+use Rattle.page_sheet.specs.declared.slot.Slot.{Slot}
 use Rattle.space_maps.specs.declared.mark.Mark.{Mark}
 use Rattle.space_maps.specs.declared.mark.Mark.TheVariants.{Nothing, AllVisible, AllFrozen}
 use Rattle.root_index.specs.View.{IndexView}

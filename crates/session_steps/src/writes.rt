@@ -2,7 +2,7 @@
 
 ghost use Rattle.std.specs.Prelude.{◌≤◌, ◌<◌, ◌↔◌, IsTrue, Some, None};
 ghost use Rattle.tuple_header.specs.Version.{rounded_size_of};
-ghost use Rattle.page_slots.specs.Slots.{room_of};
+ghost use Rattle.page_sheet.specs.Slots.{room_of};
 ghost use Rattle.heap_write.specs.Heap.{page_on};
 ghost use Rattle.heap_write.specs.Writes.{KeepsValues};
 ghost use Rattle.calls.specs.declared.step.Step.{Step};

@@ -4,7 +4,7 @@ use Rattle.std.specs.Prelude.{IsSome}
 use Rattle.std.proofs.lemmas.Option.{same_Some, slice_get_within}
 use Rattle.xid_circle.specs.declared.Tid.{Tid}
 use Rattle.tuple_header.specs.Version.{Version}
-use Rattle.page_slots.specs.Slots.{version_at}
+use Rattle.page_sheet.specs.Slots.{version_at}
 use Rattle.reasons.specs.declared.reason.Verdict.{Verdict}
 use Rattle.reasons.specs.Reasons.{IsVerdictIn, verdict_shows}
 use Rattle.reasons.proofs.VerdictLemmas.{verdict-decides}

@@ -2,8 +2,8 @@
 use Rattle.std.proofs.Common.{◌≡◌, ℕ, zero, suc, List, [], length, map, Option, None, rules, refl, sym, ap, ◌∙◌, subst, slice_get}
 use Rattle.std.specs.Prelude.{◌↔◌, IsTrue, IsSome, false}
 use Rattle.tuple_header.specs.Version.{Version}
-use Rattle.page_slots.specs.declared.slot.Slot.{Slot}
-use Rattle.page_slots.specs.Slots.{version_at, header_at, redirect_at}
+use Rattle.page_sheet.specs.declared.slot.Slot.{Slot}
+use Rattle.page_sheet.specs.Slots.{version_at, header_at, redirect_at}
 use Rattle.page_slots.specs.View.{PageView}
 use Rattle.index_lookup.specs.Pages.{slots_on}
 use Rattle.index_lookup.proofs.PageLists.{slots-none}

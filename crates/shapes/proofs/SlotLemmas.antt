@@ -6,9 +6,9 @@ use Rattle.std.proofs.lemmas.Option.{same_Some, none-some}
 use Rattle.tuple_header.specs.Version.{Version}
 use Rattle.tuple_header.specs.declared.version.Header.{Header}
 use Rattle.tuple_header.specs.declared.version.Row.{Row}
-use Rattle.page_slots.specs.declared.slot.Slot.{Slot}
-use Rattle.page_slots.specs.declared.slot.Slot.TheVariants as slot
-use Rattle.page_slots.specs.Slots.{slot_at, version_at, version_of}
+use Rattle.page_sheet.specs.declared.slot.Slot.{Slot}
+use Rattle.page_sheet.specs.declared.slot.Slot.TheVariants as slot
+use Rattle.page_sheet.specs.Slots.{slot_at, version_at, version_of}
 use Rattle.commit_status.specs.Window.{Window}
 use Rattle.visibility.specs.Visible.{IsDead}
 use Rattle.sound_page.specs.Dead.{IsDeadAt}

@@ -8,9 +8,9 @@ use Rattle.tuple_header.specs.Version.{Version}
 use Rattle.commit_status.specs.Window.{Window, turns, next_id, status_of}
 use Rattle.visibility.specs.Visible.{IsVisible}
 use Rattle.reasons.specs.Reasons.{IsVerdictIn}
-use Rattle.page_slots.specs.Slots.{version_at, redirect_at, room_of}
+use Rattle.page_sheet.specs.Slots.{version_at, redirect_at, room_of}
 use Rattle.page_slots.specs.View.{PageView}
-use Rattle.page_slots.specs.declared.slot.Slot.{Slot}
+use Rattle.page_sheet.specs.declared.slot.Slot.{Slot}
 use Rattle.space_maps.specs.View.{mark_on}
 use Rattle.hot_chain.specs.Chain.{has_aborted, next_in_chain}
 use Rattle.sound_page.specs.Dead.{IsDeadAt}

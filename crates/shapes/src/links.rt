@@ -1,7 +1,7 @@
 //! The arrows between slots.
 
 ghost use Rattle.std.specs.Prelude.{◌≡◌, ◌++◌, OnOk};
-ghost use Rattle.page_slots.specs.Slots.{header_at as header_in, redirect_at};
+ghost use Rattle.page_sheet.specs.Slots.{header_at as header_in, redirect_at};
 ghost use Rattle.hot_chain.specs.Chain.{has_aborted, is_replaced as is_replaced_by, successor as successor_in, next_in_chain as next_in};
 ghost use Rattle.shapes.specs.Shapes.{slots_at, links_to};
 

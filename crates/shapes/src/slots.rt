@@ -2,7 +2,7 @@
 
 ghost use Rattle.std.specs.Prelude.{◌≡◌, ◌∷◌, ◌++◌, [], IsSome, OnOk, take, slice_get};
 ghost use Rattle.tuple_header.specs.Version.{Version};
-ghost use Rattle.page_slots.specs.Slots.{version_at};
+ghost use Rattle.page_sheet.specs.Slots.{version_at};
 ghost use Rattle.slot_fates.specs.Fates.{IsFate};
 ghost use Rattle.session_steps.specs.State.{horizon_of};
 ghost use Rattle.shapes.specs.Shapes.{Adds, AreVersionShapes, IsVersionShape, IsSlotShape, IsSlotPiece, IsBox, slots_at, version_of_place};

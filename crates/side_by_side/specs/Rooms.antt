@@ -1,7 +1,7 @@
 -- Pages without room.
 use Rattle.std.specs.Prelude.{ℕ, ◌<◌, List, Option, Some, None, slice_get}
 use Rattle.page_slots.specs.View.{PageView}
-use Rattle.page_slots.specs.Slots.{room_of}
+use Rattle.page_sheet.specs.Slots.{room_of}
 
 -- the page is in use, and a version of this size does not fit
 abbrev pub PageIsFull : Option PageView → ℕ → Type 0

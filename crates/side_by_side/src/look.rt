@@ -1,7 +1,7 @@
 //! A look at what is noted of the pages, and at the entries of the indexes, beside the pages themselves.
 
 ghost use Rattle.std.specs.Prelude.{◌≡◌, ◌↔◌, ℕ, IsTrue};
-ghost use Rattle.page_slots.specs.Slots.{slot_at};
+ghost use Rattle.page_sheet.specs.Slots.{slot_at};
 ghost use Rattle.side_by_side.specs.Noted.{KeepsNote, IsAsNoted};
 
 use page_slots::Page;

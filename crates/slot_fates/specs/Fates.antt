@@ -3,9 +3,9 @@ use Rattle.std.specs.Prelude.{◌≡◌, ◌≢◌, ℕ, zero, suc, Bool, true, 
 use Rattle.xid_circle.specs.Circle.{Precedes}
 use Rattle.xid_circle.specs.Numbers.{Id, SlotNo, Count}
 use Rattle.tuple_header.specs.declared.version.Header.{Header}
-use Rattle.page_slots.specs.declared.slot.Slot.{Slot}
-use Rattle.page_slots.specs.declared.slot.Slot.TheVariants as slot
-use Rattle.page_slots.specs.Slots.{slot_at}
+use Rattle.page_sheet.specs.declared.slot.Slot.{Slot}
+use Rattle.page_sheet.specs.declared.slot.Slot.TheVariants as slot
+use Rattle.page_sheet.specs.Slots.{slot_at}
 use Rattle.commit_status.specs.Window.{Window, IsCommitted, IsAborted, status_of}
 use Rattle.visibility.specs.Visible.{IsFrozen, IsDead}
 use Rattle.hot_chain.specs.Chain.{has_aborted, IsChain}

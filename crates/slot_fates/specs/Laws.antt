@@ -1,8 +1,8 @@
 -- The laws of fates: a slot has one, and it decides what pruning takes.
 use Rattle.std.specs.Prelude.{◌≡◌, ◌↔◌, ℕ, true, List, Some, None}
 use Rattle.tuple_header.specs.Version.{Version}
-use Rattle.page_slots.specs.declared.slot.Slot.{Slot}
-use Rattle.page_slots.specs.Slots.{version_at}
+use Rattle.page_sheet.specs.declared.slot.Slot.{Slot}
+use Rattle.page_sheet.specs.Slots.{version_at}
 use Rattle.commit_status.specs.Window.{Window}
 use Rattle.prune.specs.Pruning.{IsPruned}
 use Rattle.sound_page.specs.Sound.{SoundPage}

@@ -2,7 +2,7 @@
 
 ghost use Rattle.std.specs.Prelude.{◌≡◌, ◌≤◌, None, length};
 ghost use Rattle.tuple_header.specs.Faults.{header_fault};
-ghost use Rattle.page_slots.specs.Slots.{header_at};
+ghost use Rattle.page_sheet.specs.Slots.{header_at};
 ghost use Rattle.slot_fates.specs.Fates.{last_of, IsLastDead, IsDeleter, IsVersionFate, IsFate};
 
 use crate::fate::{DeletedBy, SlotFate, VersionFate};

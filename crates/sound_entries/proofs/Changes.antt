@@ -5,10 +5,10 @@ use Rattle.std.proofs.lemmas.Bool.{cases_eq}
 use Rattle.std.proofs.lemmas.Option.{same_Some}
 use Rattle.tuple_header.specs.Version.{Version}
 use Rattle.tuple_header.specs.declared.version.Row.{Row}
-use Rattle.page_slots.specs.declared.slot.Slot.{Slot}
-use Rattle.page_slots.specs.declared.slot.Slot.TheVariants.{Unused, Normal, Dead}
-use Rattle.page_slots.specs.Slots.{slot_at, version_at, version_of, free_number}
-use Rattle.page_slots.proofs.SlotLemmas.{there-from_slot_at, slot_at-from_version_at, version_at-from_slot_at, free_number-was, slot_at-with_added}
+use Rattle.page_sheet.specs.declared.slot.Slot.{Slot}
+use Rattle.page_sheet.specs.declared.slot.Slot.TheVariants.{Unused, Normal, Dead}
+use Rattle.page_sheet.specs.Slots.{slot_at, version_at, version_of, free_number}
+use Rattle.page_sheet.proofs.SlotLemmas.{there-from_slot_at, slot_at-from_version_at, version_at-from_slot_at, free_number-was, slot_at-with_added}
 use Rattle.commit_status.specs.declared.status.Status.TheVariants.{InProgress, Committed, Aborted}
 use Rattle.commit_status.specs.Window.{Window, IsActive}
 use Rattle.visibility.specs.Visible.{IsDead}

@@ -4,8 +4,8 @@ use Rattle.std.specs.List.{Contains}
 use Rattle.xid_circle.specs.declared.Tid.{Tid}
 use Rattle.tuple_header.specs.Version.{Version}
 use Rattle.tuple_header.specs.declared.version.Row.{Row}
-use Rattle.page_slots.specs.declared.slot.Slot.TheVariants.{Dead}
-use Rattle.page_slots.specs.Slots.{version_at}
+use Rattle.page_sheet.specs.declared.slot.Slot.TheVariants.{Dead}
+use Rattle.page_sheet.specs.Slots.{version_at}
 use Rattle.commit_status.specs.Window.{Window, IsActive}
 use Rattle.snapshot.specs.Snap.{Snap}
 use Rattle.visibility.specs.Visible.{IsVisible}

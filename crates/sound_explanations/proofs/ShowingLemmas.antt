@@ -8,9 +8,9 @@ use Rattle.xid_circle.specs.declared.Tid.{Tid}
 use Rattle.tuple_header.specs.Version.{Version}
 use Rattle.tuple_header.specs.declared.version.Row.{Row}
 use Rattle.tuple_header.specs.IndexValue.{value_in}
-use Rattle.page_slots.specs.declared.slot.Slot.{Slot}
-use Rattle.page_slots.specs.declared.slot.Slot.TheVariants.{Dead}
-use Rattle.page_slots.specs.Slots.{slot_at, version_at}
+use Rattle.page_sheet.specs.declared.slot.Slot.{Slot}
+use Rattle.page_sheet.specs.declared.slot.Slot.TheVariants.{Dead}
+use Rattle.page_sheet.specs.Slots.{slot_at, version_at}
 use Rattle.hot_chain.specs.Chain.{has_aborted, start_in, IsChain, LeadsTo}
 use Rattle.hot_chain.proofs.Chains.{chain-one, distinct-places}
 use Rattle.sound_page.specs.Sound.{IsIn}

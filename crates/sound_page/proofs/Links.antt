@@ -3,10 +3,10 @@ use Rattle.std.proofs.Common.{◌≡◌, ◌≢◌, ℕ, zero, suc, ◌+◌, ◌
 use Rattle.std.specs.Option.{option_map, option_and_then}
 use Rattle.std.proofs.lemmas.Bool.{and_parts, eqb-true, not-true}
 use Rattle.std.proofs.lemmas.Option.{slice_get-get_or}
-use Rattle.page_slots.specs.declared.slot.Slot.{Slot}
-use Rattle.page_slots.specs.declared.slot.Slot.TheVariants.{Unused, Normal, Redirect, Dead}
-use Rattle.page_slots.specs.Slots.{slot_at, version_at, header_at, version_of, SlotIsThere}
-use Rattle.page_slots.proofs.SlotLemmas.{there-from_slot_at, slot_at-from_version_at}
+use Rattle.page_sheet.specs.declared.slot.Slot.{Slot}
+use Rattle.page_sheet.specs.declared.slot.Slot.TheVariants.{Unused, Normal, Redirect, Dead}
+use Rattle.page_sheet.specs.Slots.{slot_at, version_at, header_at, version_of, SlotIsThere}
+use Rattle.page_sheet.proofs.SlotLemmas.{there-from_slot_at, slot_at-from_version_at}
 use Rattle.tuple_header.specs.Version.{Version}
 use Rattle.tuple_header.specs.Marks.{is_hot_updated, is_heap_only}
 use Rattle.hot_chain.specs.Chain.{is_replaced, is_made_by, successor, next_in_chain, start_in, first_of, IsChain}

@@ -1,6 +1,6 @@
 -- A snapshot with own ids is a reader.
 use Rattle.std.proofs.Common.{ℕ, List}
-use Rattle.page_slots.specs.declared.slot.Slot.{Slot}
+use Rattle.page_sheet.specs.declared.slot.Slot.{Slot}
 use Rattle.commit_status.specs.Window.{Window}
 use Rattle.snapshot.specs.Snap.{Snap}
 use Rattle.snapshot.proofs.Sights.{past-seen}

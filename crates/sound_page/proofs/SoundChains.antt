@@ -5,9 +5,9 @@ use Rattle.std.specs.Option.{option_and_then}
 use Rattle.std.proofs.lemmas.Bool.{cases_lt, cases_Bool}
 use Rattle.std.proofs.lemmas.Option.{slice_get-get_or, same_Some}
 use Rattle.xid_circle.specs.Following.{ReachesIn}
-use Rattle.page_slots.specs.declared.slot.Slot.{Slot}
-use Rattle.page_slots.specs.declared.slot.Slot.TheVariants.{Unused, Normal, Redirect, Dead}
-use Rattle.page_slots.specs.Slots.{slot_at, version_at}
+use Rattle.page_sheet.specs.declared.slot.Slot.{Slot}
+use Rattle.page_sheet.specs.declared.slot.Slot.TheVariants.{Unused, Normal, Redirect, Dead}
+use Rattle.page_sheet.specs.Slots.{slot_at, version_at}
 use Rattle.tuple_header.specs.Version.{Version}
 use Rattle.tuple_header.specs.Marks.{is_heap_only}
 use Rattle.commit_status.specs.Window.{Window}
@@ -18,7 +18,7 @@ use Rattle.sound_page.specs.Links.{Reaches, link, NoSharedSlots}
 use Rattle.sound_page.specs.Sound.{chain_start_in, chain_start_of, IsIn, SoundPage}
 use Rattle.sound_page.proofs.Links.{link-of, first-version, version-there}
 use Rattle.sound_page.proofs.ChainPlaces.{place-of, at-place, chain-first, reaches-places}
-use Rattle.page_slots.proofs.SlotLemmas.{slot_at-from_version_at}
+use Rattle.page_sheet.proofs.SlotLemmas.{slot_at-from_version_at}
 
 -- each slot has a chain
 pub record SomeChain (aborted : ℕ → Bool) (slots : List Slot) (n : ℕ) : Type 0 where

@@ -1,6 +1,6 @@
 -- What holds of every sound page and of its readers, and which page is sound at first.
 use Rattle.std.specs.Prelude.{ℕ, List, []}
-use Rattle.page_slots.specs.declared.slot.Slot.{Slot}
+use Rattle.page_sheet.specs.declared.slot.Slot.{Slot}
 use Rattle.commit_status.specs.Window.{Window}
 use Rattle.hot_chain.specs.Chain.{has_aborted}
 use Rattle.sound_page.specs.Links.{NoSharedSlots}

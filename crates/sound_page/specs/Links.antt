@@ -1,7 +1,7 @@
 -- From slot to slot: where a chain goes on, on any page.
 use Rattle.std.specs.Prelude.{◌≡◌, ℕ, Bool, List, Option}
 use Rattle.xid_circle.specs.Following.{ReachesIn}
-use Rattle.page_slots.specs.declared.slot.Slot.{Slot}
+use Rattle.page_sheet.specs.declared.slot.Slot.{Slot}
 use Rattle.commit_status.specs.Window.{Window}
 use Rattle.hot_chain.specs.Chain.{has_aborted, next_in_chain, LeadsTo}
 

@@ -7,10 +7,10 @@ use Rattle.xid_circle.specs.declared.Tid.{Tid}
 use Rattle.xid_circle.proofs.Tids.{same-tid}
 use Rattle.tuple_header.specs.Version.{Version, rounded_size_of}
 use Rattle.tuple_header.specs.declared.version.Row.{Row}
-use Rattle.page_slots.specs.declared.slot.Slot.{Slot}
-use Rattle.page_slots.specs.declared.slot.Slot.TheVariants.{Unused, Normal, Dead}
-use Rattle.page_slots.specs.Slots.{slot_at, free_number, with_added, IsNormalAt}
-use Rattle.page_slots.proofs.SlotLemmas.{normal_at, slot_at-from_version_at, version_at-from_slot_at, free_number-was, slot_at-with_added_other}
+use Rattle.page_sheet.specs.declared.slot.Slot.{Slot}
+use Rattle.page_sheet.specs.declared.slot.Slot.TheVariants.{Unused, Normal, Dead}
+use Rattle.page_sheet.specs.Slots.{slot_at, free_number, with_added, IsNormalAt}
+use Rattle.page_sheet.proofs.SlotLemmas.{normal_at, slot_at-from_version_at, version_at-from_slot_at, free_number-was, slot_at-with_added_other}
 use Rattle.snapshot.specs.Snap.{Snap}
 use Rattle.snapshot.specs.Own.{Own}
 use Rattle.visibility.specs.Visible.{IsVisible}

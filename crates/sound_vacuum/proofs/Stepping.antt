@@ -5,7 +5,7 @@ use Rattle.std.specs.Option.{option_and_then}
 use Rattle.std.proofs.lemmas.List.{length-set}
 use Rattle.xid_circle.specs.Circle.{Precedes}
 use Rattle.xid_circle.specs.declared.Tid.{Tid}
-use Rattle.page_slots.specs.Slots.{version_of}
+use Rattle.page_sheet.specs.Slots.{version_of}
 use Rattle.commit_status.specs.Window.{Window, IsActive, turns}
 use Rattle.commit_status.proofs.Places.{precedes-turns, upto-given}
 use Rattle.snapshot.specs.Snap.{Snap}

@@ -6,7 +6,7 @@ use Rattle.xid_circle.specs.declared.Tid.{Tid}
 use Rattle.tuple_header.specs.Version.{rounded_size_of}
 use Rattle.tuple_header.specs.declared.version.Row.{Row}
 use Rattle.page_slots.specs.View.{PageView}
-use Rattle.page_slots.specs.declared.slot.Slot.{Slot}
+use Rattle.page_sheet.specs.declared.slot.Slot.{Slot}
 use Rattle.commit_status.specs.Window.{Window, IsWindow, IsUpToNext, turns}
 use Rattle.snapshot.specs.Own.{Own}
 use Rattle.space_maps.specs.declared.mark.Mark.{Mark}

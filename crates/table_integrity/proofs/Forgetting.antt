@@ -6,8 +6,8 @@ use Rattle.std.proofs.lemmas.Bool.{cases_Bool, cases_lt}
 use Rattle.xid_circle.specs.Following.{ReachesIn}
 use Rattle.tuple_header.specs.Version.{Version}
 use Rattle.tuple_header.specs.IndexValue.{value_in}
-use Rattle.page_slots.specs.declared.slot.Slot.{Slot}
-use Rattle.page_slots.specs.Slots.{version_at}
+use Rattle.page_sheet.specs.declared.slot.Slot.{Slot}
+use Rattle.page_sheet.specs.Slots.{version_at}
 use Rattle.commit_status.specs.declared.status.Status.{Status}
 use Rattle.commit_status.specs.declared.status.Status.TheVariants.{InProgress, Committed, Aborted}
 use Rattle.commit_status.specs.Window.{Window, IsWindow, IsActive, IsGiven, IsAborted, IsUpToNext, place, status_of, turns, next_id}

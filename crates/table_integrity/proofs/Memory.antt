@@ -1,7 +1,7 @@
 -- The ids are as they were, though there may be more memory.
 use Rattle.std.proofs.Common.{◌≡◌, ℕ, List, refl, sym, ◌∙◌, subst, ⊎_elim, inl, inr}
 use Rattle.tuple_header.specs.declared.version.Header.{Header}
-use Rattle.page_slots.specs.declared.slot.Slot.{Slot}
+use Rattle.page_sheet.specs.declared.slot.Slot.{Slot}
 use Rattle.commit_status.specs.Window.{Window, status_of}
 use Rattle.commit_status.specs.Window as known
 use Rattle.visibility.specs.Visible.{IsDead}

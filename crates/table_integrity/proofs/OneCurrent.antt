@@ -7,8 +7,8 @@ use Rattle.xid_circle.specs.Following.{ReachesIn}
 use Rattle.tuple_header.specs.Version.{Version}
 use Rattle.tuple_header.specs.Marks.{is_frozen}
 use Rattle.tuple_header.specs.declared.version.Header.{Header}
-use Rattle.page_slots.specs.declared.slot.Slot.{Slot}
-use Rattle.page_slots.specs.Slots.{version_at}
+use Rattle.page_sheet.specs.declared.slot.Slot.{Slot}
+use Rattle.page_sheet.specs.Slots.{version_at}
 use Rattle.commit_status.specs.declared.status.Status.{Status}
 use Rattle.commit_status.specs.declared.status.Status.TheVariants.{InProgress, Committed, Aborted}
 use Rattle.commit_status.specs.Window.{Window, IsWindow, IsActive, IsGiven, IsCommitted, place, status_of, next_id}

@@ -9,11 +9,11 @@ use Rattle.xid_circle.proofs.Tids.{same-tid}
 use Rattle.tuple_header.specs.Version.{Version, rounded_size_of}
 use Rattle.tuple_header.specs.Marks.{is_frozen}
 use Rattle.tuple_header.specs.declared.version.Row.{Row}
-use Rattle.page_slots.specs.declared.slot.Slot.{Slot}
-use Rattle.page_slots.specs.declared.slot.Slot.TheVariants.{Normal}
-use Rattle.page_slots.specs.Slots.{version_at, version_of, row_at, with_added, free_number}
+use Rattle.page_sheet.specs.declared.slot.Slot.{Slot}
+use Rattle.page_sheet.specs.declared.slot.Slot.TheVariants.{Normal}
+use Rattle.page_sheet.specs.Slots.{version_at, version_of, row_at, with_added, free_number}
 use Rattle.page_slots.specs.View.{PageView}
-use Rattle.page_slots.proofs.SlotLemmas.{normal_at, slot_at-from_version_at, version_at-from_slot_at, free_number-not_normal, slot_at-with_added, slot_at-with_added_other}
+use Rattle.page_sheet.proofs.SlotLemmas.{normal_at, slot_at-from_version_at, version_at-from_slot_at, free_number-not_normal, slot_at-with_added, slot_at-with_added_other}
 use Rattle.tuple_writes.specs.Headers.{root_header, heap_only_header, replaced_header}
 use Rattle.tuple_writes.specs.Writes.{with_root, with_heap_only, with_replaced, with_updated}
 use Rattle.tuple_writes.proofs.Bits.{root-thawed}

@@ -4,8 +4,8 @@ use Rattle.xid_circle.specs.declared.Tid.{Tid}
 use Rattle.tuple_header.specs.Version.{Version, rounded_size_of}
 use Rattle.tuple_header.specs.declared.version.Header.{Header}
 use Rattle.tuple_header.specs.declared.version.Row.{Row}
-use Rattle.page_slots.specs.declared.slot.Slot.{Slot}
-use Rattle.page_slots.specs.Slots.{free_number}
+use Rattle.page_sheet.specs.declared.slot.Slot.{Slot}
+use Rattle.page_sheet.specs.Slots.{free_number}
 use Rattle.commit_status.specs.Window.{Window, IsActive, status_of}
 use Rattle.tuple_writes.specs.Writes.{with_root, with_replaced, with_updated}
 use Rattle.tuple_writes.specs.Keeps.{IsMade, HasNoXmax, IsDeletable}

@@ -6,10 +6,10 @@ use Rattle.std.proofs.lemmas.Option.{none-some, slice_get_within}
 use Rattle.xid_circle.specs.declared.Tid.{Tid}
 use Rattle.tuple_header.specs.declared.version.Row.{Row}
 use Rattle.tuple_header.specs.Version.{Version}
-use Rattle.page_slots.specs.declared.slot.Slot.{Slot}
-use Rattle.page_slots.specs.Slots.{version_of, version_at}
+use Rattle.page_sheet.specs.declared.slot.Slot.{Slot}
+use Rattle.page_sheet.specs.Slots.{version_of, version_at}
 use Rattle.page_slots.specs.View.{PageView}
-use Rattle.page_slots.proofs.SlotLemmas.{version_at-none}
+use Rattle.page_sheet.proofs.SlotLemmas.{version_at-none}
 use Rattle.index_lookup.specs.declared.index_scan.IndexRange.{IndexRange}
 use Rattle.index_lookup.specs.Pages.{slots_on}
 use Rattle.index_lookup.specs.Walking.{IsSeenRow, NoneSeenFrom}

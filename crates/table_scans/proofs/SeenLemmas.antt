@@ -4,7 +4,7 @@ use Rattle.std.specs.Option.{option_map}
 use Rattle.std.proofs.lemmas.List.{length-append}
 use Rattle.tuple_header.specs.declared.version.Row.{Row}
 use Rattle.tuple_header.specs.declared.version.TheConstants.{MOST_SLOTS}
-use Rattle.page_slots.specs.Slots.{row_at}
+use Rattle.page_sheet.specs.Slots.{row_at}
 use Rattle.page_slots.specs.View.{PageView}
 use Rattle.visibility.specs.declared.reader.Reader.{Reader}
 use Rattle.visibility.specs.Reading.{IsSeenBy}

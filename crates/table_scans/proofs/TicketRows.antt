@@ -3,8 +3,8 @@ use Rattle.std.proofs.Common.{◌≡◌, ℕ, ◌+◌, List, [], ◌∷◌, ◌+
 use Rattle.std.proofs.lemmas.Grind.{flat_map-append}
 use Rattle.std.proofs.lemmas.List.{length-append}
 use Rattle.tuple_header.specs.declared.version.Row.{Row}
-use Rattle.page_slots.specs.declared.slot.Slot.{Slot}
-use Rattle.page_slots.specs.Slots.{row_at}
+use Rattle.page_sheet.specs.declared.slot.Slot.{Slot}
+use Rattle.page_sheet.specs.Slots.{row_at}
 use Rattle.table_scans.specs.Tickets.{rows_of, rows_at, HasRows}
 
 -- one slot more

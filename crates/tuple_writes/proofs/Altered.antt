@@ -1,10 +1,10 @@
 -- The slots that the functions leave are those of the definitions.
 use Rattle.std.proofs.Common.{◌≡◌, ◌≢◌, ℕ, true, List, Some, IsSome, sym, ap, ◌∙◌, refl, subst}
 use Rattle.std.specs.Option.{option_and_then}
-use Rattle.page_slots.specs.declared.slot.Slot.{Slot}
-use Rattle.page_slots.specs.declared.slot.Slot.TheVariants.{Normal}
-use Rattle.page_slots.specs.Slots.{slot_at, version_at, version_of, the_slot, with_added, free_number, change_unless, next_change, IsNormalAt}
-use Rattle.page_slots.proofs.SlotLemmas.{normal_at, the_slot-from_slot_at, slot_at-with_added_other, free_number-not_normal}
+use Rattle.page_sheet.specs.declared.slot.Slot.{Slot}
+use Rattle.page_sheet.specs.declared.slot.Slot.TheVariants.{Normal}
+use Rattle.page_sheet.specs.Slots.{slot_at, version_at, version_of, the_slot, with_added, free_number, change_unless, next_change, IsNormalAt}
+use Rattle.page_sheet.proofs.SlotLemmas.{normal_at, the_slot-from_slot_at, slot_at-with_added_other, free_number-not_normal}
 use Rattle.tuple_header.specs.Version.{Version}
 use Rattle.tuple_writes.specs.Writes.{was_replaced, replaced_change}
 use Rattle.tuple_writes.proofs.Growth.{none-some}

@@ -1,10 +1,10 @@
 -- A version that is taken away changes otherwise than in hints.
 use Rattle.std.proofs.Common.{◌≡◌, ◌≢◌, ◌&&◌, ℕ, Bool, true, false, List, ⊎_elim, sym, ap, ◌∙◌, refl}
 use Rattle.std.proofs.lemmas.Bool.{ne_eqb}
-use Rattle.page_slots.specs.declared.slot.Slot.{Slot}
-use Rattle.page_slots.specs.declared.slot.Slot.TheVariants.{Normal}
-use Rattle.page_slots.specs.Slots.{change_unless, next_change}
-use Rattle.page_slots.proofs.SlotLemmas.{slot_at-from_version_at, the_slot-from_slot_at}
+use Rattle.page_sheet.specs.declared.slot.Slot.{Slot}
+use Rattle.page_sheet.specs.declared.slot.Slot.TheVariants.{Normal}
+use Rattle.page_sheet.specs.Slots.{change_unless, next_change}
+use Rattle.page_sheet.proofs.SlotLemmas.{slot_at-from_version_at, the_slot-from_slot_at}
 use Rattle.commit_status.specs.declared.status.Status.TheVariants.{InProgress, Aborted}
 use Rattle.commit_status.specs.Window.{Window, IsActive, status_of}
 use Rattle.tuple_writes.specs.Writes.{was_replaced, replaced_change}

@@ -2,10 +2,10 @@
 use Rattle.std.proofs.Common.{◌≡◌, ◌≢◌, ◌⊎◌, ◌≤◌, ℕ, zero, suc, Bool, true, false, List, length, Option, Some, None, if◌then◌else◌, inl, inr, ⊎_elim, sym, ap, ◌∙◌, refl, subst}
 use Rattle.std.proofs.lemmas.Bool.{cases_Bool, not-true}
 use Rattle.std.proofs.lemmas.Option.{same_Some}
-use Rattle.page_slots.specs.declared.slot.Slot.{Slot}
-use Rattle.page_slots.specs.declared.slot.Slot.TheVariants.{Unused, Normal, Redirect, Dead}
-use Rattle.page_slots.specs.Slots.{slot_at, version_at}
-use Rattle.page_slots.proofs.SlotLemmas.{slot_at-from_version_at, version_at-from_slot_at}
+use Rattle.page_sheet.specs.declared.slot.Slot.{Slot}
+use Rattle.page_sheet.specs.declared.slot.Slot.TheVariants.{Unused, Normal, Redirect, Dead}
+use Rattle.page_sheet.specs.Slots.{slot_at, version_at}
+use Rattle.page_sheet.proofs.SlotLemmas.{slot_at-from_version_at, version_at-from_slot_at}
 use Rattle.tuple_header.specs.Version.{Version}
 use Rattle.tuple_header.specs.declared.version.Header.{Header}
 use Rattle.tuple_header.specs.Marks.{is_frozen, is_heap_only}

@@ -3,10 +3,10 @@ use Rattle.std.proofs.Common.{◌≡◌, ◌≢◌, ◌⊎◌, ◌≤◌, ℕ, t
 use Rattle.std.proofs.lemmas.Bool.{cases_eq}
 use Rattle.std.specs.Option.{option_and_then}
 use Rattle.std.proofs.lemmas.Option.{same_Some}
-use Rattle.page_slots.specs.declared.slot.Slot.{Slot}
-use Rattle.page_slots.specs.declared.slot.Slot.TheVariants.{Unused, Normal, Redirect}
-use Rattle.page_slots.specs.Slots.{slot_at, version_at, version_of}
-use Rattle.page_slots.proofs.SlotLemmas.{version_at-from_slot_at}
+use Rattle.page_sheet.specs.declared.slot.Slot.{Slot}
+use Rattle.page_sheet.specs.declared.slot.Slot.TheVariants.{Unused, Normal, Redirect}
+use Rattle.page_sheet.specs.Slots.{slot_at, version_at, version_of}
+use Rattle.page_sheet.proofs.SlotLemmas.{version_at-from_slot_at}
 use Rattle.tuple_header.specs.Version.{Version}
 use Rattle.tuple_header.specs.Marks.{is_frozen, is_heap_only, is_hot_updated}
 use Rattle.commit_status.specs.Window.{Window, IsInProgress}

@@ -2,10 +2,10 @@
 use Rattle.std.proofs.Common.{◌≡◌, ◌≢◌, ◌⊎◌, ◌≤◌, ◌+◌, ℕ, Bool, true, false, List, length, Some, IsSome, if◌then◌else◌, arith, inl, inr, ⊎_elim, sym, ap, ◌∙◌, refl, subst}
 use Rattle.std.proofs.lemmas.Bool.{cases_eq, cases_Bool, ne_eqb}
 use Rattle.std.proofs.lemmas.Option.{same_Some}
-use Rattle.page_slots.specs.declared.slot.Slot.{Slot}
-use Rattle.page_slots.specs.declared.slot.Slot.TheVariants.{Normal}
-use Rattle.page_slots.specs.Slots.{slot_at, version_at, the_slot, with_added, has_unused, free_number}
-use Rattle.page_slots.proofs.SlotLemmas.{there-from_slot_at, slot_at-from_version_at, the_slot-from_slot_at, slot_at-with_slot, slot_at-with_slot_other, length-with_slot, free_number-new, free_number-was, length-with_added, slot_at-with_added, slot_at-with_added_other, free_number-not_normal, version_at-from_slot_at}
+use Rattle.page_sheet.specs.declared.slot.Slot.{Slot}
+use Rattle.page_sheet.specs.declared.slot.Slot.TheVariants.{Normal}
+use Rattle.page_sheet.specs.Slots.{slot_at, version_at, the_slot, with_added, has_unused, free_number}
+use Rattle.page_sheet.proofs.SlotLemmas.{there-from_slot_at, slot_at-from_version_at, the_slot-from_slot_at, slot_at-with_slot, slot_at-with_slot_other, length-with_slot, free_number-new, free_number-was, length-with_added, slot_at-with_added, slot_at-with_added_other, free_number-not_normal, version_at-from_slot_at}
 use Rattle.tuple_header.specs.Version.{Version}
 use Rattle.tuple_header.specs.declared.version.Row.{Row}
 use Rattle.tuple_header.specs.Marks.{is_heap_only}

@@ -1,8 +1,8 @@
 -- Writes and what becomes of transactions keep a page sound.
 use Rattle.std.specs.Prelude.{◌≡◌, ◌≢◌, ◌⊎◌, ◌≤◌, ℕ, Bool, false, List, Option, Some, Contains}
 use Rattle.xid_circle.specs.Numbers.{SlotNo}
-use Rattle.page_slots.specs.declared.slot.Slot.{Slot}
-use Rattle.page_slots.specs.Slots.{slot_at, version_at, free_number, next_change}
+use Rattle.page_sheet.specs.declared.slot.Slot.{Slot}
+use Rattle.page_sheet.specs.Slots.{slot_at, version_at, free_number, next_change}
 use Rattle.tuple_header.specs.Version.{Version}
 use Rattle.tuple_header.specs.declared.version.Row.{Row}
 use Rattle.commit_status.specs.declared.status.Status.TheVariants.{Committed, Aborted}

@@ -2,7 +2,7 @@
 
 ghost use Rattle.std.specs.Prelude.{◌≡◌, ◌≤◌, false, true};
 ghost use Rattle.xid_circle.specs.Circle.{IsNormal};
-ghost use Rattle.page_slots.specs.Slots.{room_of, free_number, next_change, IsNormalAt};
+ghost use Rattle.page_sheet.specs.Slots.{room_of, free_number, next_change, IsNormalAt};
 ghost use Rattle.tuple_header.specs.Version.{rounded_size_of};
 ghost use Rattle.tuple_writes.specs.Writes.{replaced_change, with_root, with_updated, PutsXmax, AddsToPage};
 ghost use Rattle.tuple_header.specs.declared.version.TheConstants.{MOST_SLOTS};

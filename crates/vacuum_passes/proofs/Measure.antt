@@ -9,10 +9,10 @@ use Rattle.std.proofs.lemmas.Option.{same_Some}
 use Rattle.std.proofs.lemmas.List.Elements.{Contains-append_left, Contains-append_right}
 use Rattle.std.proofs.lemmas.List.Filters.{length-filter_both}
 use Rattle.xid_circle.specs.declared.Tid.{Tid}
-use Rattle.page_slots.specs.declared.slot.Slot.{Slot}
-use Rattle.page_slots.specs.declared.slot.Slot.TheVariants.{Unused, Dead}
-use Rattle.page_slots.specs.Slots.{slot_at}
-use Rattle.page_slots.proofs.SlotLemmas.{there-from_slot_at}
+use Rattle.page_sheet.specs.declared.slot.Slot.{Slot}
+use Rattle.page_sheet.specs.declared.slot.Slot.TheVariants.{Unused, Dead}
+use Rattle.page_sheet.specs.Slots.{slot_at}
+use Rattle.page_sheet.proofs.SlotLemmas.{there-from_slot_at}
 use Rattle.index_entries.specs.declared.entry.Entry.{Entry}
 use Rattle.index_lookup.specs.Pages.{slots_on}
 use Rattle.table_indexes.specs.Indexes.{IndexesView, entries_in}

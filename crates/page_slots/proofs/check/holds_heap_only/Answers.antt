@@ -3,7 +3,7 @@ use Rattle.tuple_header.specs.Layout.{decoded_header}
 use Rattle.tuple_header.specs.Marks.{is_heap_only}
 use Rattle.page_layout.specs.declared.pointer.Pointer.TheVariants as pointer
 use Rattle.page_slots.specs.Faults.{holds_heap_only}
-use Rattle.page_slots.proofs.Shown.{shown}
+use Rattle.page_sheet.proofs.Shown.{shown}
 use Rattle.page_slots.proofs.check.holds_heap_only.Goals as goal
 
 pub returns-in-Normal : goal.returns-in-Normal

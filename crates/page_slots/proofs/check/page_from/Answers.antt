@@ -1,10 +1,10 @@
 use Rattle.std.proofs.Common.{◌≡◌, ◌∙◌, List, ℕ, sym, ap, subst, arith}
 use Rattle.std.specs.List.{position_or_len}
-use Rattle.page_slots.specs.Slots.{is_unused}
-use Rattle.page_slots.specs.Layout.{slots_in}
-use Rattle.page_slots.specs.Sheet.{SheetView}
+use Rattle.page_sheet.specs.Slots.{is_unused}
+use Rattle.page_sheet.specs.Layout.{slots_in}
+use Rattle.page_sheet.specs.Sheet.{SheetView}
 use Rattle.page_slots.specs.View.{AreTallied}
-use Rattle.page_slots.proofs.Sounds.{length-slots_in}
+use Rattle.page_sheet.proofs.Sounds.{length-slots_in}
 use Rattle.page_slots.proofs.check.page_from.Goals as goal
 
 pub invariant_of-result : goal.invariant_of-result

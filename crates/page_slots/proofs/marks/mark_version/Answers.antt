@@ -5,8 +5,9 @@ use Rattle.page_layout.specs.declared.pointer.Extent.{Extent}
 use Rattle.page_layout.specs.Layout.{pointer_in}
 use Rattle.page_layout.specs.Sound.{IsExtent}
 use Rattle.page_layout.specs.Units.{AreMarked, SomeIsMarked}
-use Rattle.page_slots.proofs.Shown.{extent-good, taken-shown}
-use Rattle.page_slots.proofs.CoverLemmas.{at-span, bare-taken, eighths, rounded_even, fresh-none, stale-some, covered-normal, covered-bare}
+use Rattle.page_sheet.proofs.Shown.{extent-good, taken-shown}
+use Rattle.page_sheet.proofs.PackLemmas.{rounded_even}
+use Rattle.page_slots.proofs.CoverLemmas.{at-span, bare-taken, eighths, fresh-none, stale-some, covered-normal, covered-bare}
 use Rattle.page_slots.proofs.marks.mark_version.Goals as goal
 
 pub returns-then-mark-clause-taken : goal.returns-then-mark-clause-taken

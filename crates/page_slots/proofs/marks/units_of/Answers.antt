@@ -3,15 +3,15 @@ use Rattle.std.proofs.lemmas.List.{take_all}
 use Rattle.page_layout.specs.declared.faults.PageFault.TheVariants.{Overlap}
 use Rattle.page_layout.specs.declared.pointer.Pointer.{Pointer}
 use Rattle.page_layout.specs.declared.pointer.Extent.{Extent}
-use Rattle.page_slots.specs.Slots.{bytes_taken}
+use Rattle.page_sheet.specs.Slots.{bytes_taken}
 use Rattle.page_layout.specs.Layout.{pointer_in}
-use Rattle.page_slots.specs.Layout.{slot_in, slots_in}
+use Rattle.page_sheet.specs.Layout.{slot_in, slots_in}
 use Rattle.page_layout.specs.Sound.{IsExtent}
 use Rattle.page_slots.specs.Faults.{overlap_fault}
 use Rattle.page_slots.specs.Marking.{IsCovered}
-use Rattle.page_slots.proofs.Shown.{extent-good}
-use Rattle.page_slots.proofs.Sounds.{length-slots_in}
-use Rattle.page_slots.proofs.PackLemmas.{taken-more}
+use Rattle.page_sheet.proofs.Shown.{extent-good}
+use Rattle.page_sheet.proofs.Sounds.{length-slots_in}
+use Rattle.page_sheet.proofs.PackLemmas.{taken-more}
 use Rattle.page_layout.proofs.FirstLemmas.{first-found}
 use Rattle.page_slots.proofs.CoverLemmas.{covered-start, apart-from_none, units-fit}
 use Rattle.page_slots.proofs.marks.units_of.Goals as goal

@@ -1,6 +1,6 @@
 use Rattle.std.proofs.Common.{◌≡◌, ◌*◌, sum_by, take}
-use Rattle.page_slots.specs.Slots.{bytes_taken}
-use Rattle.page_slots.specs.Layout.{slots_in}
+use Rattle.page_sheet.specs.Slots.{bytes_taken}
+use Rattle.page_sheet.specs.Layout.{slots_in}
 use Rattle.page_layout.specs.Units.{units_marked}
 use Rattle.page_slots.specs.Marking.{IsCovered}
 use Rattle.page_slots.proofs.marks.units_of.Given as goal

@@ -1,6 +1,6 @@
 use Rattle.std.proofs.Common.{◌≡◌, ◌∙◌, true, false, sym, ap}
 use Rattle.std.specs.Option.{option_and_then}
-use Rattle.page_slots.specs.Slots.{target_of}
+use Rattle.page_sheet.specs.Slots.{target_of}
 use Rattle.prune.proofs.one_doubt.redirects_to.Goals as goal
 
 pub returns-else-is_redirected : goal.returns-else-is_redirected

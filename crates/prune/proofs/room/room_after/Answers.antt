@@ -2,7 +2,7 @@ use Rattle.std.proofs.Common.{◌≡◌, ℕ, ◌+◌, ◌||◌, Bool, ◌∷◌
 use Rattle.prune_actions.specs.declared.Action.{Action}
 use Rattle.prune_actions.specs.declared.Action.TheVariants as action
 use Rattle.prune.specs.Actions.{applied, made_by}
-use Rattle.page_slots.specs.Slots.{is_unused, bytes_taken, the_slot}
+use Rattle.page_sheet.specs.Slots.{is_unused, bytes_taken, the_slot}
 use Rattle.prune.proofs.Listing.{prefix-of}
 use Rattle.prune.proofs.RoomLemmas.{IsReckoned, made-used, number-there, reckoned-start, reckoned-step}
 use Rattle.prune.proofs.room.room_after.Goals.{then-has_unused, else-has_unused+in-Unuse, else-has_unused+in_default}

@@ -1,5 +1,5 @@
 use Rattle.std.proofs.Common.{ℕ, ◌<◌}
-use Rattle.page_slots.specs.Slots.{slot_at}
+use Rattle.page_sheet.specs.Slots.{slot_at}
 use Rattle.side_by_side.specs.Noted.{KeepsNote}
 use Rattle.side_by_side.proofs.look.all_keep_note.Given as goal
 

@@ -1,5 +1,5 @@
 use Rattle.std.proofs.Common.{◌≡◌, rules, ◌∙◌}
-use Rattle.page_slots.specs.declared.slot.Slot.TheVariants.{Normal}
+use Rattle.page_sheet.specs.declared.slot.Slot.TheVariants.{Normal}
 use Rattle.tuple_writes.specs.Writes.{with_updated}
 use Rattle.tuple_writes.proofs.Altered.{change-updated}
 use Rattle.tuple_writes.proofs.writes.hot_update.Goals as goal

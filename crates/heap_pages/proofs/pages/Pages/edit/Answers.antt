@@ -1,7 +1,7 @@
 use Rattle.std.proofs.Common.{◌≡◌, ◌∙◌, ◌<◌, Some, length, slice_get, sym, ap, arith}
 use Rattle.std.proofs.lemmas.List.{length-set}
 use Rattle.page_slots.specs.View.{PageView}
-use Rattle.page_slots.specs.Slots.{room_of}
+use Rattle.page_sheet.specs.Slots.{room_of}
 use Rattle.heap_pages.specs.Choice.{free_byte_of}
 use Rattle.heap_pages.specs.View.{PagesView, with_page}
 use Rattle.heap_pages.proofs.FirstLemmas.{read_at}

@@ -1,7 +1,7 @@
 use Rattle.std.proofs.Common.{arith, ap, sym, ◌∙◌, ◌∷◌, [], length, length-append}
 use Rattle.space_maps.specs.declared.mark.Mark.TheVariants.{Nothing}
 use Rattle.page_slots.specs.View.{PageView}
-use Rattle.page_slots.specs.Slots.{room_of}
+use Rattle.page_sheet.specs.Slots.{room_of}
 use Rattle.heap_pages.specs.Choice.{free_byte_of}
 use Rattle.heap_pages.specs.View.{free_space_bytes}
 use Rattle.heap_pages.proofs.FreeSpaceLemmas.{pushed}

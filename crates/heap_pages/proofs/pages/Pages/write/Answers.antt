@@ -2,7 +2,7 @@ use Rattle.std.proofs.Common.{◌≡◌, ◌∙◌, ◌<◌, Some, List, length,
 use Rattle.std.specs.Fn.{FnOnceReturnsAtMut}
 use Rattle.std.proofs.lemmas.List.{length-set}
 use Rattle.page_slots.specs.View.{PageView}
-use Rattle.page_slots.specs.Slots.{room_of}
+use Rattle.page_sheet.specs.Slots.{room_of}
 use Rattle.heap_pages.specs.Choice.{free_byte_of}
 use Rattle.space_maps.specs.declared.mark.Mark.{Mark}
 use Rattle.space_maps.specs.declared.mark.Mark.TheVariants.{Nothing}

@@ -1,7 +1,7 @@
 use Rattle.std.proofs.Common.{rules, ◌≡◌, Some, ◌<◌, length, set, slice_get, ap, subst, sym, ◌∙◌}
 use Rattle.std.proofs.iter.Serving.{serving}
 use Rattle.page_slots.specs.View.{PageView}
-use Rattle.page_slots.specs.Slots.{IsNormalAt}
+use Rattle.page_sheet.specs.Slots.{IsNormalAt}
 use Rattle.space_maps.specs.declared.mark.Mark.TheVariants.{Nothing}
 use Rattle.heap_pages.specs.View.{PagesView}
 use Rattle.heap_write.specs.Heap.{HeapView}

@@ -1,7 +1,7 @@
 use Rattle.std.proofs.Common.{◌≡◌, rules, slice_get, Some, ap, sym, refl, subst}
 use Rattle.std.proofs.iter.Serving.{serving}
 use Rattle.page_slots.specs.View.{PageView}
-use Rattle.page_slots.specs.Slots.{IsNormalAt}
+use Rattle.page_sheet.specs.Slots.{IsNormalAt}
 use Rattle.std.proofs.lemmas.Bool.{iff_false}
 use Rattle.heap_pages.specs.View.{PagesView}
 use Rattle.heap_write.specs.Heap.{HeapView}

@@ -1,5 +1,5 @@
 use Rattle.std.proofs.Common.{◌≡◌, None, slice_get, refl, arith, subst, sym}
-use Rattle.page_slots.specs.Slots.{room_of}
+use Rattle.page_sheet.specs.Slots.{room_of}
 use Rattle.heap_write.specs.Heap.{HeapView, page_on}
 use Rattle.heap_write.proofs.PageLemmas.{room-none, keeps-nothing}
 use Rattle.heap_write.proofs.heap.HeapState.fits_beside.Goals as goal

@@ -2,7 +2,7 @@ use Rattle.std.proofs.Common.{true, false, ◌≡◌, ◌≤◌, Some, rules, ap
 use Rattle.std.proofs.iter.Serving.{serving}
 use Rattle.tuple_header.specs.Version.{rounded_size_of}
 use Rattle.page_slots.specs.View.{PageView}
-use Rattle.page_slots.specs.Slots.{IsNormalAt, room_of, free_number, next_change}
+use Rattle.page_sheet.specs.Slots.{IsNormalAt, room_of, free_number, next_change}
 use Rattle.tuple_writes.specs.Writes.{with_updated, replaced_change, AddsToPage}
 use Rattle.heap_pages.specs.View.{PagesView}
 use Rattle.heap_write.specs.Heap.{HeapView, page_on}

@@ -2,7 +2,7 @@ use Rattle.std.proofs.Common.{◌≡◌, ◌≤◌, ◌<◌, inl, inr, Some, Non
 use Rattle.std.specs.Option.{option_copied}
 use Rattle.tuple_header.specs.Version.{rounded_size_of}
 use Rattle.page_slots.specs.View.{PageView}
-use Rattle.page_slots.specs.Slots.{room_of}
+use Rattle.page_sheet.specs.Slots.{room_of}
 use Rattle.prune.specs.Actions.{CanApply, applied}
 use Rattle.prune.specs.Pruning.{IsPlan}
 use Rattle.heap_write.specs.Heap.{HeapView, page_on}

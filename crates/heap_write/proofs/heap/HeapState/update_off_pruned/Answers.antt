@@ -1,7 +1,7 @@
 use Rattle.std.proofs.Common.{◌<◌, List, sym, subst}
 use Rattle.tuple_header.specs.Version.{rounded_size_of}
-use Rattle.page_slots.specs.declared.slot.Slot.{Slot}
-use Rattle.page_slots.specs.Slots.{room_of}
+use Rattle.page_sheet.specs.declared.slot.Slot.{Slot}
+use Rattle.page_sheet.specs.Slots.{room_of}
 use Rattle.commit_status.specs.Window.{IsWindow}
 use Rattle.heap_write.specs.Heap.{HeapView}
 use Rattle.heap_write.specs.Growth.{IsReserved}

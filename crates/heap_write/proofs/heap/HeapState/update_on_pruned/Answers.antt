@@ -1,8 +1,8 @@
 use Rattle.std.proofs.Common.{◌≤◌, List, sym, subst}
 use Rattle.std.specs.Prelude.{IsFalse}
 use Rattle.tuple_header.specs.Version.{rounded_size_of}
-use Rattle.page_slots.specs.declared.slot.Slot.{Slot}
-use Rattle.page_slots.specs.Slots.{room_of}
+use Rattle.page_sheet.specs.declared.slot.Slot.{Slot}
+use Rattle.page_sheet.specs.Slots.{room_of}
 use Rattle.commit_status.specs.Window.{IsWindow}
 use Rattle.table_indexes.specs.Indexes.{HasEntries, SameEntries}
 use Rattle.table_indexes.proofs.IndexLemmas.{entries-back}

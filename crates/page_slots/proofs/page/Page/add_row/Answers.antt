@@ -2,13 +2,13 @@ use Rattle.std.proofs.Common.{◌≡◌, ◌≤◌, ◌<◌, ◌+◌, ◌∙◌,
 use Rattle.std.specs.List.{position_or_len}
 use Rattle.tuple_header.specs.Version.{rounded_size_of}
 use Rattle.page_slots.specs.View.{PageView, AreTallied}
-use Rattle.page_slots.specs.declared.slot.Slot.{Slot}
-use Rattle.page_slots.specs.declared.slot.Slot.TheVariants.{Normal}
-use Rattle.page_slots.specs.Layout.{slots_in}
-use Rattle.page_slots.specs.Slots.{is_unused, free_number, room_of, with_added}
-use Rattle.page_slots.proofs.FreeLemmas.{first-after_added}
+use Rattle.page_sheet.specs.declared.slot.Slot.{Slot}
+use Rattle.page_sheet.specs.declared.slot.Slot.TheVariants.{Normal}
+use Rattle.page_sheet.specs.Layout.{slots_in}
+use Rattle.page_sheet.specs.Slots.{is_unused, free_number, room_of, with_added}
+use Rattle.page_sheet.proofs.FreeLemmas.{first-after_added}
 use Rattle.page_slots.proofs.Kept.{kept_added, room-reused, room-new, with_added-at, with_added-behind}
-use Rattle.page_slots.proofs.Sounds.{length-slots_in}
+use Rattle.page_sheet.proofs.Sounds.{length-slots_in}
 use Rattle.page_slots.proofs.page.Page.add_row.Goals as goal
 use Rattle.page_slots.proofs.page.Page.add_row.Goals.{then-index-len, else-index-len}
 

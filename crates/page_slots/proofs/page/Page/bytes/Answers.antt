@@ -1,9 +1,10 @@
 use Rattle.std.proofs.Common.{◌≡◌, ◌∙◌, sym, ap, subst, None, ℕ, List}
 use Rattle.page_slots.specs.View.{PageView}
-use Rattle.page_slots.specs.Layout.{slots_in}
+use Rattle.page_sheet.specs.Layout.{slots_in}
 use Rattle.page_layout.specs.Layout.{slot_count_in, change_in, is_all_visible_in}
 use Rattle.page_slots.specs.Reading.{page_of}
 use Rattle.page_slots.specs.Faults.{AreSoundRedirects, page_fault}
+use Rattle.page_slots.proofs.PlainLemmas.{accepted}
 use Rattle.page_slots.proofs.page.Page.bytes.Goals as goal
 
 counted : (bytes : List ℕ) (count : ℕ) → slot_count_in bytes ≡ count
@@ -18,4 +19,5 @@ returns-clause-page c =
 pub returns-clause-accepted : goal.returns-clause-accepted
 returns-clause-accepted c = λ redirects.
     subst (λ (bytes : List ℕ). page_fault bytes ≡ None) (sym c.bytes.ensures.bytes)
-    (c.bytes.ensures.accepted (subst (λ (p : PageView). AreSoundRedirects p.slots) (sym c.self.view_is) redirects))
+    (accepted c.self.inside.sheet.bytes c.self.inside.sheet.count c.bytes.ensures.sound
+      (subst (λ (p : PageView). AreSoundRedirects p.slots) (sym c.self.view_is) redirects))

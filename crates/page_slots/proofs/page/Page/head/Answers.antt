@@ -1,9 +1,9 @@
 use Rattle.std.proofs.Common.{◌∙◌, ◌-◌, sym, ap, subst, arith}
 use Rattle.page_slots.specs.View.{PageView}
-use Rattle.page_slots.specs.Slots.{SlotIsThere, head_of}
-use Rattle.page_slots.specs.Layout.{slot_in}
-use Rattle.page_slots.proofs.Found.{the_slot-in}
-use Rattle.page_slots.proofs.Sounds.{length-slots_in}
+use Rattle.page_sheet.specs.Slots.{SlotIsThere, head_of}
+use Rattle.page_sheet.specs.Layout.{slot_in}
+use Rattle.page_sheet.proofs.Found.{the_slot-in}
+use Rattle.page_sheet.proofs.Sounds.{length-slots_in}
 use Rattle.page_slots.proofs.page.Page.head.Goals as goal
 
 pub head-requires : goal.head-requires

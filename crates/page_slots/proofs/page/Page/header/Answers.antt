@@ -1,9 +1,9 @@
 use Rattle.std.proofs.Common.{◌∙◌, sym, ap, arith}
 use Rattle.std.specs.Option.{option_map}
 use Rattle.tuple_header.specs.Version.{Version}
-use Rattle.page_slots.specs.Slots.{version_of}
-use Rattle.page_slots.specs.Layout.{slot_in}
-use Rattle.page_slots.proofs.Found.{version_at-found, version_at-missing, is-there, some-mapped}
+use Rattle.page_sheet.specs.Slots.{version_of}
+use Rattle.page_sheet.specs.Layout.{slot_in}
+use Rattle.page_sheet.proofs.Found.{version_at-found, version_at-missing, is-there, some-mapped}
 use Rattle.page_slots.proofs.page.Page.header.Goals as goal
 
 pub returns-then-index-len-clause-value : goal.returns-then-index-len-clause-value

@@ -1,9 +1,9 @@
 use Rattle.std.proofs.Common.{arith}
 use Rattle.std.proofs.lemmas.Bool.{ltb-true}
-use Rattle.page_slots.specs.Layout.{slot_in, slots_in}
-use Rattle.page_slots.specs.Slots.{slot_at}
+use Rattle.page_sheet.specs.Layout.{slot_in, slots_in}
+use Rattle.page_sheet.specs.Slots.{slot_at}
 use Rattle.page_slots.proofs.Dead.{dead-slot, missing-dead}
-use Rattle.page_slots.proofs.Found.{found, missing}
+use Rattle.page_sheet.proofs.Found.{found, missing}
 use Rattle.page_slots.proofs.page.Page.is_dead.Goals as goal
 
 pub returns-then-index-len : goal.returns-then-index-len

@@ -1,7 +1,7 @@
 use Rattle.std.proofs.Common.{subst, sym}
 use Rattle.page_slots.specs.View.{PageView}
-use Rattle.page_slots.specs.Slots.{IsRedirected}
-use Rattle.page_slots.proofs.RedirectCounts.{redirected-there, redirected-from}
+use Rattle.page_sheet.specs.Slots.{IsRedirected}
+use Rattle.page_sheet.proofs.RedirectCounts.{redirected-there, redirected-from}
 use Rattle.page_slots.proofs.page.Page.is_redirected.Goals as goal
 
 pub returns : goal.returns

@@ -2,11 +2,12 @@ use Rattle.std.proofs.Common.{◌≡◌, ◌-◌, ◌∙◌, sym, subst, length,
 use Rattle.std.specs.Option.{option_map}
 use Rattle.tuple_header.specs.Version.{Version, size_of}
 use Rattle.page_layout.specs.Layout.{pointer_in}
-use Rattle.page_slots.specs.Layout.{slot_in}
+use Rattle.page_sheet.specs.Layout.{slot_in}
 use Rattle.page_slots.specs.Faults.{AreSoundRedirects}
 use Rattle.page_slots.specs.View.{PageView}
-use Rattle.page_slots.proofs.Found.{version_at-found, version_at-missing}
-use Rattle.page_slots.proofs.StandingLemmas.{some-by_length}
+use Rattle.page_sheet.proofs.Found.{version_at-found, version_at-missing}
+use Rattle.page_sheet.proofs.StandingLemmas.{some-by_length}
+use Rattle.page_slots.proofs.PlainLemmas.{accepted}
 use Rattle.page_slots.proofs.page.Page.place.Goals as goal
 
 pub returns-in-Some-clause-normal : goal.returns-in-Some-clause-normal
@@ -27,7 +28,9 @@ returns-in-Some-clause-pointer c =
       bytes = c.self.inside.sheet.bytes;
       shown = rw c.bytes-bytes.ensures.count c.self.view_is;
       long = sym (ap length c.bytes-bytes.ensures.bytes) ∙ c.bytes-bytes.ensures.long;
-      accepted = λ redirects. c.bytes-bytes.ensures.accepted (subst (λ (p : PageView). AreSoundRedirects p.slots) (sym c.self.view_is) redirects);
+      accepted = λ redirects.
+        accepted c.self.inside.sheet.bytes c.self.inside.sheet.count c.bytes-bytes.ensures.sound
+        (subst (λ (p : PageView). AreSoundRedirects p.slots) (sym c.self.view_is) redirects);
       pointer = ap (pointer_in c.self.inside.sheet.bytes) index ∙ c.in-Some.ensures.pointer;
     }
 

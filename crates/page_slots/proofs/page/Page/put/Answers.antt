@@ -2,16 +2,16 @@ use Rattle.std.proofs.Common.{◌≡◌, ◌-◌, ◌<◌, ◌≤◌, ℕ, [], t
 use Rattle.std.proofs.lemmas.Bool.{true≢false}
 use Rattle.std.specs.List.{position_or_len}
 use Rattle.page_slots.specs.View.{PageView, AreTallied}
-use Rattle.page_slots.specs.declared.slot.Slot.{Slot}
-use Rattle.page_slots.specs.declared.slot.Slot.TheVariants.{Unused}
-use Rattle.page_slots.specs.Layout.{shown_by, slots_in}
+use Rattle.page_sheet.specs.declared.slot.Slot.{Slot}
+use Rattle.page_sheet.specs.declared.slot.Slot.TheVariants.{Unused}
+use Rattle.page_sheet.specs.Layout.{shown_by, slots_in}
 use Rattle.page_layout.specs.Sound.{HoldsNoVersion}
-use Rattle.page_slots.specs.Slots.{SlotIsThere, is_unused, bytes_taken}
+use Rattle.page_sheet.specs.Slots.{SlotIsThere, is_unused, bytes_taken}
 use Rattle.page_slots.proofs.Kept.{kept_bare, taken-within, sum-bare}
-use Rattle.page_slots.proofs.PlacingLemmas.{some-lost, none-lost}
-use Rattle.page_slots.proofs.FreeLemmas.{first-after_set}
-use Rattle.page_slots.proofs.PointerSet.{bare-takes_none, bare-used}
-use Rattle.page_slots.proofs.Sounds.{slots_in-at, length-slots_in}
+use Rattle.page_sheet.proofs.PlacingLemmas.{some-lost, none-lost}
+use Rattle.page_sheet.proofs.FreeLemmas.{first-after_set}
+use Rattle.page_sheet.proofs.PointerSet.{bare-takes_none, bare-used}
+use Rattle.page_sheet.proofs.Sounds.{slots_in-at, length-slots_in}
 use Rattle.page_slots.proofs.page.Page.put.Goals as goal
 use Rattle.page_slots.proofs.page.Page.put.Goals.{in-Unused, in_default, then-taken-gt0, else-taken-gt0}
 

@@ -1,7 +1,7 @@
 use Rattle.std.proofs.Common.{◌∙◌, sym, ap, arith}
 use Rattle.std.specs.Option.{option_and_then}
-use Rattle.page_slots.specs.Slots.{target_of}
-use Rattle.page_slots.proofs.Found.{found, missing, is-there}
+use Rattle.page_sheet.specs.Slots.{target_of}
+use Rattle.page_sheet.proofs.Found.{found, missing, is-there}
 use Rattle.page_slots.proofs.page.Page.redirect.Goals as goal
 
 pub returns-then-index-len-clause-value : goal.returns-then-index-len-clause-value

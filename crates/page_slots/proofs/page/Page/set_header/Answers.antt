@@ -1,12 +1,12 @@
 use Rattle.std.proofs.Common.{◌≡◌, ◌-◌, ◌<◌, ℕ, get_or, set, sym, ap, ◌∙◌, subst, arith, List}
 use Rattle.page_slots.specs.View.{PageView, AreTallied}
-use Rattle.page_slots.specs.declared.slot.Slot.{Slot}
-use Rattle.page_slots.specs.declared.slot.Slot.TheVariants.{Unused}
-use Rattle.page_slots.specs.Layout.{slot_in, slots_in}
-use Rattle.page_slots.specs.Slots.{IsNormalAt, differs_in_hints_alone, next_change, the_slot, with_header, with_header_at}
+use Rattle.page_sheet.specs.declared.slot.Slot.{Slot}
+use Rattle.page_sheet.specs.declared.slot.Slot.TheVariants.{Unused}
+use Rattle.page_sheet.specs.Layout.{slot_in, slots_in}
+use Rattle.page_sheet.specs.Slots.{IsNormalAt, differs_in_hints_alone, next_change, the_slot, with_header, with_header_at}
 use Rattle.page_slots.proofs.Kept.{kept_header, hints-of_some, hints-of_none}
-use Rattle.page_slots.proofs.SlotLemmas.{there-from_normal}
-use Rattle.page_slots.proofs.Sounds.{slots_in-at, length-slots_in}
+use Rattle.page_sheet.proofs.SlotLemmas.{there-from_normal}
+use Rattle.page_sheet.proofs.Sounds.{slots_in-at, length-slots_in}
 use Rattle.page_slots.proofs.page.Page.set_header.Goals as goal
 use Rattle.page_slots.proofs.page.Page.set_header.Goals.{in-Some, in-None}
 

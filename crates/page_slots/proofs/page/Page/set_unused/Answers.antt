@@ -1,9 +1,9 @@
 use Rattle.std.proofs.Common.{◌≡◌, ◌-◌, ◌<◌, ℕ, get_or, sym, ap, ◌∙◌, subst, arith}
 use Rattle.page_slots.specs.View.{PageView}
-use Rattle.page_slots.specs.declared.slot.Slot.TheVariants.{Unused}
-use Rattle.page_slots.specs.Layout.{slots_in}
-use Rattle.page_slots.specs.Slots.{SlotIsThere, is_unused, the_slot}
-use Rattle.page_slots.proofs.Sounds.{slots_in-at, length-slots_in}
+use Rattle.page_sheet.specs.declared.slot.Slot.TheVariants.{Unused}
+use Rattle.page_sheet.specs.Layout.{slots_in}
+use Rattle.page_sheet.specs.Slots.{SlotIsThere, is_unused, the_slot}
+use Rattle.page_sheet.proofs.Sounds.{slots_in-at, length-slots_in}
 use Rattle.page_slots.proofs.page.Page.set_unused.Goals as goal
 
 pub is_unused-same-requires : goal.is_unused-same-requires

@@ -1,6 +1,6 @@
 use Rattle.std.proofs.Common.{refl, sym, arith}
 use Rattle.std.proofs.lemmas.Bool.{true≢false}
-use Rattle.page_slots.proofs.Found.{found, missing, is-there, not-there}
+use Rattle.page_sheet.proofs.Found.{found, missing, is-there, not-there}
 use Rattle.page_slots.proofs.page.Page.slot.Goals as goal
 
 pub returns-then-index-len-clause-value : goal.returns-then-index-len-clause-value

@@ -1,5 +1,5 @@
 use Rattle.std.proofs.Common.{◌∙◌, sym}
-use Rattle.page_slots.proofs.Sounds.{length-slots_in}
+use Rattle.page_sheet.proofs.Sounds.{length-slots_in}
 use Rattle.page_slots.proofs.page.Page.slots.Goals as goal
 
 pub returns-clause-count : goal.returns-clause-count

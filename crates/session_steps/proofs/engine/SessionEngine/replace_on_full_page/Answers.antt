@@ -1,7 +1,7 @@
 use Rattle.std.proofs.Common.{◌≡◌, ◌∙◌, ◌<◌, Some, sym, subst}
 use Rattle.std.proofs.lemmas.Option.{none-some}
 use Rattle.tuple_header.specs.Version.{rounded_size_of}
-use Rattle.page_slots.specs.Slots.{room_of}
+use Rattle.page_sheet.specs.Slots.{room_of}
 use Rattle.heap_write.specs.Heap.{page_on}
 use Rattle.heap_write.specs.Refusals.{VersionIsThere, AnswersUpdate}
 use Rattle.session_steps.specs.State.{State, horizon_of}

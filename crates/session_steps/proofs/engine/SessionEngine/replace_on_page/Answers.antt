@@ -1,7 +1,7 @@
 use Rattle.std.proofs.Common.{◌∙◌, ◌≤◌, ◌↔◌, IsTrue, Some, sym, subst}
 use Rattle.std.proofs.lemmas.Option.{none-some}
 use Rattle.tuple_header.specs.Version.{rounded_size_of}
-use Rattle.page_slots.specs.Slots.{room_of}
+use Rattle.page_sheet.specs.Slots.{room_of}
 use Rattle.heap_write.specs.Heap.{page_on}
 use Rattle.heap_write.specs.Writes.{KeepsValues}
 use Rattle.heap_write.specs.Refusals.{VersionIsThere}

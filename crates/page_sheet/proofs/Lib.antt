@@ -1,0 +1,17 @@
+pub mod Added
+pub mod Found
+pub mod FreeLemmas
+pub mod Grown
+pub mod HeaderSet
+pub mod PointerSet
+pub mod Shown
+pub mod SlotLemmas
+pub mod Sounds
+pub mod PackLemmas
+pub mod PlacingLemmas
+pub mod RunLemmas
+pub mod LyingLemmas
+pub mod Blank
+pub mod Ids
+pub mod StandingLemmas
+pub mod RedirectCounts

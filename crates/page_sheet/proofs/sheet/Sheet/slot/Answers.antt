@@ -1,0 +1,29 @@
+use Rattle.std.proofs.Common.{◌≡◌, sym, ap, ◌∙◌}
+use Rattle.page_sheet.specs.Sheet.{SheetView}
+use Rattle.page_layout.specs.declared.pointer.Pointer.TheVariants as pointer
+use Rattle.page_sheet.proofs.Shown.{shown}
+use Rattle.page_sheet.proofs.sheet.Sheet.slot.Goals as goal
+
+pub returns-in-Unused : goal.returns-in-Unused
+returns-in-Unused c =
+    let seen : c.args.self.now.bytes ≡ c.self.inside.bytes = ap (λ (s : SheetView). s.bytes) (sym c.self.view_is) in
+    let is = shown c.args.self.now.bytes c.args.index (pointer.Unused) (sym c.in-Unused.is ∙ c.pointer.ensures.value) in
+    cc
+
+pub returns-in-Normal : goal.returns-in-Normal
+returns-in-Normal c =
+    let seen : c.args.self.now.bytes ≡ c.self.inside.bytes = ap (λ (s : SheetView). s.bytes) (sym c.self.view_is) in
+    let is = shown c.args.self.now.bytes c.args.index (pointer.Normal c.in-Normal.extent) (sym c.in-Normal.is ∙ c.pointer.ensures.value) in
+    cc
+
+pub returns-in-Redirect : goal.returns-in-Redirect
+returns-in-Redirect c =
+    let seen : c.args.self.now.bytes ≡ c.self.inside.bytes = ap (λ (s : SheetView). s.bytes) (sym c.self.view_is) in
+    let is = shown c.args.self.now.bytes c.args.index (pointer.Redirect c.in-Redirect.target) (sym c.in-Redirect.is ∙ c.pointer.ensures.value) in
+    cc
+
+pub returns-in-Dead : goal.returns-in-Dead
+returns-in-Dead c =
+    let seen : c.args.self.now.bytes ≡ c.self.inside.bytes = ap (λ (s : SheetView). s.bytes) (sym c.self.view_is) in
+    let is = shown c.args.self.now.bytes c.args.index (pointer.Dead) (sym c.in-Dead.is ∙ c.pointer.ensures.value) in
+    cc

@@ -1,5 +1,0 @@
-use Rattle.page_slots.proofs.RunLemmas.{IsEdge}
-use Rattle.page_slots.proofs.packing.run_from.Given as goal
-
-abbrev pub invariant-loop-index : goal.invariant-loop-index
-invariant-loop-index l = IsEdge l.bytes l.count l.fn.first l.fn.top l.index l.edge

@@ -1,5 +1,0 @@
-use Rattle.page_slots.proofs.Shown.{part-faultless}
-use Rattle.page_slots.proofs.sheet.Sheet.header.Goals as goal
-
-pub returns-in-Some-clause-faultless : goal.returns-in-Some-clause-faultless
-returns-in-Some-clause-faultless c = part-faultless c.in-Some.part.now c.header_of.result c.in-Some.ensures.faultless c.header_of.ensures

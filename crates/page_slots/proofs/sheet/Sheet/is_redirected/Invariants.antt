@@ -1,6 +1,0 @@
-use Rattle.std.proofs.Common.{◌≡◌, ◌+◌}
-use Rattle.page_slots.proofs.RedirectCounts.{IsCounted}
-use Rattle.page_slots.proofs.sheet.Sheet.is_redirected.Given as goal
-
-abbrev pub invariant-loop-index : goal.invariant-loop-index
-invariant-loop-index l = IsCounted l.self-inside.bytes l.number l.index l.found × (l.sought ≡ l.number + 65536)
