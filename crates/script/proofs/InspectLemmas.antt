@@ -9,7 +9,7 @@ use Rattle.page_slots.specs.View.{PageView}
 use Rattle.page_layout.specs.declared.faults.PageFault.TheVariants.{Length}
 use Rattle.script_text.proofs.PageLemmas.{long_fault, none_some, page_length}
 use Rattle.script_text.specs.Grammar.{with_feed}
-use Rattle.script_text.specs.Inspected.{inspected_text}
+use Rattle.script.specs.PageText.{inspected_text}
 use Rattle.script.specs.Inspected.{PageOutcome, page_lines}
 use Rattle.script.specs.Pieces.{TakesText}
 use Rattle.script.specs.Refusals.{Refusals, IsRefused, IsPageCaused}

@@ -6,3 +6,4 @@ pub mod InspectLemmas
 mod ListLemmas
 mod ReadingLemmas
 mod ThreadsLemmas
+pub mod PageTextLemmas

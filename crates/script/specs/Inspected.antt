@@ -4,7 +4,7 @@ use Rattle.std.specs.Io.KnownBytes.{Appends}
 use Rattle.page_slots.specs.Faults.{page_fault}
 use Rattle.page_slots.specs.Reading.{page_of}
 use Rattle.script_text.specs.Grammar.{with_feed}
-use Rattle.script_text.specs.Inspected.{inspected_text}
+use Rattle.script.specs.PageText.{inspected_text}
 use Rattle.script.specs.declared.fault.ShellFault.{ShellFault}
 use Rattle.script.specs.declared.fault.ShellFault.TheVariants.{BadLine, BadPage, TooManyLines}
 use Rattle.script.specs.Script.{WritesBeginning}

@@ -8,3 +8,4 @@ pub mod Steps
 pub mod Inspected
 pub mod Threads
 pub mod Reading
+pub mod PageText

@@ -4,7 +4,7 @@
 //! read are of the grammar (`script_text`), that the replies to their steps are a run of the history and come from an engine made
 //! by the first line's settings, and that exactly their text was written (`specs/Script.antt`); after a fault, which part of this
 //! holds, and that the [`IoLog`] had noted what was refused (`specs/Refusals.antt`). [`command_of`] of `script_text` says what the
-//! program's words ask for. [`inspect_script`] reads a page and writes what its bytes say (`specs/Inspected.antt`). The parts of a run,
+//! program's words ask for. [`inspect_script`] reads a page and writes what its bytes say (`specs/Inspected.antt`, `specs/PageText.antt`). The parts of a run,
 //! from [`next_line`] on, are public for a run of a further language.
 #![tactic(auto)]
 
@@ -15,6 +15,7 @@ mod inspect;
 mod io_log;
 mod output;
 mod page_bytes;
+mod page_text;
 mod page_words;
 mod run;
 mod threads;

@@ -11,8 +11,8 @@ use crate::fault::ShellFault;
 use crate::input::Pending;
 use crate::io_log::IoLog;
 use crate::output::write_out;
+use crate::page_text::tell_bytes;
 use page_slots::{PAGE_BYTES, check_page};
-use script_text::tell_bytes;
 use std::alloc::Global;
 use std::io::{Read, Write};
 

@@ -48,7 +48,8 @@ fn glyph(n: u8) -> u8
     if n < 10 { b'0' + n } else { b'a' + (n - 10) }
 }
 
-pub(crate) fn hex(out: &mut Vec<u8>, bytes: &[u8]) -> Result<(), RefusedGrowth>
+/// Two hexadecimal digits for each byte, the higher first.
+pub fn hex(out: &mut Vec<u8>, bytes: &[u8]) -> Result<(), RefusedGrowth>
     ensures { OnOk result (out.new.items ≡ out.old.items ++ hex_text bytes.now) }
 {
     for b in bytes {

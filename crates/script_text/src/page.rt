@@ -50,7 +50,8 @@ pub fn tell_no_page(out: &mut Vec<u8>) -> Result<(), RefusedGrowth>
     extend(out, b"error 19 NoSuchPage\n")
 }
 
-pub(crate) fn slot(out: &mut Vec<u8>, slot: &Slot) -> Result<(), RefusedGrowth>
+/// What a slot holds: its kind, and where it leads, or the ids and the key of its version.
+pub fn slot(out: &mut Vec<u8>, slot: &Slot) -> Result<(), RefusedGrowth>
     ensures { OnOk result (out.new.items ≡ out.old.items ++ slot_text slot.now) }
 {
     match slot {

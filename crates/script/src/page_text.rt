@@ -6,13 +6,11 @@ ghost use Rattle.tuple_header.specs.declared.version.TheConstants.{MOST_SLOTS};
 ghost use Rattle.page_layout.specs.Faults.{word_in};
 ghost use Rattle.page_sheet.specs.Slots.{slot_at};
 ghost use Rattle.script_text.specs.Grammar.{spaced, with_feed};
-ghost use Rattle.script_text.specs.Inspected.{hex16_text, place_text, marks_text, bytes_text, inspected_line, inspected_lines, inspected_head, page_line, inspected_text};
+ghost use Rattle.script.specs.PageText.{hex16_text, place_text, marks_text, bytes_text, inspected_line, inspected_lines, inspected_head, page_line, inspected_text};
 
-use crate::answer::{hex, put_unsigned};
-use crate::growth::{RefusedGrowth, push};
-use crate::page::{label, slot, spaced_number};
 use page_layout::{PAGE_HEADER_BYTES, u32_at};
 use page_slots::{Page, Slot};
+use script_text::{RefusedGrowth, hex, label, push, put_unsigned, slot, spaced_number};
 use tuple_header::Header;
 
 // A space and four hexadecimal digits.
@@ -63,7 +61,7 @@ fn slot_bytes(out: &mut Vec<u8>, word: u32, slot: &Slot) -> Result<(), RefusedGr
 }
 
 // A line feed, and then the line of the slot at an index.
-#[tactic(auto, unfolding(crate::specs::Inspected::inspected_line))]
+#[tactic(auto, unfolding(crate::specs::PageText::inspected_line))]
 fn line(out: &mut Vec<u8>, bytes: &[u8], index: u16, one: &Slot) -> Result<(), RefusedGrowth>
     requires { 28 + 4 * index ≤ length bytes.now }
     ensures { OnOk result
@@ -76,7 +74,7 @@ fn line(out: &mut Vec<u8>, bytes: &[u8], index: u16, one: &Slot) -> Result<(), R
 }
 
 // As above, if there is such a slot.
-#[tactic(auto, unfolding(crate::specs::Inspected::inspected_line))]
+#[tactic(auto, unfolding(crate::specs::PageText::inspected_line))]
 fn line_if_there(
     out: &mut Vec<u8>,
     page: &Page,
@@ -107,7 +105,7 @@ fn lines(out: &mut Vec<u8>, page: &Page, bytes: &[u8]) -> Result<(), RefusedGrow
     Ok(())
 }
 
-#[tactic(auto, unfolding(crate::specs::Inspected::inspected_head))]
+#[tactic(auto, unfolding(crate::specs::PageText::inspected_head))]
 fn head(
     out: &mut Vec<u8>,
     change: u64,
@@ -132,7 +130,7 @@ fn visible(page: &Page) -> u64
 }
 
 // The page's own line.
-#[tactic(auto, unfolding(crate::specs::Inspected::page_line))]
+#[tactic(auto, unfolding(crate::specs::PageText::page_line))]
 fn page_head(out: &mut Vec<u8>, page: &Page) -> Result<(), RefusedGrowth>
     ensures { OnOk result (out.new.items ≡ out.old.items ++ page_line page.now) }
 {
@@ -141,7 +139,7 @@ fn page_head(out: &mut Vec<u8>, page: &Page) -> Result<(), RefusedGrowth>
 }
 
 /// Adds the lines of a page that has these bytes: one of the page, and one of each slot.
-pub fn tell_bytes(out: &mut Vec<u8>, page: &Page, bytes: &[u8]) -> Result<(), RefusedGrowth>
+pub(crate) fn tell_bytes(out: &mut Vec<u8>, page: &Page, bytes: &[u8]) -> Result<(), RefusedGrowth>
     requires { PAGE_BYTES ≤ length bytes.now }
     ensures { OnOk result
         (out.new.items ≡ out.old.items ++ with_feed (inspected_text page.now bytes.now)) }
