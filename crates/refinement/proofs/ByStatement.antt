@@ -73,6 +73,7 @@ module _ (status status' : ℕ → Option Status) (store : Tid → Option Versio
         (λ k other. own_or-none (written writes k) (committed (history ++ t ∷ []) (length (history ++ t ∷ [])) k) (both_ways (is_some (written writes k)) other))
         h.rows current;
     whole = λ p y v at is reads x maker. whole p y v at is reads x maker;
+    covers = λ p v at seen wrote. h.covers p v at (VisibleBy-same (λ y touch r. before p v at wrote y touch r) (λ y touch r. still y r) seen) wrote;
   }
     where
       -- of a key that it wrote, nothing is theirs
@@ -131,6 +132,7 @@ module _ (status status' : ℕ → Option Status) (store : Tid → Option Versio
     traces = record {
       late_missed = λ k late. absurd (none_late (history ++ t ∷ []) k late);
       missed_late = λ p v at missed. absurd (none_missed v missed);
+      timely = λ p v at current by late. none_late (history ++ t ∷ []) v.row.key late;
     };
     began = omega arith;
     in_time = λ k wrote late. none_late (history ++ t ∷ []) k late;
@@ -142,7 +144,7 @@ module _ (status status' : ℕ → Option Status) (store : Tid → Option Versio
 pub ReaderAgrees-opens : {status : ℕ → Option Status} {store : Tid → Option Version} {history : List Transaction} {sees : ℕ → Type 0} {start : ℕ} {own : List ℕ} {writes : List Write}
     → IsFreshSnapshot status sees → ReaderAgrees status store history (λ x. HasCommitted status x) start own writes → ReaderAgrees status store history sees start own writes
 ReaderAgrees-opens {status} {store} {history} {sees} {start} {own} {writes} fresh h =
-    ReaderAgrees-same (λ p x v at touch reads. to x reads) (λ p x v at touch reads. back x reads) (λ k. refl) (λ k. refl) h
+    ReaderAgrees-same (λ p x v at touch reads. to x reads) (λ p x v at touch reads. back x reads) (λ x mine. mine) (λ k. refl) (λ k. refl) h
   where
     to : (x : ℕ) → Reads status (λ x. HasCommitted status x) own x → Reads status sees own x
     to x (by_itself mine) = by_itself mine

@@ -22,11 +22,13 @@ use Rattle.refinement.proofs.ShowsLemmas.{Shows-by_key}
 use Rattle.refinement.proofs.Statuses.{IsCommitted-finish_old, IsCommitted-commit_cases, IsCommitted-commit, IsActive-finish, given-finish}
 use Rattle.visibility.proofs.Verdicts.{VisibleBy-same}
 use Rattle.refinement.proofs.Readers.{Levels-top}
+use Rattle.refinement.proofs.Traces.{SparesCurrent}
 use Rattle.refinement.proofs.Isolations.{SameSights, cursor_same, statement_decided}
 use Rattle.refinement.proofs.Others.{SessionAgrees-commit_other}
 use Rattle.refinement.proofs.ByStatement.{own_or-some, own_or-none, SessionAgrees-commit_by_statement}
 use Rattle.refinement.proofs.SessionsLemmas.{opened-change, idle-change, owned-change, apart-change, alone-change}
 use Rattle.refinement.proofs.Steps.{OnlyIs, own_traced}
+use Rattle.refinement.proofs.Uncontested.{spares_current}
 
 -- to be seen is decided: what cannot be unseen is seen
 seen_or_not : (P : Type 0) → P ⊎ (¬ P) → ¬ (¬ P) → P
@@ -46,6 +48,7 @@ committed-is w s m there = ap (λ history. world history) (ap (appended w.histor
 module _ (status status' : ℕ → Option Status) (sees sees' : Snap → ℕ → Type 0) (store : Tid → Option Version) (history : List Transaction) (theirs : List ℕ) (t : Transaction)
     (finishes : FinishesIds status status' (λ x. Contains theirs x) Committed)
     (carries : Traced store (λ x. Contains theirs x) t)
+    (spares : SparesCurrent status store theirs t)
     (current : Shows store (λ v. VisibleBy (HasCommitted status') v.header) (committed (history ++ t ∷ []) (length (history ++ t ∷ []))))
     (made : (p : Tid) (y : ℕ) (v : Version) → At store p v → deleter v.header ≡ Some y → HasCommitted status' y → (x : ℕ) → inserter v.header ≡ Some x → HasCommitted status' x) where
   other_commits : {e : SeenSession} {m : OpenSession} (seen : SeenIsolation) (model : Isolation) → IsSameIsolation seen model
@@ -54,7 +57,7 @@ module _ (status status' : ℕ → Option Status) (sees sees' : Snap → ℕ →
       → SessionAgrees status store history (SightOfStatement status sees seen) (start_by model history) (SightOfCursor status sees seen) e m
       → SessionAgrees status' store (history ++ t ∷ []) (SightOfStatement status' sees' seen) (start_by model (history ++ t ∷ [])) (SightOfCursor status' sees' seen) e m
   other_commits (seen_by_snapshot snap) (by_snapshot start) alike same cursor_same foreign alone old =
-      SessionAgrees-commit_other theirs t finishes (same snap refl) cursor_same foreign carries alone old
+      SessionAgrees-commit_other theirs t finishes (same snap refl) cursor_same foreign carries spares alone old
   other_commits (seen_by_snapshot snap) by_statement alike same cursor_same foreign alone old = absurd alike
   other_commits (seen_by_statement kept) (by_snapshot start) alike same cursor_same foreign alone old = absurd alike
   other_commits (seen_by_statement kept) by_statement alike same cursor_same foreign alone old =
@@ -67,7 +70,7 @@ pub Agrees-commit : (h : Heap) (w : World) (s : ℕ) (e : SeenSession) (m : Open
     → HeapAgrees h w → HeapAgrees (record h { status = status'; sees = sees'; session = session' }) (with_transaction w s m)
 Agrees-commit h w s e m status' sees' session' only at there finishes same decided mine agrees = record {
   opened = opened-change h h' w w' s agrees only.others models
-      (λ o f n ne bt there' old. other_commits h.status status' h.sees sees' h.version w.history e.own (transaction_of m) finishes carries current made f.isolation n.isolation old.isolation
+      (λ o f n ne bt there' old. other_commits h.status status' h.sees sees' h.version w.history e.own (transaction_of m) finishes carries (spares_current mine) current made f.isolation n.isolation old.isolation
       (λ snap is. same snap (o, f, bt, is)) (λ some. cursor_same h status' sees' o f bt same (old.kept some)) (λ x ours theirs. ne (agrees.apart o s f e x bt at theirs ours))
       (λ k theirs ours. ne (agrees.alone o s k (n, there', theirs) (m, there, ours))) old)
       (λ e' at'. absurd (none-some e' (sym only.itself ∙ at')));

@@ -60,7 +60,7 @@ module _ (h : Heap) (status' : ℕ → Option Status) (sees' : Snap → ℕ → 
     read-back own p x v there touch (by_others sees done) = by_others ((later x Committed committed-stays done).1 sees) (known x Committed done)
 
     ReaderAgrees-forgets : {history : List Transaction} {start : ℕ} (own : List ℕ) (writes : List Write) → ReaderAgrees h.status h.version history sight start own writes → ReaderAgrees status' h.version history sight' start own writes
-    ReaderAgrees-forgets own writes r = ReaderAgrees-same (read-forth own) (read-back own) (λ k. refl) (λ k. refl) r
+    ReaderAgrees-forgets own writes r = ReaderAgrees-same (read-forth own) (read-back own) (λ x mine. mine) (λ k. refl) (λ k. refl) r
 
     active-forgets : ((x : ℕ) → IsRunning h.status x → ¬ sight x) → (x : ℕ) → IsRunning status' x → ¬ sight' x
     active-forgets unseen x active sees = unseen x (known x InProgress active) ((later x InProgress running-stays active).1 sees)
@@ -82,6 +82,9 @@ module _ (h : Heap) (status' : ℕ → Option Status) (sees' : Snap → ℕ → 
           let done = f.touched some.0 some.1 missed.0 some.2 missed.1.0 ∙ missed.1.1 in
           (some.0, some.1, some.2, some.3, (missed.0, (missed.1.0, done, λ sees. missed.1.2 ((later missed.0 Committed committed-stays done).1 sees))));
       missed_late = λ p v there missed. a.traces.missed_late p v there (missed.0, (missed.1.0, known missed.0 Committed missed.1.1, λ sees. missed.1.2 ((later missed.0 Committed committed-stays missed.1.1).0 sees)));
+      timely = λ p v there current by. a.traces.timely p v there
+          (VisibleBy-same (λ x touch done. known x Committed done) (λ x touch done. f.touched p v x there touch ∙ done) current)
+          (λ x made. (later x Committed committed-stays (current.made x made)).1 (by x made));
     };
     began = a.began;
     in_time = a.in_time;

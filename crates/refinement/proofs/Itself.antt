@@ -129,7 +129,8 @@ read_given gives same untouched own p y v at touch (by_others seen done) = let w
 
 ReaderAgrees-given : {status status' : ℕ → Option Status} {store : Tid → Option Version} {history : List Transaction} {sees sees' : ℕ → Type 0} {start x : ℕ} → GivesNext status status' x → SameSight status sees sees' → ((p : Tid) (v : Version) → At store p v → ¬ Touches x v.header)
     → (own : List ℕ) (writes : List Write) → ReaderAgrees status store history sees start own writes → ReaderAgrees status' store history sees' start (own ++ x ∷ []) writes
-ReaderAgrees-given gives same untouched own writes r = ReaderAgrees-same (λ p y v at touch. reads_given gives same own y) (read_given gives same untouched own) (λ k. refl) (λ k. refl) r
+ReaderAgrees-given {x = x} gives same untouched own writes r = ReaderAgrees-same (λ p y v at touch. reads_given gives same own y) (read_given gives same untouched own)
+    (λ y mine. Contains-append_left own (x ∷ []) y mine) (λ k. refl) (λ k. refl) r
 
 -- the session is given an id, of any of its levels
 pub SessionAgrees-give : {status status' : ℕ → Option Status} {store : Tid → Option Version} {history : List Transaction} {sees sees' cursor_sees cursor_sees' : ℕ → Type 0} {start : ℕ} {e : SeenSession} {m : OpenSession} (n x : ℕ)
@@ -221,11 +222,13 @@ SessionAgrees-begin {status} {store} {history} {sees} {cursor_sees} isolation mo
   levels = record {
     rows = Shows-same (λ p v at seen. VisibleBy-same (λ x touch. to x) (λ x touch. back x) seen) (λ p v at seen. VisibleBy-same (λ x touch. back x) (λ x touch. to x) seen) (λ k. refl) current;
     whole = λ p y v at is reads x inserter. to x (made p y v at is (back y reads) x inserter);
+    covers = λ p v at seen wrote. cc;
   };
   level_traces = Traced-none Contains-none;
   traces = record {
     late_missed = λ k late. absurd (IsLate-now history k late);
     missed_late = λ p v at missed. absurd (missed.1.2 (fresh.finished missed.0 missed.1.1));
+    timely = λ p v at current by late. IsLate-now history v.row.key late;
   };
   began = omega arith;
   in_time = λ k wrote. cc;

@@ -17,6 +17,7 @@ pub mod Savepoints
 pub mod Deleting
 pub mod Updating
 pub mod Pruning
+pub mod Uncontested
 pub mod Commit
 pub mod ByStatement
 pub mod Runs

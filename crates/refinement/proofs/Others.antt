@@ -20,7 +20,7 @@ use Rattle.refinement.proofs.CursorsLemmas.{KeepsSeen, CursorAgrees-keeps, Keeps
 use Rattle.refinement.proofs.Readers.{IsNew, IsDeleted, IsIdle, seen_deleted, seen_undeleted, ReaderAgrees-same, ReaderAgrees-add_other, ReaderAgrees-delete_other, Levels-map}
 use Rattle.refinement.proofs.Isolations.{CursorReads-map, CursorReads-to}
 use Rattle.refinement.proofs.LevelTraces.{Traced-add_other, Traced-delete_other, nested_of, LevelTraces-map}
-use Rattle.refinement.proofs.Traces.{TracesAgree-same, TracesAgree-add, TracesAgree-delete, TracesAgree-commit, unseen_still}
+use Rattle.refinement.proofs.Traces.{SparesCurrent, TracesAgree-same, TracesAgree-add, TracesAgree-delete, TracesAgree-commit, unseen_still}
 
 pub SessionAgrees-add_other : {status : ℕ → Option Status} {store store' : Tid → Option Version} {history : List Transaction} {sees cursor_sees : ℕ → Type 0} {start : ℕ} {e : SeenSession} {m : OpenSession} (x : ℕ) (place : Tid) (new : Version)
     → AddsVersion store store' place new → IsNew x new → IsRunning status x → ¬ Contains e.own x
@@ -64,7 +64,7 @@ pub same_reader : {status status' : ℕ → Option Status} {store : Tid → Opti
     → ((k : ℕ) → committed history' start k ≡ committed history start k)
     → ReaderAgrees status store history sees start own writes → ReaderAgrees status' store history' sees' start own writes
 same_reader own writes to same back before r =
-    ReaderAgrees-same (λ p x v at touch reads. Reads-status (to x) (λ done. (same x Committed done).0) reads) (λ p x v at touch reads. back x reads) (λ k. refl) before r
+    ReaderAgrees-same (λ p x v at touch reads. Reads-status (to x) (λ done. (same x Committed done).0) reads) (λ p x v at touch reads. back x reads) (λ x mine. mine) (λ k. refl) before r
 
 -- what is read after a change that commits nothing was read before it
 pub reads_before : {status status' : ℕ → Option Status} {sees sees' : ℕ → Type 0} (own : List ℕ) → ((x : ℕ) → HasCommitted status' x → HasCommitted status x) → SameSight status sees sees'
@@ -169,9 +169,9 @@ CursorReads-commit_other {status} {status'} {store} {history} {sees} {sees'} {P}
 -- a session by snapshot
 pub SessionAgrees-commit_other : {status status' : ℕ → Option Status} {store : Tid → Option Version} {history : List Transaction} {sees sees' cursor_sees cursor_sees' : ℕ → Type 0} {start : ℕ} {e : SeenSession} {m : OpenSession} (own : List ℕ) (t : Transaction)
     → FinishesIds status status' (λ x. Contains own x) Committed → SameSight status sees sees' → (IsSome e.cursor → SameSight status cursor_sees cursor_sees') → ((x : ℕ) → Contains own x → ¬ Contains e.own x)
-    → Traced store (λ x. Contains own x) t → ((k : ℕ) → IsSome (own_write m k) → IsSome (written t k) → ⊥)
+    → Traced store (λ x. Contains own x) t → SparesCurrent status store own t → ((k : ℕ) → IsSome (own_write m k) → IsSome (written t k) → ⊥)
     → SessionAgrees status store history sees start cursor_sees e m → SessionAgrees status' store (history ++ t ∷ []) sees' start cursor_sees' e m
-SessionAgrees-commit_other {status} {status'} {store} {history} {sees} {sees'} {cursor_sees} {cursor_sees'} {start} {e} {m} own t finishes same cursor_same foreign carries alone h = record {
+SessionAgrees-commit_other {status} {status'} {store} {history} {sees} {sees'} {cursor_sees} {cursor_sees'} {start} {e} {m} own t finishes same cursor_same foreign carries spares alone h = record {
   same_failed = h.same_failed;
   isolation = h.isolation;
   kept = h.kept;
@@ -179,7 +179,7 @@ SessionAgrees-commit_other {status} {status'} {store} {history} {sees} {sees'} {
   cursor_reads = λ some. CursorReads-commit_other t finishes (cursor_same some) (h.cursor_reads some);
   levels = Levels-map e.own e.saved m.levels (λ own' writes among r. ReaderAgrees-commit_other start own' writes t finishes same h.active_unseen h.began r) h.levels;
   level_traces = h.level_traces;
-  traces = TracesAgree-commit own t finishes same carries h.began (λ x mine. h.active_unseen x (finishes.active x mine)) h.traces;
+  traces = TracesAgree-commit own t finishes same carries h.began (λ x mine. h.active_unseen x (finishes.active x mine)) spares h.traces;
   began = longer history t start h.began;
   in_time = λ k wrote late. elim (IsLate-push_cases history t start k late) [ inl old ↦ h.in_time k wrote old | inr theirs ↦ alone k wrote theirs ];
   active_unseen = unseen-finished (λ is. cc) finishes same h.active_unseen;

@@ -101,6 +101,7 @@ pub ReaderAgrees-prune : {status : ℕ → Option Status} {store store' : Tid �
 ReaderAgrees-prune removes reader made h = record {
   rows = Shows-removes removes (λ p v at past. past_unseen reader v past) h.rows;
   whole = λ p y v at is reads. h.whole p y v (removes.kept p v at) is reads;
+  covers = λ p v at. h.covers p v (removes.kept p v at);
 }
 
 SessionAgrees-prune : {status : ℕ → Option Status} {store store' : Tid → Option Version} {history : List Transaction} {sees : Snap → ℕ → Type 0} {session : ℕ → Option SeenSession} {sight cursor_sight : ℕ → Type 0} {start : ℕ} (e : SeenSession) (m : OpenSession)
@@ -120,6 +121,7 @@ SessionAgrees-prune {status} {store} {store'} {history} {sees} {session} {sight}
   traces = record {
     late_missed = λ k late. SomeVersion-removes removes (λ p v bt past. past_seen (reader e.own (λ x mine. mine)) made (Levels-top e.own e.saved m.levels h.levels) p v bt past) k (h.traces.late_missed k late);
     missed_late = λ p v bt missed. h.traces.missed_late p v (removes.kept p v bt) missed;
+    timely = λ p v bt. h.traces.timely p v (removes.kept p v bt);
   };
   began = h.began;
   in_time = h.in_time;

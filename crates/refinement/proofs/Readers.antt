@@ -4,6 +4,7 @@ use Rattle.std.specs.Prelude.{IsSome, Contains}
 use Rattle.std.proofs.lemmas.Bool.{cases_eq}
 use Rattle.std.proofs.lemmas.Option.{same_Some, none-some}
 use Rattle.xid_circle.specs.declared.Tid.{Tid}
+use Rattle.tuple_header.specs.declared.version.Row.{Row}
 use Rattle.tuple_header.specs.Version.{Version}
 use Rattle.commit_status.specs.declared.status.Status.{Status}
 use Rattle.history.specs.History.{Write, Transaction, committed, written, own_or, reading}
@@ -22,12 +23,16 @@ use Rattle.refinement.proofs.Versions.{Adds-cases, Alters-cases, active_unread}
 pub ReaderAgrees-same : {status status' : ℕ → Option Status} {store : Tid → Option Version} {history history' : List Transaction} {sees sees' : ℕ → Type 0} {start : ℕ} {own own' : List ℕ} {writes writes' : List Write}
     → ((p : Tid) (x : ℕ) (v : Version) → At store p v → Touches x v.header → Reads status sees own x → Reads status' sees' own' x)
     → ((p : Tid) (x : ℕ) (v : Version) → At store p v → Touches x v.header → Reads status' sees' own' x → Reads status sees own x)
+    → ((x : ℕ) → Contains own x → Contains own' x)
     → ((k : ℕ) → written writes' k ≡ written writes k) → ((k : ℕ) → committed history' start k ≡ committed history start k)
     → ReaderAgrees status store history sees start own writes → ReaderAgrees status' store history' sees' start own' writes'
-ReaderAgrees-same {status} {status'} {store} {history} {history'} {sees} {sees'} {start} {own} {own'} {writes} {writes'} to back alike before h = record {
+ReaderAgrees-same {status} {status'} {store} {history} {history'} {sees} {sees'} {start} {own} {own'} {writes} {writes'} to back still alike before h = record {
   rows = Shows-same (λ p v at seen. VisibleBy-same (λ x touch. to p x v at touch) (λ x touch. back p x v at touch) seen) (λ p v at seen. VisibleBy-same (λ x touch. back p x v at touch) (λ x touch. to p x v at touch) seen)
       (λ k. ap (λ o. own_or o (committed history' start k)) (alike k) ∙ ap (λ r. own_or (written writes k) r) (before k)) h.rows;
   whole = λ p y v at is reads x made. to p x v at (made_by made) (h.whole p y v at is (back p y v at (deleted_by is) reads) x made);
+  covers = λ p v at seen wrote.
+      let made = h.covers p v at (VisibleBy-same (λ x touch. back p x v at touch) (λ x touch. to p x v at touch) seen) (subst (λ o. IsSome o) (alike v.row.key) wrote) in
+      (made.0, made.1, still made.0 made.2);
 }
 
 -- a version that the id x made and nothing deletes
@@ -48,6 +53,10 @@ ReaderAgrees-add_other {status} {store} {store'} {history} {sees} {start} {own} 
   whole = λ p y u at is reads. elim (Adds-cases adds p u at) [
     | inl old ↦ h.whole p y u old is reads
     | inr now ↦ absurd (none-some y (sym is_new.kept ∙ (ap (λ (u : Version). deleter u.header) (sym now.1) ∙ is)))
+  ];
+  covers = λ p u at seen wrote. elim (Adds-cases adds p u at) [
+    | inl old ↦ h.covers p u old seen wrote
+    | inr now ↦ absurd (active_unread active foreign (seen.made x (ap (λ (u : Version). inserter u.header) now.1 ∙ is_new.made)))
   ];
 }
 
@@ -88,6 +97,13 @@ ReaderAgrees-delete_other {status} {store} {store'} {history} {sees} {start} {ow
         absurd (active_unread active foreign (subst (λ z. Reads status sees own z) (same_Some y x (sym is ∙ by)) reads)))
     | inr other ↦ h.whole p y u other.1 is reads
   ];
+  covers = λ p u bt seen wrote. elim (Alters-cases alters p u bt) [
+    | inl same ↦ (let key : u.row.key ≡ old.row.key = ap (λ (u : Version). u.row.key) same.1 ∙ ap (λ (r : Row). r.key) deleted.same_row in
+        let made = h.covers place old alters.before (seen_undeleted deleted idle (subst (λ (u : Version). ReaderSees status sees own u) same.1 seen))
+        (subst (λ k. IsSome (written writes k)) key wrote) in
+        (made.0, ap (λ (u : Version). inserter u.header) same.1 ∙ (deleted.same_maker ∙ made.1), made.2))
+    | inr other ↦ h.covers p u other.1 seen wrote
+  ];
 }
 
 -- a write marks its key, and no other
@@ -120,6 +136,14 @@ ReaderAgrees-insert {status} {store} {store'} {history} {sees} {start} {own} {wr
     | inl old ↦ h.whole p y u old is reads
     | inr now ↦ absurd (none-some y (sym is_new.kept ∙ (ap (λ (u : Version). deleter u.header) (sym now.1) ∙ is)))
   ];
+  -- of the new version's key it saw none before
+  covers = λ p u at seen wrote. elim (Adds-cases adds p u at) [
+    | inl old ↦ elim (cases_eq u.row.key new.row.key) [
+      | inl same ↦ absurd (none-some u.row (sym none ∙ (ap (reading history start writes) (sym same) ∙ h.rows.sound p u old seen)))
+      | inr ne ↦ h.covers p u old seen (wrote_before writes write u.row.key ne wrote)
+    ]
+    | inr now ↦ (x, ap (λ (u : Version). inserter u.header) now.1 ∙ is_new.made, mine)
+  ];
 }
   where
     write : Write
@@ -137,6 +161,14 @@ ReaderAgrees-delete {status} {store} {store'} {history} {sees} {start} {own} {wr
   whole = λ p y u bt is reads z made. elim (Alters-cases alters p u bt) [
     | inl same ↦ seen_old.made z (sym deleted.same_maker ∙ (ap (λ (u : Version). inserter u.header) (sym same.1) ∙ made))
     | inr other ↦ h.whole p y u other.1 is reads z made
+  ];
+  -- and of the old one's it sees none any more
+  covers = λ p u bt seen wrote. elim (Alters-cases alters p u bt) [
+    | inl same ↦ absurd (seen.kept x (ap (λ (u : Version). deleter u.header) same.1 ∙ deleted.by) (by_itself mine))
+    | inr other ↦ elim (cases_eq u.row.key old.row.key) [
+      | inl key ↦ absurd (other.0 (h.rows.one p place u old other.1 alters.before seen seen_old key))
+      | inr ne ↦ h.covers p u other.1 seen (wrote_before writes write u.row.key ne wrote)
+    ]
   ];
 }
   where

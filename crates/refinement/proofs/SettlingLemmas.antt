@@ -38,6 +38,9 @@ module _ (h : Heap) where
     pub settled : (x : ℕ) → HasCommitted h.status x → IsSeenByAll x → R x
     pub none_aborted : (x : ℕ) → HasAborted h.status x → ¬ R x
 
+  committed-counts : Counts (λ x. HasCommitted h.status x)
+  committed-counts = record { settled = λ x done all. done; none_aborted = λ x gone done. aborted_not_committed h.status x gone done }
+
   seen-forth : {R : ℕ → Type 0} → Counts R → (v u : Version) → VersionSettles h v u → VisibleBy R v.header → VisibleBy R u.header
   seen-forth {R} counts v u s seen = record { made = λ x is. made x is s.inserter; kept = λ y is. kept y is s.deleter }
     where
@@ -133,17 +136,31 @@ module _ (h : Heap) where
 
     ReaderAgrees-settles : {history : List Transaction} {sight : ℕ → Type 0} {start : ℕ} {writes : List Write} (own : List ℕ) → Settles-for sight → ((x : ℕ) → Contains own x → IsRunning h.status x)
         → ReaderAgrees h.status h.version history sight start own writes → ReaderAgrees h.status store' history sight start own writes
-    ReaderAgrees-settles {history} {sight} own over active r = record {
+    ReaderAgrees-settles {history} {sight} {start} {writes} own over active r = record {
       rows = Shows-settles (counts-for own over active) r.rows;
       whole = λ p y u bt is reads x made. let v = settles.back p u bt in
           whole p y v.0 u v.1 v.2 v.2.inserter v.2.deleter is reads x made;
+      covers = λ p u bt seen wrote. let v = settles.back p u bt in
+          let made = r.covers p v.0 v.1 (seen-back (counts-for own over active) v.0 u v.2 seen) (subst (λ (r : Row). IsSome (written writes r.key)) v.2.row wrote) in
+          (made.0, maker v.0 u made.0 made.1 made.2 v.2.inserter, made.2);
     }
       where
+        -- what one of its own ids made is not settled
+        maker : (v u : Version) (x : ℕ) → inserter v.header ≡ Some x → Contains own x → MakerSettles h v u → inserter u.header ≡ Some x
+        maker v u x made mine (MakerSettles.stays m) = m ∙ made
+        maker v u x made mine (MakerSettles.settles z at' none done all) =
+            absurd (committed_not_active h.status x (subst (λ z. HasCommitted h.status z) (same_Some z x (sym at' ∙ made)) done) (active x mine))
+
         whole : (p : Tid) (y : ℕ) (v u : Version) → At h.version p v → VersionSettles h v u → MakerSettles h v u → DeleterSettles h v u → deleter u.header ≡ Some y → Reads h.status sight own y
             → (x : ℕ) → inserter u.header ≡ Some x → Reads h.status sight own x
         whole p y v u bt vs (MakerSettles.stays m) (DeleterSettles.stays d) is reads x made = r.whole p y v bt (sym d ∙ is) reads x (sym m ∙ made)
         whole p y v u bt vs (MakerSettles.stays m) (DeleterSettles.goes z at' none gone) is reads x made = absurd (none-some y (sym none ∙ is))
         whole p y v u bt vs (MakerSettles.settles z at' none done all) d is reads x made = absurd (none-some x (sym none ∙ made))
+
+    -- who has seen the maker afterwards saw it before: one who settled is seen by all
+    maker_seen : {sight : ℕ → Type 0} → Settles-for sight → (v u : Version) → ((x : ℕ) → inserter u.header ≡ Some x → sight x) → (x : ℕ) → inserter v.header ≡ Some x → MakerSettles h v u → sight x
+    maker_seen over v u by x is (MakerSettles.stays e) = by x (e ∙ is)
+    maker_seen {sight} over v u by x is (MakerSettles.settles y at' none done all) = subst (λ z. sight z) (same_Some y x (sym at' ∙ is)) (over y done all)
 
     SessionAgrees-settles : {history : List Transaction} {sight cursor_sight : ℕ → Type 0} {start : ℕ} (e : SeenSession) (m : OpenSession) → Settles-for sight → (IsSome e.cursor → Settles-for cursor_sight)
         → SessionAgrees h.status h.version history sight start cursor_sight e m → SessionAgrees h.status store' history sight start cursor_sight e m
@@ -163,6 +180,8 @@ module _ (h : Heap) where
             (some.0, u.0, u.1, ap (λ (r : Row). r.key) u.2.row ∙ some.3, (missed.0, (touch-forth missed.0 some.1 u.0 u.2 (λ done all. missed.1.2 (over missed.0 done all)) (λ gone. aborted_not_committed h.status missed.0 gone missed.1.1) missed.1.0, missed.1.1, missed.1.2)));
         missed_late = λ p u bt missed. let v = settles.back p u bt in
             subst (λ (r : Row). IsLate history start r.key) (sym v.2.row) (a.traces.missed_late p v.0 v.1 (missed.0, (touch-back missed.0 v.0 u v.2 missed.1.0, missed.1.1, missed.1.2)));
+        timely = λ p u bt current by. let v = settles.back p u bt in
+            subst (λ (r : Row). ¬ IsLate history start r.key) (sym v.2.row) (a.traces.timely p v.0 v.1 (seen-back committed-counts v.0 u v.2 current) (λ x is. maker_seen over v.0 u by x is v.2.inserter));
       };
       began = a.began;
       in_time = a.in_time;
@@ -180,7 +199,7 @@ module _ (h : Heap) where
     Agrees-settles w agrees = record {
       opened = λ s e at. let open_ = agrees.opened s e at in (open_.0, open_.1, SessionAgrees-settles e open_.0 (statement_settles s e at) (λ some. cursor_settles s e at (open_.2.kept some)) open_.2);
       idle = agrees.idle;
-      current = Shows-settles (record { settled = λ x done all. done; none_aborted = λ x gone done. aborted_not_committed h.status x gone done }) agrees.current;
+      current = Shows-settles committed-counts agrees.current;
       made = λ p y u at is done x makes. let v = settles.back p u at in made p y v.0 u v.1 v.2.inserter v.2.deleter is done x makes;
       given = λ p x u at touch. let v = settles.back p u at in agrees.given p x v.0 v.1 (touch-back x v.0 u v.2 touch);
       owned = agrees.owned;

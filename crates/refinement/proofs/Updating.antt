@@ -36,7 +36,7 @@ alike old new levels same k = ap (λ ws. written ws k) (joined-add_write new lev
 
 reader_forget : {status : ℕ → Option Status} {store : Tid → Option Version} {history : List Transaction} {sees : ℕ → Type 0} {start : ℕ} (own : List ℕ) (writes writes' : List Write)
     → ((k : ℕ) → written writes' k ≡ written writes k) → ReaderAgrees status store history sees start own writes → ReaderAgrees status store history sees start own writes'
-reader_forget own writes writes' same h = ReaderAgrees-same (λ p x v at touch r. r) (λ p x v at touch r. r) same (λ k. refl) h
+reader_forget own writes writes' same h = ReaderAgrees-same (λ p x v at touch r. r) (λ p x v at touch r. r) (λ x mine. mine) same (λ k. refl) h
 
 levels_forget : (status : ℕ → Option Status) (store : Tid → Option Version) (history : List Transaction) (sees : ℕ → Type 0) (start : ℕ) (old new : Write) (own : List ℕ) (saved : List (List ℕ)) (levels : List (List Write)) → new.key ≡ old.key
     → LevelsAgree status store history sees start own saved (add_write new (add_write old levels)) → LevelsAgree status store history sees start own saved (add_write new levels)

@@ -23,6 +23,9 @@ pub record ReaderAgrees (status : ℕ → Option Status) (store : Tid → Option
   pub rows : Shows store (ReaderSees status sees own) (reading history start writes)
   -- whoever reads the deletion reads the making
   pub whole : (p : Tid) (y : ℕ) (v : Version) → At store p v → deleter v.header ≡ Some y → Reads status sees own y → (x : ℕ) → inserter v.header ≡ Some x → Reads status sees own x
+  -- what it wrote covers what was there: of a key that it has written it sees no version but what one of its own ids made
+  pub covers : (p : Tid) (v : Version) → At store p v → ReaderSees status sees own v → IsSome (written writes v.row.key)
+      → (x : ℕ) × (inserter v.header ≡ Some x) × Contains own x
 
 -- the session as it is, and as it was at each savepoint, the newest first
 abbrev pub LevelsAgree : (status : Id → Option Status) → (store : Tid → Option Version) → List Transaction → (sees : Id → Type 0) → (start : Count) → (own : List Id) → List (List Id) → List (List Write) → Type 0
@@ -51,6 +54,9 @@ LevelTraces _ _ _ _ = ⊥
 pub record TracesAgree (status : ℕ → Option Status) (store : Tid → Option Version) (history : List Transaction) (sees : ℕ → Type 0) (start : ℕ) : Type 0 where
   pub late_missed : (k : ℕ) → IsLate history start k → SomeVersion store k (HasMissed status sees)
   pub missed_late : (p : Tid) (v : Version) → At store p v → HasMissed status sees v → IsLate history start v.row.key
+  -- where a version is current, and the snapshot sees who made it, its key is not late
+  pub timely : (p : Tid) (v : Version) → At store p v → VisibleBy (HasCommitted status) v.header
+      → ((x : ℕ) → inserter v.header ≡ Some x → sees x) → ¬ IsLate history start v.row.key
 
 -- both read by snapshot, or both by statement
 abbrev pub IsSameIsolation : SeenIsolation → Isolation → Type 0
