@@ -6,3 +6,4 @@ pub mod Changes
 pub mod Agrees
 pub mod Finds
 pub mod Settling
+pub mod Laws
