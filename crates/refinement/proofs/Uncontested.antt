@@ -12,7 +12,7 @@ use Rattle.refinement.specs.Heap.{SeenSession, Heap, StatementSees, CursorSees}
 use Rattle.visibility.specs.Seeing.{HasCommitted, IsRunning, Reads, by_itself, by_others, VisibleBy, Touches, made_by, deleted_by, inserter, deleter}
 use Rattle.refinement.specs.Visible.{ReaderSees, At}
 use Rattle.refinement.specs.Agrees.{SessionAgrees, HeapAgrees}
-use Rattle.refinement.specs.Laws.{heap_over, MeetsNone, PlainIsUncontested}
+use Rattle.refinement.specs.Laws.{heap_over, MeetsNone, UndeletedIsUncontested}
 use Rattle.refinement.proofs.Versions.{active_not_committed}
 use Rattle.refinement.proofs.Readers.{Levels-top}
 use Rattle.refinement.proofs.Traces.{SparesCurrent}
@@ -85,6 +85,6 @@ module _ (h : Heap) (w : World) (s : ℕ) (e : SeenSession) (m : OpenSession) (p
         | by_others sees done ↦ of_others (λ y maker. subst (λ z. HasCommitted h.status z) (same_Some x y (sym is ∙ maker)) done) (λ y maker. subst (λ z. StatementSees h e.isolation z) (same_Some x y (sym is ∙ maker)) sees)
       ]
 
-pub plain_is_uncontested : PlainIsUncontested
-plain_is_uncontested ids version session w agrees s e m at there p v stands seen plain =
+pub undeleted_is_uncontested : UndeletedIsUncontested
+undeleted_is_uncontested ids version session w agrees s e m at there p v stands seen plain =
     uncontested (heap_over ids version session) w s e m p v agrees at there stands seen plain

@@ -22,8 +22,8 @@ pub record MeetsNone (w : World) (s key : ℕ) (m : OpenSession) : Type 0 where
   pub unheld : (o : ℕ) → o ≢ s → ¬ Holds w o key
 
 -- Where an open session sees a version that nobody has deleted, the version's key is uncontested, whatever world is agreed with.
-abbrev pub PlainIsUncontested : Type 0
-PlainIsUncontested = (ids : Window) (version : Tid → Option Version) (session : ℕ → Option SeenSession) (w : World)
+abbrev pub UndeletedIsUncontested : Type 0
+UndeletedIsUncontested = (ids : Window) (version : Tid → Option Version) (session : ℕ → Option SeenSession) (w : World)
     → HeapAgrees (heap_over ids version session) w
     → (s : ℕ) (e : SeenSession) (m : OpenSession) → session s ≡ Some e → w.session s ≡ Some m
     → (p : Tid) (v : Version) → At version p v → ReaderSees (state_of ids) (StatementSees (heap_over ids version session) e.isolation) e.own v

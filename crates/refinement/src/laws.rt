@@ -1,7 +1,7 @@
 //! What every run of steps and replies keeps, and what an engine that agrees with the history tells a writer.
 
 ghost use Rattle.refinement.specs.Allowed.{RunsAreLawful, RunsWithoutWaitsAreLawful};
-ghost use Rattle.refinement.specs.Laws.{PlainIsUncontested};
+ghost use Rattle.refinement.specs.Laws.{UndeletedIsUncontested};
 
 /// In every run that the history allows, the first committer wins; what an open session has written, nobody has who committed
 /// since the snapshot of that write was taken; no two open sessions have written one key; and who holds a key has written.
@@ -16,6 +16,6 @@ pub fn runs_without_waits_are_lawful()
 
 /// Whatever world an engine agrees with: where an open session sees a version that nobody has deleted, nobody has committed its key
 /// since the session's statement began, and no other open session holds it. So a writer that finds such a version needs no search.
-pub fn plain_is_uncontested()
-    ensures { PlainIsUncontested }
+pub fn undeleted_is_uncontested()
+    ensures { UndeletedIsUncontested }
 {}
