@@ -1,21 +1,17 @@
 //! A vacuum of the engine's table: its beginning, its steps, and what is forgotten at its end.
 
-ghost use Rattle.std.specs.Prelude.{◌≡◌, ℕ, IsTrue, ◌↔◌, Some, length, Contains};
+ghost use Rattle.std.specs.Prelude.{◌≡◌, IsTrue, ◌↔◌, length};
 ghost use Rattle.std.specs.Option.{option_map};
-ghost use Rattle.xid_circle.specs.Circle.{Precedes};
-ghost use Rattle.commit_status.specs.Changes.{numbers};
 ghost use Rattle.commit_status.specs.Window.{IsUpToNext};
 ghost use Rattle.forgetting.specs.Cutoffs.{aged, cutoff_at};
 ghost use Rattle.calls.specs.declared.step.TheConstants.{MOST_SESSIONS};
-ghost use Rattle.sessions.specs.declared.session.Session.{Session as OpenSession};
 ghost use Rattle.session_steps.specs.Keeps.{OwnIdsKeep};
-ghost use Rattle.sessions.specs.Places.{open_at};
 ghost use Rattle.session_steps.specs.Vacuums.{IsSetUp, vacuum_begun, VacuumWorks, MayForget, Forgets};
 
 use crate::engine::SessionEngine;
 use calls::{Mode, Piece};
 use commit_status::StatusTable;
-use sessions::Session;
+use sessions::own_from;
 use snapshot::earlier;
 use vacuum_passes::Vacuum;
 use xid_circle::{Xid, precedes};
@@ -47,34 +43,6 @@ fn is_up_to_next(statuses: &StatusTable, x: Xid) -> bool
 {
     statuses.fact_window();
     x.0 == statuses.next().0 || statuses.remembers(x)
-}
-
-/// True where none of these ids precedes the cutoff.
-fn are_from(ids: &[Xid], cutoff: Xid) -> bool
-    ensures { IsTrue result
-        ↔ ((x : ℕ) → Contains (numbers ids.now) x → ¬ Precedes x cutoff.0) }
-{
-    for x in ids {
-        if precedes(*x, cutoff) {
-            return false;
-        }
-    }
-    true
-}
-
-/// True where no open session has an id that precedes the cutoff.
-fn own_from(sessions: &[Option<Session>], cutoff: Xid) -> bool
-    ensures { IsTrue result ↔ ((s : ℕ) (e : OpenSession) (x : ℕ)
-        → open_at sessions.now s ≡ Some e → Contains e.own.ids x → ¬ Precedes x cutoff.0) }
-{
-    for s in 0..sessions.len() {
-        if let Some(session) = &sessions[s] {
-            if !are_from(session.own.as_slice(), cutoff) {
-                return false;
-            }
-        }
-    }
-    true
 }
 
 impl SessionEngine {

@@ -4,3 +4,4 @@ pub mod Taking
 pub mod Holding
 pub mod Marked
 pub mod Counting
+pub mod OwnFrom

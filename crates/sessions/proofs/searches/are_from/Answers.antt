@@ -1,8 +1,8 @@
 use Rattle.std.proofs.Common.{refl, sym, subst, arith}
 use Rattle.xid_circle.specs.Circle.{Precedes}
 use Rattle.snapshot.proofs.Marks.{nowhere}
-use Rattle.session_steps.proofs.Forgetting.{none-more}
-use Rattle.session_steps.proofs.vacuuming.are_from.Goals as goal
+use Rattle.sessions.proofs.OwnFrom.{none-more}
+use Rattle.sessions.proofs.searches.are_from.Goals as goal
 
 pub loop-x-init : goal.loop-x-init
 loop-x-init c k lt early = absurd (omega (arith, lt))

@@ -1,7 +1,7 @@
 use Rattle.std.proofs.Common.{ℕ, List, subst}
 use Rattle.std.specs.Prelude.{Contains}
-use Rattle.session_steps.proofs.Forgetting.{open-there}
-use Rattle.session_steps.proofs.vacuuming.own_from.Goals as goal
+use Rattle.sessions.proofs.OwnFrom.{open-there}
+use Rattle.sessions.proofs.searches.own_from.Goals as goal
 
 pub returns-then-not-are_from : goal.returns-then-not-are_from
 returns-then-not-are_from c = (
