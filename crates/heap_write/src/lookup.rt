@@ -52,11 +52,14 @@ impl HeapState {
         check_write(&table, value, key, reader)
     }
 
-    /// Where the entry by key of the next new root is looked for first. A wrong hint costs two looks, and changes no answer.
-    pub fn expect_entry(&mut self, near: PositionHint)
+    /// Where the entry by key of the next new root is looked for first, if that is known. A wrong hint costs two looks, and changes no
+    /// answer.
+    pub fn expect_entry(&mut self, near: Option<PositionHint>)
         ensures { self.new ≡ self.old }
     {
-        self.indexes.expect(near)
+        if let Some(near) = near {
+            self.indexes.expect(near);
+        }
     }
 
     /// The first place of the span, in the order of the index, where the reader sees a row, and a borrow of that row. An index that

@@ -1,16 +1,17 @@
 //! Where roots of keys were made, as far as it is known, and what is found by that. Nothing here takes memory.
 
-ghost use Rattle.std.specs.Prelude.{◌≡◌, pos};
+ghost use Rattle.std.specs.Prelude.{◌≡◌, pos, IfSome};
 ghost use Rattle.visibility.specs.Reading.{IsSeenBy};
-ghost use Rattle.index_lookup.specs.ByPlace.{FoundOrSeen};
+ghost use Rattle.index_lookup.specs.ByPlace.{FoundOrSeen, IsSeenUndeleted, IsVersionOf};
 ghost use Rattle.table_indexes.specs.Indexes.{entries_in};
 ghost use Rattle.heap_write.specs.Heap.{slots_of};
 
 use crate::heap::HeapState;
-use index_lookup::row_by_place;
+use index_lookup::{row_by_place, undeleted_by_place};
 use key_places::KeyPlaces;
 use tuple_header::RowRef;
 use visibility::Reader;
+use xid_circle::Tid;
 
 impl HeapState {
     /// Forgets where roots of keys were made, and notes it from now on, or never. With no places kept a get searches the index; no
@@ -34,5 +35,15 @@ impl HeapState {
             }
         }
         self.row(key, reader)
+    }
+    /// Where the version of the key is that the reader sees, if it is found from where a root of the key was made last and nobody has
+    /// deleted it. Then nothing keeps a session that reads so from writing the key: the law `undeleted_is_uncontested` of
+    /// `refinement`.
+    #[inline(always)]
+    pub fn undeleted_place(&self, key: u64, reader: &Reader<'_>) -> Option<Tid>
+        ensures { IfSome result
+            (IsVersionOf (IsSeenUndeleted (IsSeenBy reader.now)) (slots_of self.now) key) }
+    {
+        undeleted_by_place(&self.pages, self.places.get(key)?, key, reader)
     }
 }

@@ -6,11 +6,11 @@ use Rattle.tuple_header.specs.Version.{Version}
 use Rattle.tuple_header.specs.declared.version.Header.{Header}
 use Rattle.tuple_header.specs.declared.version.Row.{Row}
 use Rattle.page_sheet.specs.declared.slot.Slot.{Slot}
-use Rattle.page_sheet.specs.Slots.{version_at, header_at, row_at}
+use Rattle.page_sheet.specs.Slots.{version_at, header_at, row_at, key_at}
 use Rattle.page_sheet.proofs.SlotLemmas.{version-from_header}
 use Rattle.page_slots.specs.View.{PageView}
 use Rattle.index_lookup.specs.Walking.{NoneSeenFrom, IsSeenRow, SeenRow}
-use Rattle.index_lookup.specs.ByPlace.{IsSeenRowOf}
+use Rattle.index_lookup.specs.ByPlace.{IsSeenRowOf, IsVersionOf}
 use Rattle.index_lookup.proofs.PageLists.{slots-there}
 
 headless : (o : Option Version) (t : Version) → option_map (λ (t : Version). t.header) o ≡ None → o ≡ Some t → ⊥
@@ -49,3 +49,15 @@ seen-of_key seen pages n slot key page row at is of = record {
   is_seen = is.shown;
   is_row = is.is_row;
 }
+
+-- a version with this header and of this key in a slot of a page is at that place of the table
+pub version-of_key : (P : Header → Type 0) (pages : List PageView) (n slot key : ℕ) (page : PageView) (h : Header) → slice_get pages n ≡ Some page
+    → header_at page.slots slot ≡ Some h → key_at page.slots slot ≡ Some key → P h → IsVersionOf P (map (λ (p : PageView). p.slots) pages) key (record { page = n; slot = slot })
+version-of_key P pages n slot key page h at is of meets =
+    let t = version-from_header page.slots slot h is in
+    record {
+      version = t.0;
+      there = ap (λ slots. version_at slots slot) (slots-there pages n page at) ∙ t.1;
+      of_key = same_Some t.0.row.key key (sym (ap (option_map (λ (t : Version). t.row.key)) t.1) ∙ of);
+      meets = subst P t.2 meets;
+    }

@@ -17,7 +17,7 @@ mod search;
 mod table_view;
 mod write_check;
 
-pub use by_place::row_by_place;
+pub use by_place::{row_by_place, undeleted_by_place};
 pub use index_scan::{IndexPosition, IndexRange, next_row};
 pub use key_scan::next_key;
 pub use lookup::{place_from, place_of, row_from, row_of, seen_row};

@@ -21,7 +21,7 @@ use Rattle.refinement.proofs.Hindrances as hindrances
 use Rattle.sessions.specs.declared.session.Session.{Session}
 use Rattle.session_steps.specs.State.{State, session_at, put_session, with_failed, refused_state, seen, reader_of, failed_session, engine_sessions}
 use Rattle.session_steps.specs.Agrees.{Agrees, Follows, WrittenAgrees}
-use Rattle.session_steps.specs.Tests.{ReadsPlace, IsLateKey, IsHeld, RefusesInsertOfKey, RefusesChangeOfKey, MayWriteKey}
+use Rattle.session_steps.specs.Tests.{ReadsPlace, IsLateKey, IsHeld, RefusesInsertOfKey, RefusesChangeOfKey, MayWriteKey, MayChangeKey}
 use Rattle.session_steps.specs.Tests.{MayAct, BarsBegin}
 use Rattle.session_steps.specs.Exact.{ExactInsert, ExactUpdate, ExactDelete, Exact}
 use Rattle.session_steps.specs.Follows.{FollowsInsert, FollowsUpdate}
@@ -184,6 +184,6 @@ pub hinders-insert : (st : State) (s key : ℕ) (e : Session) {A : Type 0} (r : 
     → ((s : ℕ) → MayAct st s e → MatchResult r (λ _. MayWriteKey st s key None) (λ refusal. RefusesInsertOfKey st s key refusal)) → RefusesInsertOfKey st s key refusal
 hinders-insert st s key e r refusal is acts says = MatchResult-at_err (λ _. MayWriteKey st s key None) (λ refusal. RefusesInsertOfKey st s key refusal) refusal is (says s acts)
 
-pub hinders-change : (st : State) (s key : ℕ) (e : Session) (r : Result (Tid × PositionHint) Refusal) (refusal : Refusal) → r ≡ Err refusal → MayAct st s e
-    → ((s : ℕ) → MayAct st s e → MatchResult r (λ found. MayWriteKey st s key (Some found.0)) (λ refusal. RefusesChangeOfKey st s key refusal)) → RefusesChangeOfKey st s key refusal
-hinders-change st s key e r refusal is acts says = MatchResult-at_err (λ found. MayWriteKey st s key (Some found.0)) (λ refusal. RefusesChangeOfKey st s key refusal) refusal is (says s acts)
+pub hinders-change : (st : State) (s key : ℕ) (e : Session) (r : Result (Tid × Option PositionHint) Refusal) (refusal : Refusal) → r ≡ Err refusal → MayAct st s e
+    → ((s : ℕ) → MayAct st s e → MatchResult r (λ found. MayChangeKey st s key found.0) (λ refusal. RefusesChangeOfKey st s key refusal)) → RefusesChangeOfKey st s key refusal
+hinders-change st s key e r refusal is acts says = MatchResult-at_err (λ found. MayChangeKey st s key found.0) (λ refusal. RefusesChangeOfKey st s key refusal) refusal is (says s acts)

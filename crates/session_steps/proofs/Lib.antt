@@ -9,6 +9,7 @@ pub mod Statements
 pub mod Scanning
 pub mod Horizons
 pub mod Searches
+pub mod Changing
 pub mod New
 pub mod Placing
 pub mod Returning

@@ -9,7 +9,7 @@ use Rattle.snapshot.specs.Own.{Own}
 use Rattle.visibility.specs.declared.reader.Reader.{Reader}
 use Rattle.visibility.specs.Reading.{IsSeenBy, IsNewerCommitFor, IsOtherWriterFor}
 use Rattle.visibility.specs.Visible.{IsVisible, IsNewerCommitIn, IsOtherWriterIn}
-use Rattle.index_lookup.specs.ByPlace.{FoundOrSeen}
+use Rattle.index_lookup.specs.ByPlace.{FoundOrSeen, IsSeenUndeleted, IsVersionOf}
 use Rattle.index_lookup.specs.Looking.{FirstPlace, IsIdOf}
 use Rattle.table_indexes.specs.Indexes.{entries_in}
 use Rattle.heap_write.specs.Heap.{HeapView, slots_of}
@@ -18,7 +18,7 @@ use Rattle.sessions.specs.declared.session.Session.{Session}
 use Rattle.session_steps.specs.State.{State}
 use Rattle.sessions.specs.Session.{statement_snapshot, cursor_snapshot}
 use Rattle.session_steps.specs.Takes.{ReadsBy, session_sight}
-use Rattle.session_steps.specs.Tests.{FindsPlace}
+use Rattle.session_steps.specs.Tests.{FindsPlace, SeesUndeleted}
 use Rattle.session_steps.proofs.Searches.{Misses, Holds, RowOf}
 
 pub as-session : (st : State) (e : Session) (by : Snap) (r : Reader) (P : Window → Snap → Own → Type 0) → ReadsBy st e by r → P r.statuses.now r.snapshot.now r.own.now → P st.heap.statuses by e.own
@@ -41,6 +41,9 @@ by_cursor st e = cursor_snapshot st.heap.statuses e.isolation
 module _ (parts st : State) (e : Session) (r : Reader) (same : parts ≡ st) (reads : ReadsBy st e (by_statement st e) r) where
   pub row-read : (key : ℕ) (row : Option Row) → FoundOrSeen r.statuses.now (IsSeenBy r) (slots_of parts.heap) (entries_in parts.heap.indexes 0) (pos key) key row → RowOf st e key row
   row-read key row = read-as parts st e (by_statement st e) r same reads (λ h w s own. FoundOrSeen w (IsVisible w s own.ids) (slots_of h) (entries_in h.indexes 0) (pos key) key row)
+
+  pub undeleted-read : (key : ℕ) (place : Tid) → IsVersionOf (IsSeenUndeleted (IsSeenBy r)) (slots_of parts.heap) key place → SeesUndeleted st.heap e key place
+  undeleted-read key place = read-as parts st e (by_statement st e) r same reads (λ h w s own. IsVersionOf (IsSeenUndeleted (IsVisible w s own.ids)) (slots_of h) key place)
 
   pub place-read : (key : ℕ) (place : Option Tid) → FirstPlace r.statuses.now (IsSeenBy r) (slots_of parts.heap) (entries_in parts.heap.indexes 0) (pos key) key place → FindsPlace st.heap e key place
   place-read key place = read-as parts st e (by_statement st e) r same reads (λ h w s own. FirstPlace w (IsVisible w s own.ids) (slots_of h) (entries_in h.indexes 0) (pos key) key place)

@@ -1,5 +1,5 @@
 -- A write that a session tries: what it changes, or why it is not done.
-use Rattle.std.proofs.Common.{◌≡◌, ℕ, List, set, Option, Some, None, refl, sym, ap, ◌∙◌, subst}
+use Rattle.std.proofs.Common.{◌≡◌, ℕ, List, set, Option, Some, None, refl, sym, ap, ◌∙◌, subst, inl, inr}
 use Rattle.std.specs.Prelude.{Result, Ok, Err, IfOk, IfErr, OnErr, IsSome, Contains}
 use Rattle.std.proofs.lemmas.Option.{same_Some}
 use Rattle.xid_circle.specs.declared.Tid.{Tid}
@@ -23,7 +23,7 @@ use Rattle.session_steps.specs.State.{State, session_at, horizon_of}
 use Rattle.session_steps.specs.Keeps.{EngineKeeps}
 use Rattle.sessions.specs.Places.{open_at}
 use Rattle.calls.specs.declared.reply.Reply.{Reply}
-use Rattle.session_steps.specs.Tests.{FindsPlace, MayWriteKey}
+use Rattle.session_steps.specs.Tests.{FindsPlace, MayWriteKey, MayChangeKey}
 use Rattle.session_steps.specs.Follows.{FollowsUpdate}
 use Rattle.session_steps.specs.Writes.{TriesInsert, TriesUpdate, TriesDelete, outcome_of, reply_for}
 use Rattle.session_steps.specs.Exact.{Tried, InsertTried, UpdateTried, DeleteTried, ExactInsert, ExactUpdate, ExactDelete}
@@ -103,26 +103,33 @@ pub insert-tried : (st : State) (h : HeapView) (s : ℕ) (e now : Session) (row 
     → InsertTried st (with_session st h s now) s row r
 insert-tried st h s e now row r may there tries = record { may = may; tried = tried-of st h s may.session e now (λ h h' e e'. TriesInsert h h' e e' row r) may.reads.at there tries }
 
-pub update-tried : (st : State) (h : HeapView) (s : ℕ) (e now : Session) (place : Tid) (row : Row) (r : Result (Unit {0}) WriteFault) → MayWriteKey st s row.key (Some place) → session_at st s ≡ Some e
+pub update-tried : (st : State) (h : HeapView) (s : ℕ) (e now : Session) (place : Tid) (row : Row) (r : Result (Unit {0}) WriteFault) → MayChangeKey st s row.key place → session_at st s ≡ Some e
     → TriesUpdate st.heap h e now place row (horizon_of st) r → UpdateTried st (with_session st h s now) s row r
 update-tried st h s e now place row r may there tries = record {
   place = place;
   may = may;
-  tried = tried-of st h s may.session e now (λ h h' e e'. TriesUpdate h h' e e' place row (horizon_of st) r) may.reads.at there tries;
+  tried = tried-of st h s may.session e now (λ h h' e e'. TriesUpdate h h' e e' place row (horizon_of st) r) may.acts.1 there tries;
 }
 
-pub delete-tried : (st : State) (h : HeapView) (s key : ℕ) (e now : Session) (place : Tid) (r : Result (Unit {0}) WriteFault) → MayWriteKey st s key (Some place) → session_at st s ≡ Some e → TriesDelete st.heap h e now place r
+pub delete-tried : (st : State) (h : HeapView) (s key : ℕ) (e now : Session) (place : Tid) (r : Result (Unit {0}) WriteFault) → MayChangeKey st s key place → session_at st s ≡ Some e → TriesDelete st.heap h e now place r
     → DeleteTried st (with_session st h s now) s key r
 delete-tried st h s key e now place r may there tries =
-    record { place = place; may = may; tried = tried-of st h s may.session e now (λ h h' e e'. TriesDelete h h' e e' place r) may.reads.at there tries }
+    record { place = place; may = may; tried = tried-of st h s may.session e now (λ h h' e e'. TriesDelete h h' e e' place r) may.acts.1 there tries }
 
 -- the version that the session reads is there
-pub place-there : (h : HeapView) (e : Session) (key : ℕ) (p : Tid) → FindsPlace h e key (Some p) → VersionIsThere h p
+place-there : (h : HeapView) (e : Session) (key : ℕ) (p : Tid) → FindsPlace h e key (Some p) → VersionIsThere h p
 place-there h e key p finds =
     let seen = finds.seen_at.seen_in in
     let there : version_in (slots_of h) p ≡ Some seen.version = ap (λ n. version_at (slots_on (slots_of h) n) p.slot) finds.seen_at.page
     ∙ ap (λ n. version_at (slots_on (slots_of h) finds.entry.tid.page) n) seen.slot ∙ seen.first.there in
     subst (λ o. IsSome o) (sym (sym (version-on h p) ∙ there)) refl
+
+-- so is the one that it may change
+pub change-there : (st : State) (s key : ℕ) (p : Tid) → MayChangeKey st s key p → VersionIsThere st.heap p
+change-there st s key p may = elim may.finds [
+  | inl found ↦ place-there st.heap may.session key p found.0
+  | inr seen ↦ subst (λ o. IsSome o) (sym (sym (version-on st.heap p) ∙ seen.there)) refl
+]
 
 -- That is what the reply says of it.
 
@@ -145,7 +152,7 @@ exact-deleted st st' s key (Err fault.NoRoom) tried = absurd (tried.tried.tried.
 exact-deleted st st' s key (Err fault.NoMemory) tried = tried
 
 -- what an update answers, and what it leaves
-pub update-replies : (st : State) (h : HeapView) (s : ℕ) (e : Session) (own : Own) (place : Tid) (row : Row) (r : Result Xid WriteFault) (reply : Reply) → MayWriteKey st s row.key (Some place)
+pub update-replies : (st : State) (h : HeapView) (s : ℕ) (e : Session) (own : Own) (place : Tid) (row : Row) (r : Result Xid WriteFault) (reply : Reply) → MayChangeKey st s row.key place
     → session_at st s ≡ Some e → AnswersUpdate st.heap h e.own own place row (horizon_of st) r → reply ≡ reply_for (outcome_of r)
     → FollowsUpdate st s row reply (with_session st h s (record e { own = own })) × ExactUpdate st s row reply (with_session st h s (record e { own = own }))
 update-replies st h s e own place row r reply may there answers is =

@@ -48,7 +48,8 @@ use Rattle.session_steps.specs.Follows.{FollowsInsert, FollowsUpdate}
 use Rattle.session_steps.proofs.InUse.{marks-put, agree}
 use Rattle.session_steps.proofs.Owns.{reader-is}
 use Rattle.session_steps.proofs.WrittenLemmas.{written-put, written-by, written-kept}
-use Rattle.session_steps.proofs.Searches.{IsTarget, begins-none, begins-some, target-of, free-with}
+use Rattle.session_steps.proofs.Searches.{IsTarget, begins-none, free-with}
+use Rattle.session_steps.proofs.Changing.{change-target, change-free}
 use Rattle.session_steps.proofs.Cleaned.{removes-past}
 use Rattle.session_steps.proofs.Giving.{with_write, with_own, found-kept, reader-taken, gives-each, same-sights, are-unseen, found-given, reader-now, current-now, Sound-kept, Sound-given}
 use Rattle.session_steps.proofs.Placing.{adds-from, alters-from, is-new, is-deleted, is-writer, may-take}
@@ -57,10 +58,6 @@ use Rattle.session_steps.proofs.Placing.{adds-from, alters-from, is-new, is-dele
 
 pub free-none : (st : State) (w : World) (s key : ℕ) (may : MayWriteKey st s key None) → Agrees st w → Free (seen st) s (reader_of may.session) key None
 free-none st w s key may agrees = free-with st w s may.session key None agrees (begins-none st w s may.session key agrees may.reads) may.free
-
-pub free-some : (st : State) (w : World) (s key : ℕ) (p : Tid) (t : Version) (may : MayWriteKey st s key (Some p)) → Agrees st w → IsTarget st may.session key p t
-    → Free (seen st) s (reader_of may.session) key (Some t.row)
-free-some st w s key p t may agrees target = free-with st w s may.session key (Some t.row) agrees (begins-some st s may.session key p t may.reads target) may.free
 
 -- the id under which it wrote is in progress
 now-active : (st : State) (w : World) (s : ℕ) (e : Session) (own : Own) (x : ℕ) → session_at st s ≡ Some e → Agrees st w → {v : Window} → TakesIds st.heap.statuses v e.own own x → IsWindow v → IsActive v x
@@ -227,10 +224,10 @@ pub Follows-updated : (st st' : State) (s : ℕ) (row : Row) (r : Result (Unit {
 Follows-updated st st' s row r tried window text fits same w agrees =
     let may = tried.may in
     let key = by-key row text same in
-    let found = target-of st w s may.session row.key tried.place agrees may.reads in
-    let free = subst (λ k. Free (seen st) s (reader_of may.session) k (Some found.0.row)) key (free-some st w s row.key tried.place found.0 may agrees found.1) in
+    let found = change-target st w s row.key tried.place may agrees in
+    let free = subst (λ k. Free (seen st) s (reader_of may.session) k (Some found.0.row)) key (change-free st w s row.key tried.place found.0 may agrees found.1) in
     subst (λ new. Allows w (step.Update s text) (reply_for r) × Agrees new (next w (step.Update s text) (reply_for r)) × KeepsAllTargets st new) (sym tried.tried.is)
-    (update-tried st w s text may.session tried.place found.0 (subst (λ k. IsTarget st may.session k tried.place found.0) key found.1) free fits may.reads.at agrees st'.heap tried.tried.now r
+    (update-tried st w s text may.session tried.place found.0 (subst (λ k. IsTarget st may.session k tried.place found.0) key found.1) free fits may.acts.1 agrees st'.heap tried.tried.now r
     (subst (λ row. TriesUpdate st.heap st'.heap may.session tried.tried.now tried.place row (horizon_of st) r) same tried.tried.tried) window)
 
 -- Deletions.
@@ -276,7 +273,7 @@ module _ (st : State) (w : World) (s key : ℕ) (e : Session) (place : Tid) (t :
 pub Follows-deleted : (st st' : State) (s key : ℕ) (r : Result (Unit {0}) WriteFault) → DeleteTried st st' s key r → IsWindow st'.heap.statuses → Follows st (step.Delete s key) (reply_for r) st'
 Follows-deleted st st' s key r tried window w agrees =
     let may = tried.may in
-    let found = target-of st w s may.session key tried.place agrees may.reads in
-    let free = free-some st w s key tried.place found.0 may agrees found.1 in
+    let found = change-target st w s key tried.place may agrees in
+    let free = change-free st w s key tried.place found.0 may agrees found.1 in
     subst (λ new. Allows w (step.Delete s key) (reply_for r) × Agrees new (next w (step.Delete s key) (reply_for r)) × KeepsAllTargets st new) (sym tried.tried.is)
-    (delete-tried st w s key may.session tried.place found.0 found.1 free may.reads.at agrees st'.heap tried.tried.now r tried.tried.tried window)
+    (delete-tried st w s key may.session tried.place found.0 found.1 free may.acts.1 agrees st'.heap tried.tried.now r tried.tried.tried window)

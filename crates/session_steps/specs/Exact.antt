@@ -31,7 +31,7 @@ use Rattle.sessions.specs.Session.{IsByStatement, is_too_new, owns_of}
 use Rattle.session_steps.specs.Agrees.{FollowsByNotes}
 use Rattle.session_steps.specs.Changes.{Opens, Closes, SetsSavepoint, Releases, SessionBecomes, RollsBack}
 use Rattle.session_steps.specs.Takes.{HandsOut, HandsOutByKeys}
-use Rattle.session_steps.specs.Tests.{MayWriteKey}
+use Rattle.session_steps.specs.Tests.{MayWriteKey, MayChangeKey}
 use Rattle.session_steps.specs.Tickets.{AreTicketRows, RefusesTicket}
 use Rattle.session_steps.specs.Writes.{TriesInsert, TriesUpdate, TriesDelete}
 
@@ -46,16 +46,16 @@ pub record InsertTried (old new : State) (s : ℕ) (row : Row) (outcome : Result
   pub may : MayWriteKey old s row.key None
   pub tried : Tried old new s may.session (λ h h' e e'. TriesInsert h h' e e' row outcome)
 
--- to update the version at the place at which it reads the key
+-- to update the version of the key at the place where it may
 pub record UpdateTried (old new : State) (s : ℕ) (row : Row) (outcome : Result (Unit {0}) WriteFault) : Type 0 where
   pub place : Tid
-  pub may : MayWriteKey old s row.key (Some place)
+  pub may : MayChangeKey old s row.key place
   pub tried : Tried old new s may.session (λ h h' e e'. TriesUpdate h h' e e' place row (horizon_of old) outcome)
 
 -- or to delete it
 pub record DeleteTried (old new : State) (s key : ℕ) (outcome : Result (Unit {0}) WriteFault) : Type 0 where
   pub place : Tid
-  pub may : MayWriteKey old s key (Some place)
+  pub may : MayChangeKey old s key place
   pub tried : Tried old new s may.session (λ h h' e e'. TriesDelete h h' e e' place outcome)
 
 -- A conflict makes the session fail, and any refusal before the write is tried leaves all as it was.

@@ -1,8 +1,9 @@
 -- The tests of a write, in their order. What they look for is found through the index by key.
 use Rattle.table_indexes.specs.Indexes.{entries_in}
-use Rattle.std.specs.Prelude.{◌≡◌, ◌<◌, ◌≤◌, ℕ, pos, Option, Some, None, false, Contains}
+use Rattle.std.specs.Prelude.{◌≡◌, ◌⊎◌, ◌<◌, ◌≤◌, ℕ, pos, Option, Some, None, false, Contains}
 use Rattle.xid_circle.specs.declared.Tid.{Tid}
 use Rattle.visibility.specs.Visible.{IsVisible, IsOtherWriterIn, IsNewerCommitIn}
+use Rattle.index_lookup.specs.ByPlace.{IsSeenUndeleted, IsVersionOf}
 use Rattle.index_lookup.specs.Looking.{FirstPlace, SomeOf}
 use Rattle.heap_write.specs.Heap.{HeapView, slots_of}
 use Rattle.calls.specs.declared.reply.Refusal.{Refusal}
@@ -72,7 +73,19 @@ pub record MayWriteKey (st : State) (s key : ℕ) (found : Option Tid) : Type 0 
   pub reads : ReadsPlace st s session key found
   pub free : IsUncontested st session key
 
--- it may not, for this reason
+-- a version of the key is at this place that such a statement sees and that nobody has deleted
+abbrev pub SeesUndeleted : HeapView → Session → ℕ → Tid → Type 0
+SeesUndeleted h e key p = IsVersionOf (IsSeenUndeleted (IsVisible h.statuses (statement_snapshot h.statuses e.isolation) e.own.ids)) (slots_of h) key p
+
+-- The session may change the version of the key at this place. Either it reads that by the index, and nothing keeps it from writing the
+-- key; or it sees that there, undeleted. Where the state agrees with a history, nothing keeps it from writing the key then either
+-- (`UndeletedIsUncontested` of refinement)
+pub record MayChangeKey (st : State) (s key : ℕ) (p : Tid) : Type 0 where
+  pub session : Session
+  pub acts : MayAct st s session
+  pub finds : (FindsPlace st.heap session key (Some p) × IsUncontested st session key) ⊎ SeesUndeleted st.heap session key p
+
+-- it may not write it, for this reason
 pub record HasWriteConflict (st : State) (s key : ℕ) (found : Option Tid) (refusal : Refusal) : Type 0 where
   pub session : Session
   pub reads : ReadsPlace st s session key found

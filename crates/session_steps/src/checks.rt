@@ -2,7 +2,7 @@
 
 ghost use Rattle.std.specs.Prelude.{◌≡◌, ℕ, MatchResult, Some, None, Err};
 ghost use Rattle.session_steps.specs.State.{refused_state, with_failed};
-ghost use Rattle.session_steps.specs.Tests.{MayAct, FindsPlace, IsUncontested, ConflictsWrite, MayWriteKey, RefusesInsertOfKey, RefusesChangeOfKey};
+ghost use Rattle.session_steps.specs.Tests.{MayAct, FindsPlace, IsUncontested, ConflictsWrite, MayWriteKey, MayChangeKey, RefusesInsertOfKey, RefusesChangeOfKey};
 
 use crate::engine::SessionEngine;
 use crate::outcome::Ack;
@@ -54,29 +54,35 @@ impl SessionEngine {
         }
     }
 
-    /// The place of the version of the key that a session which may act reads, and may update or delete, and a hint where another
-    /// entry of it goes. Tests in order: NotThere, Conflict, Busy.
-    pub(crate) fn check_update(
+    /// The place of the version of the key that a session which may act reads, and may update or delete; and a hint where another
+    /// entry of it goes, if the index was searched. It is searched only where no undeleted version is found by its place. Tests in
+    /// order: NotThere, Conflict, Busy.
+    pub(crate) fn check_change(
         &self,
         session: &Session,
         key: u64,
-    ) -> Result<(Tid, PositionHint), Refusal>
+    ) -> Result<(Tid, Option<PositionHint>), Refusal>
         ensures { (s : ℕ) → MayAct self.now s session.now
-            → MatchResult result (λ found. MayWriteKey self.now s key (Some found.0))
+            → MatchResult result (λ found. MayChangeKey self.now s key found.0)
             (λ refusal. RefusesChangeOfKey self.now s key refusal) }
     {
+        let mut snapshot = None;
+        let reader = self.reader(session, &mut snapshot);
+        if let Some(place) = self.heap.undeleted_place(key, &reader) {
+            return Ok((place, None));
+        }
         let (place, write_conflict) = self.write_conflict(session, key);
         match place {
             None => Err(Refusal::NotThere),
             Some(place) => {
                 let near = write_conflict?;
-                Ok((place, near))
+                Ok((place, Some(near)))
             }
         }
     }
 
     /// Where the entry by key of the next new root is looked for first: a hint.
-    pub(crate) fn expect_entry(&mut self, near: PositionHint)
+    pub(crate) fn expect_entry(&mut self, near: Option<PositionHint>)
         ensures { self.new ≡ self.old }
     {
         self.heap.expect_entry(near)

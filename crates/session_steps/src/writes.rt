@@ -9,7 +9,7 @@ ghost use Rattle.calls.specs.declared.step.Step.{Step};
 ghost use Rattle.session_steps.specs.Exact.{ExactInsert, ExactUpdate, AnswersStep};
 ghost use Rattle.session_steps.specs.Replies.{reply_to};
 ghost use Rattle.session_steps.specs.Follows.{FollowsInsert, FollowsUpdate, worded};
-ghost use Rattle.session_steps.specs.Tests.{MayWriteKey};
+ghost use Rattle.session_steps.specs.Tests.{MayWriteKey, MayChangeKey};
 
 use crate::engine::SessionEngine;
 use crate::outcome::{Ack, write_answer};
@@ -41,7 +41,7 @@ impl SessionEngine {
         let _body = row.body.as_slice();
         match self.check_insert(session, row.key) {
             Ok(near) => {
-                self.expect_entry(near);
+                self.expect_entry(Some(near));
                 self.add(s, row)
             }
             Err(refusal) => self.refuse(s, refusal),
@@ -67,7 +67,7 @@ impl SessionEngine {
         row: &Row,
         keeps_values: bool,
     ) -> Result<Ack, Refusal>
-        requires may { MayWriteKey self.old s row.now.key (Some place) }
+        requires may { MayChangeKey self.old s row.now.key place }
         requires room { rounded_size_of row.now ≤ room_of (page_on self.old.heap place.page).slots }
         requires values { IsTrue keeps_values ↔ KeepsValues self.old.heap place row.now }
         ensures follows { FollowsUpdate self.old s row.now (reply_to result) self.new }
@@ -84,7 +84,7 @@ impl SessionEngine {
 
     /// As [`SessionEngine::replace_on_page`], but where the row has no room on the page: that is pruned at the horizon first.
     fn replace_on_full_page(&mut self, s: u8, place: Tid, row: &Row) -> Result<Ack, Refusal>
-        requires may { MayWriteKey self.old s row.now.key (Some place) }
+        requires may { MayChangeKey self.old s row.now.key place }
         requires room { room_of (page_on self.old.heap place.page).slots < rounded_size_of row.now }
         ensures follows { FollowsUpdate self.old s row.now (reply_to result) self.new }
         ensures exact { ExactUpdate self.old s row.now (reply_to result) self.new }
@@ -108,7 +108,7 @@ impl SessionEngine {
         let session = self.free(s)?;
         // no body in a row is too large
         let _body = row.body.as_slice();
-        match self.check_update(session, row.key) {
+        match self.check_change(session, row.key) {
             Ok((place, near)) => {
                 self.expect_entry(near);
                 match self.heap.fits_beside(place, row) {
@@ -132,7 +132,7 @@ impl SessionEngine {
 
     /// Deletes the version at a place, which nothing keeps the session from, under the id of its newest level.
     fn take_away(&mut self, s: u8, key: u64, place: Tid) -> Result<Ack, Refusal>
-        requires { MayWriteKey self.old s key (Some place) }
+        requires { MayChangeKey self.old s key place }
         ensures { AnswersStep self.old (Step.Delete s key) (reply_to result) self.new }
     {
         let session = self.sessions.open_mut(s);
@@ -147,7 +147,7 @@ impl SessionEngine {
         ensures { AnswersStep self.old (Step.Delete s key) (reply_to result) self.new }
     {
         let session = self.free(s)?;
-        match self.check_update(session, key) {
+        match self.check_change(session, key) {
             Ok((place, _)) => self.take_away(s, key, place),
             Err(refusal) => self.refuse(s, refusal),
         }

@@ -18,7 +18,7 @@ returns-in_err-session c = rw (handed-on c.from_residual.result c.from_residual.
 
 pub returns-in-Err : goal.returns-in-Err
 returns-in-Err c =
-    let h = hinders-change c.args.self.now c.args.s c.args.key c.in_ok-session.session.now c.check_update.result c.in-Err.refusal c.in-Err.is c.in_ok-session.ensures c.check_update.ensures in
+    let h = hinders-change c.args.self.now c.args.s c.args.key c.in_ok-session.session.now c.check_change.result c.in-Err.refusal c.in-Err.is c.in_ok-session.ensures c.check_change.ensures in
     let P : State → Reply → Type 0 = λ new reply. AnswersStep c.args.self.now (step.Delete c.args.s c.args.key) reply new in
     subst (λ (new : State). P new (reply_to c.refuse.result)) (sym c.refuse.ensures.state)
     (subst (λ (reply : Reply). P (refused_state c.args.self.now c.args.s c.in-Err.refusal) reply) (ap reply_to (sym c.refuse.ensures.answer)) (record {

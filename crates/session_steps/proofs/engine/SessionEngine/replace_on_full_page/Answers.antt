@@ -1,22 +1,22 @@
-use Rattle.std.proofs.Common.{◌≡◌, ◌∙◌, ◌<◌, Some, sym, subst}
+use Rattle.std.proofs.Common.{◌≡◌, ◌∙◌, ◌<◌, sym, subst}
 use Rattle.std.proofs.lemmas.Option.{none-some}
 use Rattle.tuple_header.specs.Version.{rounded_size_of}
 use Rattle.page_sheet.specs.Slots.{room_of}
 use Rattle.heap_write.specs.Heap.{page_on}
 use Rattle.heap_write.specs.Refusals.{VersionIsThere, AnswersUpdate}
 use Rattle.session_steps.specs.State.{State, horizon_of}
-use Rattle.session_steps.specs.Tests.{MayWriteKey}
+use Rattle.session_steps.specs.Tests.{MayChangeKey}
 use Rattle.session_steps.specs.Replies.{reply_to}
 use Rattle.session_steps.specs.Exact.{ExactUpdate}
 use Rattle.session_steps.specs.Follows.{FollowsUpdate}
-use Rattle.session_steps.proofs.Trying.{with_session, newest-given, place-there, keeps-answered, update-replies}
+use Rattle.session_steps.proofs.Trying.{with_session, newest-given, change-there, keeps-answered, update-replies}
 use Rattle.session_steps.proofs.engine.SessionEngine.replace_on_full_page.Goals as goal
 
 pub open_mut-session-requires : goal.open_mut-session-requires
 open_mut-session-requires c =
-    let M : State → Type 0 = λ st. MayWriteKey st c.args.s c.args.row.now.key (Some c.args.place) in
+    let M : State → Type 0 = λ st. MayChangeKey st c.args.s c.args.row.now.key c.args.place in
     let may = subst M (sym c.self.view_is) c.requires.may in
-    λ none. none-some may.session (sym none ∙ may.reads.at)
+    λ none. none-some may.session (sym none ∙ may.acts.1)
 
 pub update_full_page-requires-clause-newest : goal.update_full_page-requires-clause-newest
 update_full_page-requires-clause-newest c =
@@ -26,7 +26,7 @@ update_full_page-requires-clause-newest c =
 pub update_full_page-requires-clause-there : goal.update_full_page-requires-clause-there
 update_full_page-requires-clause-there c =
     let may = c.requires.may in
-    subst (λ (st : State). VersionIsThere st.heap c.args.place) (sym c.self.view_is) (place-there c.args.self.now.heap may.session c.args.row.now.key c.args.place may.reads.finds)
+    subst (λ (st : State). VersionIsThere st.heap c.args.place) (sym c.self.view_is) (change-there c.args.self.now c.args.s c.args.row.now.key c.args.place may)
 
 pub update_full_page-requires-clause-room : goal.update_full_page-requires-clause-room
 update_full_page-requires-clause-room c =
@@ -43,7 +43,7 @@ invariant_of-self c =
 pub returns : goal.returns
 returns c =
     let before : State = record { settings = c.self.inside.settings; heap = c.self.inside.heap; sessions = c.self.inside.sessions } in
-    let M : State → Type 0 = λ st. MayWriteKey st c.args.s c.args.row.now.key (Some c.args.place) in
+    let M : State → Type 0 = λ st. MayChangeKey st c.args.s c.args.row.now.key c.args.place in
     let may = subst M (sym c.self.view_is) c.requires.may in
     let e = c.open_mut-session.result.now in
     let r = c.update_full_page in

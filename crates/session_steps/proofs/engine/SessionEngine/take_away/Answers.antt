@@ -1,23 +1,23 @@
-use Rattle.std.proofs.Common.{◌∙◌, Some, sym, subst}
+use Rattle.std.proofs.Common.{◌∙◌, sym, subst}
 use Rattle.std.proofs.lemmas.Option.{none-some}
 use Rattle.calls.specs.declared.reply.Reply.{Reply}
 use Rattle.sessions.specs.declared.session.Session.{Session}
 use Rattle.session_steps.specs.State.{State}
-use Rattle.session_steps.specs.Tests.{MayWriteKey}
+use Rattle.session_steps.specs.Tests.{MayChangeKey}
 use Rattle.session_steps.specs.Writes.{outcome_of}
 use Rattle.session_steps.specs.Replies.{reply_to}
 use Rattle.session_steps.specs.Exact.{AnswersStep}
 use Rattle.calls.specs.declared.step.Step.TheVariants as step
 use Rattle.heap_write.specs.Refusals.{VersionIsThere}
-use Rattle.session_steps.proofs.Trying.{with_session, newest-given, place-there, tries-delete, keeps-deleted, delete-tried, exact-deleted}
+use Rattle.session_steps.proofs.Trying.{with_session, newest-given, change-there, tries-delete, keeps-deleted, delete-tried, exact-deleted}
 use Rattle.session_steps.proofs.Writing.{Follows-deleted}
 use Rattle.session_steps.proofs.engine.SessionEngine.take_away.Goals as goal
 
 pub open_mut-session-requires : goal.open_mut-session-requires
 open_mut-session-requires c =
-    let M : State → Type 0 = λ st. MayWriteKey st c.args.s c.args.key (Some c.args.place) in
+    let M : State → Type 0 = λ st. MayChangeKey st c.args.s c.args.key c.args.place in
     let may = subst M (sym c.self.view_is) c.requires in
-    λ none. none-some may.session (sym none ∙ may.reads.at)
+    λ none. none-some may.session (sym none ∙ may.acts.1)
 
 pub delete-requires-clause-newest : goal.delete-requires-clause-newest
 delete-requires-clause-newest c =
@@ -27,7 +27,7 @@ delete-requires-clause-newest c =
 pub delete-requires-clause-there : goal.delete-requires-clause-there
 delete-requires-clause-there c =
     let may = c.requires in
-    subst (λ (st : State). VersionIsThere st.heap c.args.place) (sym c.self.view_is) (place-there c.args.self.now.heap may.session c.args.key c.args.place may.reads.finds)
+    subst (λ (st : State). VersionIsThere st.heap c.args.place) (sym c.self.view_is) (change-there c.args.self.now c.args.s c.args.key c.args.place may)
 
 pub invariant_of-self : goal.invariant_of-self
 invariant_of-self c =
@@ -39,7 +39,7 @@ invariant_of-self c =
 pub returns : goal.returns
 returns c =
     let before : State = record { settings = c.self.inside.settings; heap = c.self.inside.heap; sessions = c.self.inside.sessions } in
-    let M : State → Type 0 = λ st. MayWriteKey st c.args.s c.args.key (Some c.args.place) in
+    let M : State → Type 0 = λ st. MayChangeKey st c.args.s c.args.key c.args.place in
     let may = subst M (sym c.self.view_is) c.requires in
     let e = c.open_mut-session.result.now in
     let r = c.delete in

@@ -1,7 +1,8 @@
-use Rattle.std.proofs.Common.{Option, subst}
+use Rattle.std.proofs.Common.{Option, Some, subst, inl, inr}
 use Rattle.xid_circle.specs.declared.Tid.{Tid}
 use Rattle.session_steps.specs.Tests.{FindsPlace}
-use Rattle.session_steps.proofs.engine.SessionEngine.check_update.Goals as goal
+use Rattle.session_steps.proofs.SessionReader.{undeleted-read}
+use Rattle.session_steps.proofs.engine.SessionEngine.check_change.Goals as goal
 
 pub returns-in-None : goal.returns-in-None
 returns-in-None c = λ s acts.
