@@ -1,6 +1,6 @@
 -- What the parts of a vacuum's step do: to one page, to the collected slots, and to one index.
 use Rattle.std.specs.Prelude.{◌≡◌, ◌+◌, ◌-◌, ℕ, nat_lt, if◌then◌else◌, List, ◌++◌, length, take, map, Option}
-use Rattle.xid_circle.specs.Numbers.{Id, PageNo, SlotNo, Count}
+use Rattle.xid_circle.specs.Numbers.{Id, PageNo, Count}
 use Rattle.xid_circle.specs.declared.Tid.{Tid}
 use Rattle.index_entries.specs.declared.entry.Entry.{Entry}
 use Rattle.root_index.specs.declared.progress.Progress.{Progress}
@@ -26,11 +26,6 @@ pub record CleansPage (h h' : HeapView) (horizon cutoff : Id) (p : PageNo) : Typ
   pub visited : HeapView
   pub visits : VisitsAt h visited horizon cutoff p
   pub notes : Notes visited h' p horizon
-
--- and these are its dead slots
-pub record CleansAndLists (h h' : HeapView) (horizon cutoff : Id) (p : PageNo) (dead : List SlotNo) : Type 0 where
-  pub cleans : CleansPage h h' horizon cutoff p
-  pub lists : ListsDead cleans.notes.page.slots dead
 
 -- it is visited, its dead slots are collected, and this page and phase come next
 pub record VisitsFrom (h h' : HeapView) (horizon cutoff : Id) (p : PageNo) (limit : Count) (old new : List Tid) (next : PageNo) (after : Phase) : Type 0 where

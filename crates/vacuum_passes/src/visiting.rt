@@ -4,11 +4,10 @@ ghost use Rattle.std.specs.Prelude.{◌≡◌, ◌<◌, ◌≤◌, ◌+◌, ◌-
 ghost use Rattle.std.specs.List.{AllPairs};
 ghost use Rattle.xid_circle.specs.declared.Tid.{Tid as Place};
 ghost use Rattle.vacuum_passes.specs.View.{places, phase_with};
-ghost use Rattle.vacuum_passes.specs.Working.{CleansAndLists, VisitsFrom};
+ghost use Rattle.vacuum_passes.specs.Working.{VisitsFrom};
 
 use crate::vacuum::Phase;
 use dead_places::{DeadSet, MOST_PLACES};
-use freeze::DeadSlots;
 use heap_write::HeapState;
 use xid_circle::{Tid, Xid};
 
@@ -30,7 +29,7 @@ pub(crate) fn clean_and_collect(
     ensures { VisitsFrom heap.old heap.new horizon.0 cutoff.0 number limit store.old store.new
         result.0 result.1 }
 {
-    let dead = clean_page(heap, number, horizon, cutoff);
+    let dead = heap.clean(number, cutoff, horizon);
     let left_over = collect(store, number, dead.as_slice(), limit);
     (page_after(number, left_over), phase_after(store, limit))
 }
@@ -52,14 +51,6 @@ fn phase_after(store: &DeadSet, limit: usize) -> Phase
     } else {
         Phase::Heap
     }
-}
-
-/// Prunes the page of this number, freezes it, and then notes its visibility bits. It answers which slots are dead.
-fn clean_page(heap: &mut HeapState, number: u32, horizon: Xid, cutoff: Xid) -> DeadSlots
-    requires in_use { number < length heap.old.pages.pages }
-    ensures { CleansAndLists heap.old heap.new horizon.0 cutoff.0 number result.items }
-{
-    heap.clean(number, cutoff, horizon)
 }
 
 /// Collects these slots of a page, in ascending order, up to so many places in all. It answers whether some are left over.
