@@ -18,7 +18,7 @@ use Rattle.calls.specs.declared.reply.Refusal.TheVariants as refusal
 use Rattle.calls.specs.Words.{row_of}
 use Rattle.calls.specs.Writes.{WriteStep, inserts, updates, deletes, key_of}
 use Rattle.calls.specs.Steps.{session_of}
-use Rattle.refinement.specs.Allowed.{savepoints, passed, Allows, AllowsHindered, after_refused_write, next, AllowsReply, waiting, failing, after_reply, IsRun, after, IsRunWithoutWaits, after_without_waits, IsLawful}
+use Rattle.refinement.specs.Allowed.{savepoints, passed, Allows, AllowsHindered, after_refused_write, next, AllowsReply, waiting, failing, after_reply, IsRun, after, IsLawful}
 
 refused_happens : (w : World) (s : ℕ) (write : WriteStep) (r : Refusal) → AllowsHindered w s r write → Happens w s (after_refused_write w s r)
 refused_happens w s write refusal.Conflict allows = conflicts (key_of write) allows.0 allows.1.writer allows.2
@@ -128,12 +128,6 @@ leads from w [] (r ∷ rs) run ok = absurd ok
 leads from w (s ∷ ss) [] run ok = absurd ok
 leads from w (s ∷ ss) (r ∷ rs) run ok = leads from (after_reply w s r) ss rs (reached from w s run (leads_on_reply w s r ok.0)) ok.1
 
-leads_without_waits : (from w : World) (steps : List Step) (replies : List Reply) → StepsReach from w → IsRunWithoutWaits w steps replies → StepsReach from (after_without_waits w steps replies)
-leads_without_waits from w [] [] run ok = run
-leads_without_waits from w [] (r ∷ rs) run ok = absurd ok
-leads_without_waits from w (s ∷ ss) [] run ok = absurd ok
-leads_without_waits from w (s ∷ ss) (r ∷ rs) run ok = leads_without_waits from (next w s r) ss rs (reached from w s run (leads_on w s r ok.0)) ok.1
-
 -- the same indexes are there, and the same are too new for each session that is open
 pub record KeepsScans (w after : World) : Type 0 where
   pub had : after.has_index ≡ w.has_index
@@ -205,7 +199,3 @@ lawful_where columns w reach = let h = Lawful-run reach (Lawful-beginning column
 
 pub lawful : (columns : List Bool) (steps : List Step) (replies : List Reply) → IsRun (beginning columns) steps replies → IsLawful (after (beginning columns) steps replies)
 lawful columns steps replies run = lawful_where columns (after (beginning columns) steps replies) (leads (beginning columns) (beginning columns) steps replies stays run)
-
-pub lawful_without_waits : (columns : List Bool) (steps : List Step) (replies : List Reply) → IsRunWithoutWaits (beginning columns) steps replies → IsLawful (after_without_waits (beginning columns) steps replies)
-lawful_without_waits columns steps replies run =
-    lawful_where columns (after_without_waits (beginning columns) steps replies) (leads_without_waits (beginning columns) (beginning columns) steps replies stays run)

@@ -205,16 +205,6 @@ abbrev pub after : World → List Step → List Reply → World
 after w (step ∷ steps) (reply ∷ replies) = after (after_reply w step reply) steps replies
 after w steps replies = w
 
--- the same of an engine that lets nobody wait, and never answers Deadlock
-abbrev pub IsRunWithoutWaits : World → List Step → List Reply → Type 0
-IsRunWithoutWaits w [] [] = Unit {0}
-IsRunWithoutWaits w (step ∷ steps) (reply ∷ replies) = Allows w step reply × IsRunWithoutWaits (next w step reply) steps replies
-IsRunWithoutWaits w steps replies = ⊥
-
-abbrev pub after_without_waits : World → List Step → List Reply → World
-after_without_waits w (step ∷ steps) (reply ∷ replies) = after_without_waits (next w step reply) steps replies
-after_without_waits w steps replies = w
-
 -- what is so of the world after any run from a beginning
 pub record IsLawful (w : World) : Type 0 where
   pub first_committer_wins : FirstCommitterWins w.history
@@ -225,7 +215,3 @@ pub record IsLawful (w : World) : Type 0 where
 abbrev pub RunsAreLawful : Type 0
 RunsAreLawful = (columns : List Bool) (steps : List Step) (replies : List Reply) → IsRun (beginning columns) steps replies
     → IsLawful (after (beginning columns) steps replies)
-
-abbrev pub RunsWithoutWaitsAreLawful : Type 0
-RunsWithoutWaitsAreLawful = (columns : List Bool) (steps : List Step) (replies : List Reply)
-    → IsRunWithoutWaits (beginning columns) steps replies → IsLawful (after_without_waits (beginning columns) steps replies)
