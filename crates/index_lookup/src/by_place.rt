@@ -55,12 +55,7 @@ fn likely_newest(page: &Page, root: u16, reader: &Reader<'_>) -> Option<(u16, He
 
 /// Where the version of the key is that the reader sees, if it is found from this place and nobody has deleted it. Where none is found,
 /// there may be one elsewhere. It takes no memory.
-pub fn undeleted_by_place(
-    pages: &Pages,
-    root: Tid,
-    key: u64,
-    reader: &Reader<'_>,
-) -> Option<Tid>
+pub fn undeleted_by_place(pages: &Pages, root: Tid, key: u64, reader: &Reader<'_>) -> Option<Tid>
     ensures { IfSome result
         (IsVersionOf (IsSeenUndeleted (IsSeenBy reader.now)) (page_slots_of pages.now) key) }
 {

@@ -20,11 +20,14 @@ use Rattle.session_steps.proofs.Searches.{IsTarget, place-to, free-with}
 pub change-target : (st : State) (w : World) (s key : ℕ) (p : Tid) (may : MayChangeKey st s key p) → Agrees st w → (t : Version) × IsTarget st may.session key p t
 change-target st w s key p may agrees = elim may.finds [
   | inl found ↦ place-to st w s may.session key (Some p) agrees may.acts.1 found.0
-  | inr found ↦ (found.version, record {
+  | inr found ↦ (
+    found.version,
+    record {
       there = found.there;
       of_key = found.of_key;
       seen = (statement-sees st agrees.sound.window may.session.isolation may.session.own.ids found.version).0 found.meets.0;
-    })
+    },
+  )
 ]
 
 module _ (st : State) (w : World) (s key : ℕ) (p : Tid) (t : Version) (may : MayChangeKey st s key p) (agrees : Agrees st w) (target : IsTarget st may.session key p t) where

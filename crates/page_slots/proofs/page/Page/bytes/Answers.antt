@@ -20,4 +20,4 @@ pub returns-clause-accepted : goal.returns-clause-accepted
 returns-clause-accepted c = λ redirects.
     subst (λ (bytes : List ℕ). page_fault bytes ≡ None) (sym c.bytes.ensures.bytes)
     (accepted c.self.inside.sheet.bytes c.self.inside.sheet.count c.bytes.ensures.sound
-      (subst (λ (p : PageView). AreSoundRedirects p.slots) (sym c.self.view_is) redirects))
+    (subst (λ (p : PageView). AreSoundRedirects p.slots) (sym c.self.view_is) redirects))

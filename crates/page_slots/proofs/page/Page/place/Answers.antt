@@ -29,8 +29,8 @@ returns-in-Some-clause-pointer c =
       shown = rw c.bytes-bytes.ensures.count c.self.view_is;
       long = sym (ap length c.bytes-bytes.ensures.bytes) ∙ c.bytes-bytes.ensures.long;
       accepted = λ redirects.
-        accepted c.self.inside.sheet.bytes c.self.inside.sheet.count c.bytes-bytes.ensures.sound
-        (subst (λ (p : PageView). AreSoundRedirects p.slots) (sym c.self.view_is) redirects);
+          accepted c.self.inside.sheet.bytes c.self.inside.sheet.count c.bytes-bytes.ensures.sound
+          (subst (λ (p : PageView). AreSoundRedirects p.slots) (sym c.self.view_is) redirects);
       pointer = ap (pointer_in c.self.inside.sheet.bytes) index ∙ c.in-Some.ensures.pointer;
     }
 
