@@ -1,3 +1,3 @@
-mod ReadLemmas
+pub mod ReadLemmas
 mod PictureLemmas
-mod OutcomeLemmas
+pub mod OutcomeLemmas

@@ -22,7 +22,7 @@ pub enum DrawFault {
 }
 
 /// Memory was refused.
-pub(crate) fn no_memory(_refused: RefusedGrowth) -> DrawFault
+pub fn no_memory(_refused: RefusedGrowth) -> DrawFault
     ensures { result ≡ DrawFault.Script ShellFault.NoMemory }
 {
     DrawFault::Script(ShellFault::NoMemory)

@@ -14,7 +14,7 @@ use std::io::{Read, Write};
 use viewing::do_view;
 
 /// Finds the next line. Nothing is written.
-fn next_of<R: Read, W: Write>(
+pub fn next_of<R: Read, W: Write>(
     alloc: Global,
     log: &mut IoLog<R, W>,
     pending: &mut Pending,

@@ -56,11 +56,7 @@ fn all_numbers(engine: &Engine, alloc: Global) -> Result<Vec<u32>, RefusedGrowth
 }
 
 /// Adds the picture of all pages of a table.
-pub(crate) fn draw_all(
-    engine: &mut Engine,
-    alloc: Global,
-    out: &mut Vec<u8>,
-) -> Result<(), DrawFault>
+pub fn draw_all(engine: &mut Engine, alloc: Global, out: &mut Vec<u8>) -> Result<(), DrawFault>
     ensures same { engine.new ≡ engine.old }
     ensures drawn { OnOk result
         (AddsText (IsPictureText engine.old (all_pages engine.old.engine.core))

@@ -145,8 +145,8 @@ fn entry_looks(
     Ok(looks)
 }
 
-// The entries of a key, in their order, each with the versions of its chain.
-pub(crate) fn explanation(
+/// The entries of a key, in their order, each with the versions of its chain.
+pub fn explanation(
     alloc: Global,
     engine: &Engine,
     s: u8,

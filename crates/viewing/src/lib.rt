@@ -14,6 +14,7 @@ mod looks;
 mod run;
 mod talking;
 
+pub use explaining::explanation;
 pub use run::{do_view, run_views};
 pub use script::{IoLog, ShellFault};
 pub use talking::talk;
