@@ -1,0 +1,4 @@
+mod ExplainingLemmas
+mod PictureLemmas
+mod ToldLemmas
+mod OutcomeLemmas

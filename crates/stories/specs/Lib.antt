@@ -1,0 +1,4 @@
+pub mod Status
+pub mod Html
+pub mod Telling
+pub mod Outcomes
