@@ -1,4 +1,4 @@
-//! A heap that can be looked into: scripts with looks, as a run, as a journal, as a talk, or as a picture.
+//! A heap that can be looked into: scripts with looks, as a run, as a journal, as a talk, as a picture, or as a story.
 #![tactic(auto)]
 
 use clap::error::ErrorKind as Mistake;
@@ -8,6 +8,7 @@ use std::alloc::{AllocError, Global};
 use std::env;
 use std::io::ErrorKind;
 use std::process::ExitCode;
+use stories::{StoryFault, tell_story};
 use viewing::{ShellFault, run_views, talk};
 
 fn fails(rt: &impl Eprint, fault: ShellFault) -> ExitCode {
@@ -48,6 +49,9 @@ fn command<'a>(alloc: Global) -> Result<Command<'a>, AllocError> {
                 .action(ArgAction::Append)
                 .value_parser(clap::value_parser!(u32)),
         )?;
+    let story = Command::new(alloc, "story").about(
+        "Runs one, and writes its story as a page of HTML",
+    );
     Command::new(alloc, "heapview")
         .version("0.4")
         .about("Runs scripts from standard input over a heap that can be looked into")
@@ -56,7 +60,8 @@ fn command<'a>(alloc: Global) -> Result<Command<'a>, AllocError> {
         .subcommand(run)?
         .subcommand(journal)?
         .subcommand(talk)?
-        .subcommand(draw)
+        .subcommand(draw)?
+        .subcommand(story)
 }
 
 // Says what is wrong with the words, with status 1; or help or the version, as asked for.
@@ -109,9 +114,25 @@ fn draws(rt: &HostRuntime, matches: &ArgMatches<'_>) -> ExitCode {
     ends_drawing(rt, ended)
 }
 
+fn ends_story(rt: &impl Eprint, ended: Result<(), StoryFault>) -> ExitCode {
+    match ended {
+        Ok(()) => ExitCode::SUCCESS,
+        Err(fault) => {
+            let _ = rt.eprintln(fault);
+            ExitCode::from(fault.status())
+        }
+    }
+}
+
+fn tells_story(rt: &HostRuntime) -> ExitCode {
+    let (ended, _) = tell_story(rt.alloc(), &mut rt.stdin(), &mut rt.stdout());
+    ends_story(rt, ended)
+}
+
 fn runs(rt: &HostRuntime, matches: &ArgMatches<'_>) -> ExitCode {
     let (ended, _) = match matches.subcommand() {
         Some(("draw", of)) => return draws(rt, of),
+        Some(("story", _)) => return tells_story(rt),
         Some(("journal", _)) => run_views(rt.alloc(), &mut rt.stdin(), &mut rt.stdout(), true),
         Some(("talk", _)) => talk(rt.alloc(), &mut rt.stdin(), &mut rt.stdout()),
         _ => run_views(rt.alloc(), &mut rt.stdin(), &mut rt.stdout(), false),
