@@ -41,6 +41,7 @@ python3 tests/judge/test_judge.py crates/heapjudge/out/heapjudge crates/heapsh/o
 python3 examples/check.py crates/heapview/out/heapview
 python3 tests/looks/test_looks.py crates/heapview/out/heapview
 python3 tests/pictures/test_pictures.py crates/heapview/out/heapview
+python3 tests/pictures/test_stories.py crates/heapview/out/heapview
 tools/build_c.sh "$room/prefix" --over-gate
 python3 tools/edits.py --gate
 tools/test_callers.sh "$room/prefix"
