@@ -124,6 +124,9 @@ python3 "$root/tests/pages/test_pages.py"
 python3 "$tests/test_random.py"
 python3 "$tests/test_plans.py"
 python3 "$tests/test_looks.py"
+# (a story is made by the program heapview, which the gate leaves there)
+[ ! -x "$root/crates/heapview/out/heapview" ] || export HEAPVIEW="$root/crates/heapview/out/heapview"
+python3 "$tests/test_stories.py"
 example "the example in Python" python3 "$root/examples/python/first_committer_wins.py"
 python3 "$tests/test_documents.py" "$prefix"
 

@@ -78,6 +78,7 @@ from .statuses import (
     TooLarge,
     VacuumRunning,
 )
+from .stories import NoHeapview, NoStory, Story, story
 from .table import Kind, Page, Piece, PieceKind, Slot, State, Table, Vacuum
 from .tickets import Ticket
 from .transactions import run
@@ -125,10 +126,12 @@ __all__ = [
     "NeedsFreeze",
     "NoCursor",
     "NoEngine",
+    "NoHeapview",
     "NoMemory",
     "NoPlace",
     "NoRoom",
     "NoSavepoint",
+    "NoStory",
     "NoSuchIndex",
     "NoSuchPage",
     "NoSuchSession",
@@ -157,6 +160,7 @@ __all__ = [
     "Stale",
     "State",
     "Status",
+    "Story",
     "Table",
     "Ticket",
     "TooDeep",
@@ -166,4 +170,5 @@ __all__ = [
     "VacuumState",
     "check_page",
     "run",
+    "story",
 ]
