@@ -22,6 +22,9 @@ struct Pair {
     page: Page,
     list: SlotList,
     rng: Pcg32,
+    /// Whether the page is kept full of versions of one size, and hardly any slot is used again: so mostly one version went where versions
+    /// are moved together.
+    tight: bool,
     /// How often the page was read back, and how often a fault was found as the list has it.
     read: u32,
     faulty: u32,
@@ -40,6 +43,11 @@ fn header_of(heap_only: bool) -> Option<Header>
     }
     Some(header)
 }
+
+/// The length of each body on a page that is kept full, and the room that its version takes in a new slot.
+const TIGHT_LENGTH: u16 = 16;
+
+const TIGHT_SIZE: usize = 92;
 
 /// A version with this header of this key, each byte of whose body is the key.
 fn version(header: Header, key: u8, length: u16) -> Tuple
@@ -68,6 +76,17 @@ impl Pair {
         (self.rng.next_word() % u32::from(n)) as u16
     }
 
+    /// The length of a body, mostly a short one.
+    fn draw_length(&mut self) -> u16 {
+        if self.tight {
+            return TIGHT_LENGTH;
+        }
+        match self.draw(8) {
+            0 => self.draw(1025),
+            _ => self.draw(40),
+        }
+    }
+
     /// The number of a slot, if there is one.
     fn draw_slot(&mut self) -> Option<u16> {
         let count = self.page.slots();
@@ -80,22 +99,30 @@ impl Pair {
     /// Adds a version, mostly a short one, and says whether its number, or that the page is full, is as the list has it.
     fn add(&mut self) -> bool {
         let [key, _high] = self.draw(256).to_le_bytes();
-        let length = match self.draw(8) {
-            0 => self.draw(1025),
-            _ => self.draw(40),
-        };
+        let length = self.draw_length();
         let heap_only = self.draw(2) == 1;
         let fits = size_of(length) <= self.list.room();
         let Some(header) = header_of(heap_only) else {
             return false;
         };
+        let read = check_page(self.page.bytes());
         match self.page.add(version(header, key, length)) {
             Ok(number) => {
                 let expected = self.list.free_number();
                 self.list.add(Listed::Version(key, length, heap_only));
                 fits && usize::from(number) == expected
+                    && self.moves_as(read, version(header, key, length))
             }
             Err(_full) => !fits,
+        }
+    }
+
+    /// Whether the bytes of the page are those of a page that was read, if it was, once it gets the same version. Of such a page nothing is
+    /// known of how versions lie.
+    fn moves_as(&self, read: Result<Page, PageFault>, version: Tuple) -> bool {
+        match read {
+            Ok(mut page) => page.add(version).is_ok() && page.bytes() == self.page.bytes(),
+            Err(_fault) => true,
         }
     }
 
@@ -149,14 +176,33 @@ impl Pair {
             0 => self.make_dead(number),
             1 => self.lead(number),
             2 | 3 => self.turn(number),
-            _ => self.make_unused(number),
+            4 => self.make_unused(number),
+            _ => self.empty(number),
+        }
+    }
+
+    /// Takes a version away.
+    fn empty(&mut self, number: u16) {
+        if self.tight {
+            self.make_dead(number);
+        } else {
+            self.make_unused(number);
+        }
+    }
+
+    /// Whether a version comes now: else a slot is changed.
+    fn draws_add(&mut self) -> bool {
+        if self.tight {
+            self.list.room() >= TIGHT_SIZE
+        } else {
+            self.draw(2) == 0
         }
     }
 
     /// Does one change, and says whether the page is then as the list has it.
     fn changes_alike(&mut self) -> bool {
-        let alike = match (self.draw(2), self.draw_slot()) {
-            (1, Some(number)) => {
+        let alike = match (self.draws_add(), self.draw_slot()) {
+            (false, Some(number)) => {
                 self.change_slot(number);
                 true
             }
@@ -165,19 +211,22 @@ impl Pair {
         alike && agrees(&self.page, &self.list)
     }
 
-    /// Goes on with the page that is read from the page's own bytes, and says whether it is that. Where it has a fault it has
-    /// that of the list, and the redirect ends.
+    /// Reads the page from its own bytes, and says whether it is that. It goes on with it now and then. Where it has a fault it has that of
+    /// the list, and the redirect ends.
     fn reads_alike(&mut self) -> bool {
         match check_page(self.page.bytes()) {
             Ok(page) => {
-                self.page = page;
+                let alike = self.list.fault().is_none() && agrees(&page, &self.list);
+                if self.draw(16) == 0 {
+                    self.page = page;
+                }
                 self.read = self.read.saturating_add(1);
-                self.list.fault().is_none() && agrees(&self.page, &self.list)
+                alike
             }
             Err(PageFault::BadRedirect(number)) => {
                 self.faulty = self.faulty.saturating_add(1);
                 let as_listed = self.list.fault() == Some(number);
-                self.make_unused(number);
+                self.empty(number);
                 as_listed
             }
             Err(_) => false,
@@ -201,6 +250,7 @@ fn go_through(page: Page, list: SlotList, seed: u64) -> Result<(), Fail> {
         page,
         list,
         rng: Pcg32::new(seed, 1),
+        tight: seed % 2 == 1,
         read: 0,
         faulty: 0,
     };
