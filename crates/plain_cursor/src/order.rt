@@ -1,7 +1,8 @@
 //! The order of an index, and the rows that stand in it.
 
-ghost use Rattle.std.specs.Prelude.{◌≡◌, ◌≤◌, ◌∷◌, ◌++◌, OnOk, IsTrue, ◌↔◌, IsSome, length, take, drop};
+ghost use Rattle.std.specs.Prelude.{◌≡◌, ℕ, ◌≤◌, ◌∷◌, ◌++◌, OnOk, IsTrue, ◌↔◌, IsSome, length, take, drop};
 ghost use Rattle.tuple_header.specs.IndexValue.{value_in};
+ghost use Rattle.tuple_header.specs.declared.version.Row.{Row as SpecRow};
 ghost use Rattle.plain_cursor.specs.Order.{index_of, comes_before, is_wanted, placed, row_of_key};
 
 use std::alloc::AllocError;
@@ -61,17 +62,24 @@ fn comes_before(index: u8, a: &Row, b: &Row) -> bool
     x < y || (x == y && a.key < b.key)
 }
 
+impl Bounds {
+    /// Whether they let a row of this value pass.
+    pub fn includes(self, value: i128) -> bool
+        ensures { (index : ℕ) (row : SpecRow) → value ≡ value_in index row
+            → result ≡ is_wanted self index row }
+    {
+        match self {
+            Bounds::All => true,
+            Bounds::Within(low, high) => low <= value && value <= high,
+        }
+    }
+}
+
 /// Whether the bounds let the row pass.
 pub fn is_wanted(bounds: Bounds, index: u8, row: &Row) -> bool
     ensures { result ≡ is_wanted bounds index row.now }
 {
-    match bounds {
-        Bounds::All => true,
-        Bounds::Within(low, high) => {
-            let value = value_in(index, row);
-            low <= value && value <= high
-        }
-    }
+    bounds.includes(value_in(index, row))
 }
 
 /// Puts the row to its place among the rows, which are in order.

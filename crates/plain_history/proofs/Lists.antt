@@ -3,13 +3,9 @@ use Rattle.std.proofs.Common.{◌≡◌, ℕ, suc, ◌+◌, ◌<◌, List, [], �
 use Rattle.std.specs.Option.{option_or}
 use Rattle.std.proofs.lemmas.List.{take_more, append-nil}
 use Rattle.std.proofs.Math.Seq.{drop-cons}
-use Rattle.history.specs.History.{Write, Transaction, said, written, latest}
+use Rattle.history.specs.History.{Write, Transaction, written, latest}
 use Rattle.history.specs.World.{joined}
-use Rattle.history.proofs.HistoryLemmas.{written-push, written-append, latest-push}
-
-pub written-take : (writes : List Write) (i : ℕ) (x : Write) (key : ℕ) → i < length writes → x ≡ get_or writes i x
-    → written (take (i + 1) writes) key ≡ option_or (said x key) (written (take i writes) key)
-written-take writes i x key lt is = ap (λ ws. written ws key) (take_more writes i x lt) ∙ (written-push (take i writes) (get_or writes i x) key ∙ ap (λ y. option_or (said y key) (written (take i writes) key)) (sym is))
+use Rattle.history.proofs.HistoryLemmas.{written-append, latest-push}
 
 pub latest-take : (history : List Transaction) (i : ℕ) (x : Transaction) (key : ℕ) → i < length history → x ≡ get_or history i x
     → latest (take (i + 1) history) key ≡ option_or (written x key) (latest (take i history) key)
@@ -22,13 +18,6 @@ joined-drop levels i x key lt is =
     ap (λ ls. written (joined ls) key) (drop-cons levels i x lt)
     ∙ (written-append (joined (drop (suc i) levels)) (get_or levels i x) key
     ∙ (ap (λ y. option_or (written y key) (written (joined (drop (suc i) levels)) key)) (sym is) ∙ ap (λ j. option_or (written x key) (written (joined (drop j levels)) key)) (sym (add-one i))))
-
--- the value after a look at one more, which said something or nothing
-pub newer : {A : Type 0} (result o p last : Option A) (x : A) → result ≡ Some x → result ≡ o → last ≡ Some x → last ≡ option_or o p
-newer result o p last x is of_it now = now ∙ ap (λ q. option_or q p) (sym is ∙ of_it)
-
-pub as_before : {A : Type 0} (result o p last before : Option A) → result ≡ None → result ≡ o → last ≡ before → before ≡ p → last ≡ option_or o p
-as_before result o p last before is of_it now was = now ∙ (was ∙ ap (λ q. option_or q p) (sym is ∙ of_it))
 
 -- what is said is what all say, where a part that goes before says it, or nothing
 pub said_first : {A : Type 0} (result o p : Option A) (x : A) → result ≡ Some x → result ≡ o → Some x ≡ option_or o p

@@ -1,7 +1,6 @@
 -- The world that the plain program's lists stand for.
-use Rattle.std.specs.Prelude.{ℕ, Bool, false, List, [], ◌∷◌, Option, Some, None, IfSome, ◌≡◌, slice_get, slice_index_or}
+use Rattle.std.specs.Prelude.{ℕ, Bool, false, List, [], ◌∷◌, Option, Some, None, ◌≡◌, slice_get, slice_index_or}
 use Rattle.std.specs.Option.{option_map, option_flatten}
-use Rattle.tuple_header.specs.declared.version.Row.{Row}
 use Rattle.plain_cursor.specs.Hands.{cursor_of}
 use Rattle.plain_history.specs.declared.plain.PlainSession.{PlainSession}
 use Rattle.plain_history.specs.declared.plain.PlainIsolation.{PlainIsolation}
@@ -26,10 +25,6 @@ pub record HasAllPlaces (sessions waits marks : ℕ) : Type 0 where
   pub to_wait : waits ≡ 256
   -- to note which indexes are too new for one
   pub to_mark : marks ≡ 256
-
--- the row, if there is one, is of the key
-abbrev pub IsRowOf : ℕ → Option Row → Type 0
-IsRowOf key row = IfSome row (λ r. r.key ≡ key)
 
 abbrev pub isolation_of : PlainIsolation → Isolation
 isolation_of (BySnapshot start) = by_snapshot start

@@ -3,13 +3,14 @@
 ghost use Rattle.std.specs.Prelude.{◌≡◌, OnOk, OnErr, Some, None};
 ghost use Rattle.std.specs.Option.{option_map};
 ghost use Rattle.history.specs.Moves.{stepped, put, change, free_to_scan, as_failed, with_write, with_savepoint, to_savepoint, without_savepoint, blocked_by, awaited_no_more, without_cursor};
-ghost use Rattle.plain_history.specs.Plain.{IsRowOf, open_of, world_of};
+ghost use Rattle.keyed_history.specs.Places.{IsRowOf};
+ghost use Rattle.plain_history.specs.Plain.{open_of, world_of};
 ghost use Rattle.plain_history.specs.Answers.{PlainBecomes, PlainStays, with_transaction};
 
-use crate::plain::{PlainHistory, PlainLevel, PlainSession, PlainWrite};
+use crate::plain::{PlainHistory, PlainSession};
+use keyed_history::{KeptRow, KeyedHistory, PlainLevel, PlainWrite};
 use std::alloc::{AllocError, Global};
 use std::mem;
-use tuple_header::Row;
 use waits::wake_all;
 
 fn fail(session: &mut Option<PlainSession>)
@@ -22,9 +23,9 @@ fn fail(session: &mut Option<PlainSession>)
 
 fn write(
     session: &mut Option<PlainSession>,
-    history: &[PlainLevel],
+    history: &KeyedHistory,
     key: u64,
-    row: Option<Row>,
+    row: Option<KeptRow>,
 ) -> Result<(), AllocError>
     requires { IsRowOf key row }
     ensures ok { OnOk result
@@ -33,7 +34,7 @@ fn write(
 {
     if let Some(session) = session {
         let start = session.start_now(history);
-        session.newest.push(PlainWrite { start, key, row })?;
+        session.newest.push(PlainWrite::new(start, key, row))?;
         session.has_written = true;
     }
     Ok(())
@@ -128,7 +129,7 @@ impl PlainHistory {
         fail(&mut self.sessions[s as usize]);
     }
 
-    pub(crate) fn write(&mut self, s: u8, key: u64, row: Option<Row>) -> Result<(), AllocError>
+    pub(crate) fn write(&mut self, s: u8, key: u64, row: Option<KeptRow>) -> Result<(), AllocError>
         requires { IsRowOf key row }
         ensures ok { OnOk result
             (world_of self.new
@@ -180,7 +181,6 @@ impl PlainHistory {
             (world_of self.new ≡ with_transaction (world_of self.old) transaction) }
         ensures err { OnErr result (world_of self.new ≡ world_of self.old) }
     {
-        self.history.push(transaction)?;
-        Ok(())
+        self.history.push(transaction)
     }
 }

@@ -9,16 +9,17 @@ ghost use Rattle.plain_history.specs.Plain.{world_of};
 ghost use Rattle.calls.specs.Bars.{BarsFree, BarsWithCursor};
 ghost use Rattle.plain_history.specs.Answers.{PlainBecomes, PlainStays, RefusesBounds, RefusesIndex, MayOpen, MayOpenWithin, MayOpenIndex, HasPlainCursor, with_plain_cursor};
 
-use crate::plain::{PlainHistory, PlainLevel, PlainSession};
+use crate::plain::{PlainHistory, PlainSession};
 use crate::rows::rows_of;
 use calls::Refusal;
+use keyed_history::KeyedHistory;
 use plain_cursor::{Bounds, PlainCursor, PlainOrder, all_keys};
 use std::alloc::{AllocError, Global};
 use tuple_header::Row;
 
 fn set_cursor(
     session: &mut Option<PlainSession>,
-    history: &[PlainLevel],
+    history: &KeyedHistory,
     alloc: Global,
     order: PlainOrder,
     bounds: Bounds,

@@ -1,6 +1,6 @@
-//! A plain slow program that computes the history that is never cleaned: it keeps the committed transactions and the open
-//! sessions as lists, and looks through them for each test. It has the tests of the steps and their transitions, each by itself;
-//! `judge` puts them together. Its contracts are the definitions of the crate `history`.
+//! A plain program that computes the history that is never cleaned: it keeps the committed transactions and the open sessions as lists.
+//! It looks through those of the sessions for each test, and finds what has committed by keys. It has the tests of the steps and their
+//! transitions, each by itself; `judge` puts them together. Its contracts are the definitions of the crate `history`.
 #![tactic(auto)]
 
 mod change;
@@ -14,5 +14,5 @@ mod rows;
 mod shown;
 mod steps;
 
-pub use plain::{PlainHistory, PlainIsolation, PlainLevel, PlainSession, PlainWrite};
+pub use plain::{PlainHistory, PlainIsolation, PlainSession};
 pub use refusal::Refused;

@@ -1,83 +1,16 @@
 //! Look-ups in the history and in the sessions.
 
-ghost use Rattle.std.specs.Prelude.{◌≡◌, ◌≢◌, ℕ, ◌≤◌, ◌<◌, ◌↔◌, IsTrue, IsSome, MatchOption, length, IfOk, IfSome, OnOk, Some, ◌++◌};
-ghost use Rattle.history.specs.History.{said, written, latest, committed, IsLate};
+ghost use Rattle.std.specs.Prelude.{◌≡◌, ◌≢◌, ℕ, ◌≤◌, ◌<◌, ◌↔◌, IsTrue, IsSome, MatchOption, length, IfOk, IfSome, Some};
+ghost use Rattle.history.specs.History.{written, IsLate};
 ghost use Rattle.history.specs.World.{joined, own_write, start_now, view, OpenSession, by_statement};
 ghost use Rattle.std.specs.Option.{option_map};
-ghost use Rattle.plain_history.specs.Plain.{IsRowOf, open_of, session_in};
+ghost use Rattle.keyed_history.specs.Places.{IsRowOf};
+ghost use Rattle.plain_history.specs.Plain.{open_of, session_in};
 
-use crate::plain::{PlainIsolation, PlainLevel, PlainSession, PlainWrite};
+use crate::plain::{PlainIsolation, PlainSession};
+use keyed_history::{KeyedHistory, PlainLevel};
 use std::alloc::{AllocError, Global};
 use tuple_header::Row;
-
-fn copy_of(row: &Option<Row>) -> Option<Row>
-    ensures { result ≡ row.now }
-{
-    match row {
-        Some(row) => Some(row.copy()),
-        None => None,
-    }
-}
-
-impl PlainWrite {
-    fn copy(&self) -> PlainWrite
-        ensures { result ≡ self.now }
-    {
-        PlainWrite {
-            start: self.start,
-            key: self.key,
-            row: copy_of(&self.row),
-        }
-    }
-
-    /// What the write says of the key, if it is of that key.
-    fn said(&self, key: u64) -> Option<Option<Row>>
-        ensures value { result ≡ said self.now key }
-        ensures keyed { IfSome result (λ row. IsRowOf key row) }
-    {
-        if self.key == key {
-            Some(copy_of(&self.row))
-        } else {
-            None
-        }
-    }
-}
-
-impl PlainLevel {
-    /// What the last write to the key says.
-    pub(crate) fn last_write(&self, key: u64) -> Option<Option<Row>>
-        ensures value { result ≡ written self.now key }
-        ensures keyed { IfSome result (λ row. IsRowOf key row) }
-    {
-        last_written(&self.writes, key)
-    }
-
-    pub(crate) fn wrote(&self, key: u64) -> bool
-        ensures { IsTrue result ↔ IsSome (written self.now key) }
-    {
-        self.last_write(key).is_some()
-    }
-
-    /// Puts a copy of later writes behind these.
-    fn extend(&mut self, later: &PlainLevel) -> Result<(), AllocError>
-        ensures { OnOk result (self.new ≡ self.old ++ later.now) }
-    {
-        extend_with(&mut self.writes, &later.writes)
-    }
-}
-
-fn last_written(writes: &[PlainWrite], key: u64) -> Option<Option<Row>>
-    ensures value { result ≡ written writes.now key }
-    ensures keyed { IfSome result (λ row. IsRowOf key row) }
-{
-    let mut last = None;
-    for write in writes {
-        if let Some(said) = write.said(key) {
-            last = Some(said);
-        }
-    }
-    last
-}
 
 /// What the newest level that wrote the key says of it.
 fn written_in(levels: &[PlainLevel], key: u64) -> Option<Option<Row>>
@@ -90,35 +23,6 @@ fn written_in(levels: &[PlainLevel], key: u64) -> Option<Option<Row>>
         }
     }
     None
-}
-
-fn latest_in(history: &[PlainLevel], key: u64) -> Option<Option<Row>>
-    ensures value { result ≡ latest history.now key }
-    ensures keyed { IfSome result (λ row. IsRowOf key row) }
-{
-    let mut last = None;
-    for transaction in history {
-        if let Some(said) = transaction.last_write(key) {
-            last = Some(said);
-        }
-    }
-    last
-}
-
-/// The row of the key after the first n transactions.
-fn committed_in(history: &[PlainLevel], n: usize, key: u64) -> Option<Row>
-    ensures value { result ≡ committed history.now n key }
-    ensures keyed { IsRowOf key result }
-{
-    let said = if n < history.len() {
-        latest_in(&history[..n], key)
-    } else {
-        latest_in(history, key)
-    };
-    match said {
-        Some(row) => row,
-        None => None,
-    }
 }
 
 impl PlainSession {
@@ -137,7 +41,7 @@ impl PlainSession {
         ensures { IfOk result (λ all. all ≡ joined (open_of self.now).levels) }
     {
         let mut all = joined_levels(alloc, &self.older)?;
-        all.extend(&self.newest)?;
+        all.extend(alloc, &self.newest)?;
         Ok(all)
     }
 
@@ -151,7 +55,7 @@ impl PlainSession {
     }
 
     /// How many transactions had committed when the snapshot was taken by which a statement of the session reads now.
-    pub(crate) fn start_now(&self, history: &[PlainLevel]) -> usize
+    pub(crate) fn start_now(&self, history: &KeyedHistory) -> usize
         ensures { result ≡ start_now history.now (open_of self.now) }
     {
         match self.isolation {
@@ -161,24 +65,15 @@ impl PlainSession {
     }
 
     /// The row that the session reads.
-    pub(crate) fn view(&self, history: &[PlainLevel], key: u64) -> Option<Row>
+    pub(crate) fn view(&self, history: &KeyedHistory, key: u64) -> Option<Row>
         ensures value { result ≡ view history.now (open_of self.now) key }
         ensures keyed { IsRowOf key result }
     {
         match self.own_write(key) {
             Some(row) => row,
-            None => committed_in(history, self.start_now(history), key),
+            None => history.row_after(self.start_now(history), key),
         }
     }
-}
-
-fn extend_with(writes: &mut Vec<PlainWrite>, later: &[PlainWrite]) -> Result<(), AllocError>
-    ensures { OnOk result (writes.new.items ≡ writes.old.items ++ later.now) }
-{
-    for write in later {
-        writes.push(write.copy())?;
-    }
-    Ok(())
 }
 
 /// All writes of the levels, the oldest write first.
@@ -188,25 +83,19 @@ fn joined_levels(alloc: Global, levels: &[PlainLevel]) -> Result<PlainLevel, All
     let mut all = PlainLevel::new(alloc);
     for level in levels {
         let mut longer = PlainLevel::new(alloc);
-        longer.extend(level)?;
-        longer.extend(&all)?;
+        longer.extend(alloc, level)?;
+        longer.extend(alloc, &all)?;
         all = longer;
     }
     Ok(all)
 }
 
 /// Did a transaction write the key that has committed since the snapshot of the session's statement was taken?
-pub(crate) fn is_late(history: &[PlainLevel], session: &PlainSession, key: u64) -> bool
+pub(crate) fn is_late(history: &KeyedHistory, session: &PlainSession, key: u64) -> bool
     ensures { IsTrue result
         ↔ IsLate history.now (start_now history.now (open_of session.now)) key }
 {
-    let start = session.start_now(history);
-    for n in 0..history.len() {
-        if start <= n && history[n].wrote(key) {
-            return true;
-        }
-    }
-    false
+    history.is_late(session.start_now(history), key)
 }
 
 /// Another open session that has the key in its levels.

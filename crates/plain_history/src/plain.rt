@@ -1,49 +1,14 @@
 //! The plain program's state: the history and the sessions as lists.
 
-ghost use Rattle.std.specs.Prelude.{◌≡◌, [], ◌∷◌, ◌++◌, OnOk, OnErr, IfOk};
+ghost use Rattle.std.specs.Prelude.{◌≡◌, OnOk, OnErr, IfOk};
 ghost use Rattle.history.specs.World.{beginning};
 ghost use Rattle.history.specs.Moves.{without_savepoint};
 ghost use Rattle.plain_history.specs.Plain.{open_of, world_of};
 
+use keyed_history::{KeyedHistory, PlainLevel};
 use plain_cursor::PlainCursor;
 use std::alloc::{AllocError, Global};
 use std::marker::Model;
-use tuple_header::Row;
-
-/// A key with a row, or with none, and the start of the statement that wrote it.
-#[derive(Drop)]
-pub struct PlainWrite {
-    pub(crate) start: usize,
-    pub(crate) key: u64,
-    pub(crate) row: Option<Row>,
-}
-
-impl Model for PlainWrite {
-    ghost use Rattle.history.specs.History.{Write};
-
-    ghost Value = { Write };
-
-    ghost view = { λ w. record { start = w.start; key = w.key; row = w.row } };
-
-    ghost use Rattle.std.specs.Prelude.{◌≡◌, IfSome};
-
-    ghost invariant = { λ w. IfSome w.row (λ row. row.key ≡ w.key) };
-}
-
-/// Writes, the oldest first: those of a level of an open session, or all those of a committed transaction.
-#[derive(Drop)]
-pub struct PlainLevel {
-    pub(crate) writes: Vec<PlainWrite>,
-}
-
-impl Model for PlainLevel {
-    ghost use Rattle.std.specs.Prelude.{List};
-    ghost use Rattle.history.specs.History.{Write};
-
-    ghost Value = { List Write };
-
-    ghost view = { λ l. l.writes.items };
-}
 
 /// By which snapshot a session reads.
 #[derive(Clone, Copy)]
@@ -65,11 +30,11 @@ pub struct PlainSession {
     pub(crate) has_written: bool,
 }
 
-/// The history and the sessions, as lists. It is slow on purpose: each answer is looked up in the whole history.
+/// The history, by keys too, and the sessions as lists.
 #[derive(Drop)]
 pub struct PlainHistory {
     pub(crate) alloc: Global,
-    pub(crate) history: Vec<PlainLevel>,
+    pub(crate) history: KeyedHistory,
     // A place for each number of a u8, of which 0 to 63 are ever taken.
     pub(crate) sessions: Vec<Option<PlainSession>>,
     pub(crate) waits: Vec<Option<u8>>,
@@ -87,7 +52,7 @@ impl Model for PlainHistory {
     ghost Value = { Plain };
 
     ghost view = { λ p. record {
-      history = p.history.items;
+      history = p.history;
       sessions = p.sessions.items;
       waits = p.waits.items;
       indexed = p.indexed;
@@ -97,38 +62,6 @@ impl Model for PlainHistory {
 
     ghost invariant = { λ p.
         HasAllPlaces (length p.sessions.items) (length p.waits.items) (length p.too_new.items) };
-}
-
-impl PlainLevel {
-    pub(crate) fn new(alloc: Global) -> PlainLevel
-        ensures { result ≡ [] }
-    {
-        PlainLevel {
-            writes: Vec::new(alloc),
-        }
-    }
-
-    pub(crate) fn push(&mut self, write: PlainWrite) -> Result<(), AllocError>
-        ensures ok { OnOk result (self.new ≡ self.old ++ write ∷ []) }
-        ensures err { OnErr result (self.new ≡ self.old) }
-    {
-        self.writes.push(write)?;
-        Ok(())
-    }
-
-    /// Puts the later writes behind these.
-    pub(crate) fn append(&mut self, later: &mut PlainLevel) -> Result<(), AllocError>
-        ensures ok { OnOk result (self.new ≡ self.old ++ later.old) }
-        ensures err { OnErr result ((self.new ≡ self.old) × (later.new ≡ later.old)) }
-    {
-        self.writes.append(&mut later.writes)
-    }
-
-    pub(crate) fn clear(&mut self)
-        ensures { self.new ≡ [] }
-    {
-        self.writes.clear();
-    }
 }
 
 impl PlainSession {
@@ -166,7 +99,7 @@ impl PlainHistory {
         }
         Ok(PlainHistory {
             alloc,
-            history: Vec::new(alloc),
+            history: KeyedHistory::new(alloc),
             sessions,
             waits,
             indexed,

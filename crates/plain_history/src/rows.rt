@@ -1,13 +1,14 @@
 //! The rows that a session reads, in the order of an index.
 
-ghost use Rattle.std.specs.Prelude.{◌≡◌, ℕ, OnOk, IfOk, None, false};
-ghost use Rattle.history.specs.History.{written, latest};
+ghost use Rattle.std.specs.Prelude.{◌≡◌, ℕ, OnOk, IfOk, IfSome, None, false, length};
+ghost use Rattle.history.specs.History.{said, written};
 ghost use Rattle.history.specs.World.{joined, view};
-ghost use Rattle.plain_cursor.specs.Order.{row_of_key, IsInOrder, wanted};
+ghost use Rattle.plain_cursor.specs.Order.{row_of_key, IsInOrder, is_wanted, wanted};
 ghost use Rattle.plain_history.specs.Plain.{open_of};
-ghost use Rattle.plain_history.specs.Covers.{has, AddsRow, Covers};
+ghost use Rattle.plain_history.specs.Covers.{has, AddsRow, Covers, IsUnwanted, AreUnwanted};
 
-use crate::plain::{PlainLevel, PlainSession, PlainWrite};
+use crate::plain::PlainSession;
+use keyed_history::{KeyedHistory, PlainLevel, PlainWrite};
 use plain_cursor::{Bounds, has_key, is_wanted, place};
 use std::alloc::{AllocError, Global};
 use tuple_header::Row;
@@ -15,7 +16,7 @@ use tuple_header::Row;
 /// Adds the session's row of the key, if it is wanted and not there yet.
 fn add_row(
     rows: &mut Vec<Row>,
-    history: &[PlainLevel],
+    history: &KeyedHistory,
     session: &PlainSession,
     key: u64,
     index: u8,
@@ -45,7 +46,7 @@ fn add_row(
 /// The session's rows that are wanted, in the order of the index.
 pub(crate) fn rows_of(
     alloc: Global,
-    history: &[PlainLevel],
+    history: &KeyedHistory,
     session: &PlainSession,
     index: u8,
     bounds: Bounds,
@@ -56,13 +57,13 @@ pub(crate) fn rows_of(
         → row_of_key rows.items key
         ≡ wanted bounds index (view history.now (open_of session.now)) key) }
 {
-    let keys = keys_of(alloc, history, session)?;
+    let keys = keys_of(alloc, history, session, index, bounds)?;
     rows_with(alloc, history, session, &keys, index, bounds)
 }
 
 fn rows_with(
     alloc: Global,
-    history: &[PlainLevel],
+    history: &KeyedHistory,
     session: &PlainSession,
     keys: &[u64],
     index: u8,
@@ -80,60 +81,101 @@ fn rows_with(
     Ok(rows)
 }
 
-/// All keys of which the session may read a row.
+/// The keys of which the session may read a row that is wanted. Such a row was written, so what was written is looked at, and not what
+/// the session reads of each key.
 fn keys_of(
     alloc: Global,
-    history: &[PlainLevel],
+    history: &KeyedHistory,
     session: &PlainSession,
+    index: u8,
+    bounds: Bounds,
 ) -> Result<Vec<u64>, AllocError>
     ensures { IfOk result
         (λ keys. (key : ℕ) → has keys.items key ≡ false
-        → view history.now (open_of session.now) key ≡ None) }
+        → wanted bounds index (view history.now (open_of session.now)) key ≡ None) }
 {
     let mut keys = Vec::new(alloc);
-    add_history(&mut keys, history)?;
-    add_levels(&mut keys, &session.older)?;
-    add_keys(&mut keys, &session.newest)?;
+    add_history(&mut keys, history.transactions(), index, bounds)?;
+    add_levels(&mut keys, &session.older, index, bounds)?;
+    add_writes(&mut keys, session.newest.writes(), index, bounds)?;
     Ok(keys)
 }
 
-fn add_history(keys: &mut Vec<u64>, history: &[PlainLevel]) -> Result<(), AllocError>
+fn add_history(
+    keys: &mut Vec<u64>,
+    history: &[PlainLevel],
+    index: u8,
+    bounds: Bounds,
+) -> Result<(), AllocError>
     ensures { OnOk result
         ((key : ℕ) → has keys.new.items key ≡ false
-        → (has keys.old.items key ≡ false) × (latest history.now key ≡ None)) }
+        → (has keys.old.items key ≡ false)
+        × AreUnwanted (is_wanted bounds index) history.now (length history.now) key) }
 {
     for transaction in history {
-        add_keys(keys, transaction)?;
+        add_writes(keys, transaction.writes(), index, bounds)?;
     }
     Ok(())
 }
 
-fn add_levels(keys: &mut Vec<u64>, levels: &[PlainLevel]) -> Result<(), AllocError>
+fn add_levels(
+    keys: &mut Vec<u64>,
+    levels: &[PlainLevel],
+    index: u8,
+    bounds: Bounds,
+) -> Result<(), AllocError>
     ensures { OnOk result
         ((key : ℕ) → has keys.new.items key ≡ false
-        → (has keys.old.items key ≡ false) × (written (joined levels.now) key ≡ None)) }
+        → (has keys.old.items key ≡ false)
+        × IsUnwanted (is_wanted bounds index) (written (joined levels.now) key)) }
 {
     for level in levels {
-        add_keys(keys, level)?;
+        add_writes(keys, level.writes(), index, bounds)?;
     }
     Ok(())
 }
 
-fn add_keys(keys: &mut Vec<u64>, level: &PlainLevel) -> Result<(), AllocError>
+fn add_writes(
+    keys: &mut Vec<u64>,
+    writes: &[PlainWrite],
+    index: u8,
+    bounds: Bounds,
+) -> Result<(), AllocError>
     ensures { OnOk result
         ((key : ℕ) → has keys.new.items key ≡ false
-        → (has keys.old.items key ≡ false) × (written level.now key ≡ None)) }
-{
-    add_writes(keys, &level.writes)
-}
-
-fn add_writes(keys: &mut Vec<u64>, writes: &[PlainWrite]) -> Result<(), AllocError>
-    ensures { OnOk result
-        ((key : ℕ) → has keys.new.items key ≡ false
-        → (has keys.old.items key ≡ false) × (written writes.now key ≡ None)) }
+        → (has keys.old.items key ≡ false)
+        × IsUnwanted (is_wanted bounds index) (written writes.now key)) }
 {
     for write in writes {
-        keys.push(write.key)?;
+        add_write(keys, write, index, bounds)?;
     }
     Ok(())
+}
+
+// Adds the key of the write, if a row that it wrote is wanted.
+fn add_write(
+    keys: &mut Vec<u64>,
+    write: &PlainWrite,
+    index: u8,
+    bounds: Bounds,
+) -> Result<(), AllocError>
+    ensures { OnOk result
+        ((key : ℕ) → has keys.new.items key ≡ false
+        → (has keys.old.items key ≡ false)
+        × IsUnwanted (is_wanted bounds index) (said write.now key)) }
+{
+    if !may_be_wanted(write, index, bounds) {
+        return Ok(());
+    }
+    keys.push(write.key())?;
+    Ok(())
+}
+
+fn may_be_wanted(write: &PlainWrite, index: u8, bounds: Bounds) -> bool
+    ensures { IfSome write.now.row (λ row. result ≡ is_wanted bounds index row) }
+{
+    match write.kept() {
+        Some(row) => bounds.includes(row.value(index)),
+        None => false,
+    }
 }

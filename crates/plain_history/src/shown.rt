@@ -7,21 +7,7 @@ ghost use Rattle.history.specs.World.{Holds, start_now};
 ghost use Rattle.plain_history.specs.Plain.{world_of};
 
 use crate::lookup::{holder, holds};
-use crate::plain::{PlainHistory, PlainLevel};
-
-// The place of the last transaction that wrote the key.
-fn last_writer(history: &[PlainLevel], key: u64) -> Option<usize>
-    ensures { MatchOption result (¬ IsLate history.now 0 key)
-        (λ n. IsLate history.now n key × (¬ IsLate history.now (n + 1) key)) }
-{
-    for later in 0..history.len() {
-        let n = history.len() - later - 1;
-        if history[n].wrote(key) {
-            return Some(n);
-        }
-    }
-    None
-}
+use crate::plain::PlainHistory;
 
 impl PlainHistory {
     /// How many transactions had committed when the snapshot was taken by which the session reads now, if it is open.
@@ -55,6 +41,6 @@ impl PlainHistory {
         ensures { MatchOption result (¬ IsLate self.now.history 0 key)
             (λ n. IsLate self.now.history n key × (¬ IsLate self.now.history (n + 1) key)) }
     {
-        last_writer(&self.history, key)
+        self.history.last_writer(key)
     }
 }

@@ -7,9 +7,10 @@ ghost use Rattle.plain_history.specs.Plain.{isolation_of, world_of};
 ghost use Rattle.calls.specs.Bars.{BarsOpen, BarsReady};
 ghost use Rattle.plain_history.specs.Answers.{after_refusal, OrMemory, MayBegin, RefusesBegin, RefusesSave, RefusesRollBack, RefusesRelease, PlainReads, MaySave, MayRollBack, MayRelease, MayCommit, WouldCommit};
 
-use crate::plain::{PlainHistory, PlainIsolation, PlainLevel, PlainSession};
+use crate::plain::{PlainHistory, PlainIsolation, PlainSession};
 use crate::refusal::Refused;
 use calls::Refusal;
+use keyed_history::{KeptRow, PlainLevel};
 use std::alloc::AllocError;
 use tuple_header::Row;
 
@@ -87,8 +88,13 @@ impl PlainHistory {
             (world_of self.new ≡ change (world_of self.old) s (with_row self.old.history row)) }
         ensures err { OnErr result (world_of self.new ≡ stepped (world_of self.old) s) }
     {
-        let key = row.key;
-        self.write(s, key, Some(row))
+        match KeptRow::keep(self.alloc, &row) {
+            Ok(kept) => self.write(s, row.key, Some(kept)),
+            Err(fault) => {
+                self.end_wait(s);
+                Err(fault)
+            }
+        }
     }
 
     /// The session writes that the key has no row. Where memory is refused only its own wait ends.

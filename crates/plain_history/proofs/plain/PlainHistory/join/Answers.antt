@@ -7,14 +7,14 @@ use Rattle.plain_history.proofs.plain.PlainHistory.join.Goals as goal
 
 pub returns-clause-ok : goal.returns-clause-ok
 returns-clause-ok c =
-    let p : Plain = record { history = c.self.inside.history.items; sessions = c.self.inside.sessions.items; waits = c.self.inside.waits.items; indexed = c.self.inside.indexed; too_new = c.self.inside.too_new.items; has_vacuum = c.self.inside.vacuuming } in
+    let p : Plain = record { history = c.self.inside.history; sessions = c.self.inside.sessions.items; waits = c.self.inside.waits.items; indexed = c.self.inside.indexed; too_new = c.self.inside.too_new.items; has_vacuum = c.self.inside.vacuuming } in
     let within : c.args.s < length c.self.inside.waits.items = omega arith in
     let within' : c.args.s < length c.self.inside.sessions.items = omega arith in
     on_ok_weaker c.release.result (changes p c.args.self.now c.args.s c.index_mut-2.result.now c.release.new.session without_savepoint c.self.view_is within' within c.index_mut-2.ensures.value) c.release.ensures.ok
 
 pub returns-clause-err : goal.returns-clause-err
 returns-clause-err c =
-    let p : Plain = record { history = c.self.inside.history.items; sessions = c.self.inside.sessions.items; waits = c.self.inside.waits.items; indexed = c.self.inside.indexed; too_new = c.self.inside.too_new.items; has_vacuum = c.self.inside.vacuuming } in
+    let p : Plain = record { history = c.self.inside.history; sessions = c.self.inside.sessions.items; waits = c.self.inside.waits.items; indexed = c.self.inside.indexed; too_new = c.self.inside.too_new.items; has_vacuum = c.self.inside.vacuuming } in
     let within : c.args.s < length c.self.inside.waits.items = omega arith in
     let within' : c.args.s < length c.self.inside.sessions.items = omega arith in
     on_err_weaker c.release.result (stays_so p c.args.self.now c.args.s c.index_mut-2.result.now c.release.new.session c.self.view_is within' within c.index_mut-2.ensures.value) c.release.ensures.err

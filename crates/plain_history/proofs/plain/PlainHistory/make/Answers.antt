@@ -7,7 +7,7 @@ use Rattle.plain_history.proofs.plain.PlainHistory.make.Goals as goal
 
 pub returns : goal.returns
 returns c =
-    let p : Plain = record { history = c.self.inside.history.items; sessions = c.self.inside.sessions.items; waits = c.self.inside.waits.items; indexed = c.self.inside.indexed; too_new = c.self.inside.too_new.items; has_vacuum = c.self.inside.vacuuming } in
+    let p : Plain = record { history = c.self.inside.history; sessions = c.self.inside.sessions.items; waits = c.self.inside.waits.items; indexed = c.self.inside.indexed; too_new = c.self.inside.too_new.items; has_vacuum = c.self.inside.vacuuming } in
     let within : c.args.column < length c.self.inside.indexed = omega arith in
     let marked : (s i : ℕ) → too_new_in c.mark_all.new.too_new s i ≡ cond (nat_eq i (c.args.column + 1)) (is_open_by_snapshot (session_in p.sessions s)) (too_new_in p.too_new s i) = λ s i.
     c.mark_all.ensures.marks s i

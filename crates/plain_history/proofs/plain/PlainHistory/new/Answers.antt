@@ -36,5 +36,5 @@ is_beginning p count others places n none sessions waits marks idle =
     ∙ ap (world p.indexed [] (λ _. None) (λ _. None)) (fun_ext (λ s. fun_ext (λ index. ap (λ xs. too_new_in xs s index) marks ∙ nothing_is_marked places n s index))))))
 
 pub returns : goal.returns
-returns c = is_beginning (record { history = c.new.result.items; sessions = c.loop.sessions.items; waits = c.loop-2.waits.items; indexed = c.args.indexed; too_new = c.loop-3.too_new.items; has_vacuum = false }) c.loop.counter c.loop-2.counter c.loop-3.counter 5
-    c.new.ensures.items c.loop.invariant c.loop-2.invariant c.loop-3.invariant refl
+returns c = is_beginning (record { history = c.new.result; sessions = c.loop.sessions.items; waits = c.loop-2.waits.items; indexed = c.args.indexed; too_new = c.loop-3.too_new.items; has_vacuum = false }) c.loop.counter c.loop-2.counter c.loop-3.counter 5
+    c.new.ensures c.loop.invariant c.loop-2.invariant c.loop-3.invariant refl

@@ -1,4 +1,4 @@
-use Rattle.std.proofs.Common.{◌∙◌, ap, subst, List, ◌<◌, length, arith}
+use Rattle.std.proofs.Common.{ap, subst, List, ◌<◌, length, arith}
 use Rattle.plain_history.specs.Answers.{PlainBecomes, with_plain_cursor}
 use Rattle.history.specs.History.{Transaction}
 use Rattle.std.specs.Prelude.{OnOk}
@@ -9,15 +9,15 @@ use Rattle.plain_history.proofs.plain.PlainHistory.open.Goals as goal
 
 pub returns-clause-ok : goal.returns-clause-ok
 returns-clause-ok c =
-    let p : Plain = record { history = c.self.inside.history.items; sessions = c.self.inside.sessions.items; waits = c.self.inside.waits.items; indexed = c.self.inside.indexed; too_new = c.self.inside.too_new.items; has_vacuum = c.self.inside.vacuuming } in
+    let p : Plain = record { history = c.self.inside.history; sessions = c.self.inside.sessions.items; waits = c.self.inside.waits.items; indexed = c.self.inside.indexed; too_new = c.self.inside.too_new.items; has_vacuum = c.self.inside.vacuuming } in
     let within : c.args.s < length c.self.inside.waits.items = omega arith in
     let within' : c.args.s < length c.self.inside.sessions.items = omega arith in
     on_ok_weaker c.set_cursor.result (changes p c.args.self.now c.args.s c.index_mut-2.result.now c.set_cursor.new.session (with_plain_cursor c.args.self.now.history c.args.order c.args.bounds) c.self.view_is within' within c.index_mut-2.ensures.value) (subst (λ (h : List Transaction). OnOk c.set_cursor.result (PlainBecomes c.index_mut-2.result.now c.set_cursor.new.session (with_plain_cursor h c.args.order c.args.bounds)))
-    (c.deref.ensures.value ∙ ap (λ (q : Plain). q.history) c.self.view_is) c.set_cursor.ensures.ok)
+    (ap (λ (q : Plain). q.history) c.self.view_is) c.set_cursor.ensures.ok)
 
 pub returns-clause-err : goal.returns-clause-err
 returns-clause-err c =
-    let p : Plain = record { history = c.self.inside.history.items; sessions = c.self.inside.sessions.items; waits = c.self.inside.waits.items; indexed = c.self.inside.indexed; too_new = c.self.inside.too_new.items; has_vacuum = c.self.inside.vacuuming } in
+    let p : Plain = record { history = c.self.inside.history; sessions = c.self.inside.sessions.items; waits = c.self.inside.waits.items; indexed = c.self.inside.indexed; too_new = c.self.inside.too_new.items; has_vacuum = c.self.inside.vacuuming } in
     let within : c.args.s < length c.self.inside.waits.items = omega arith in
     let within' : c.args.s < length c.self.inside.sessions.items = omega arith in
     on_err_weaker c.set_cursor.result (stays_so p c.args.self.now c.args.s c.index_mut-2.result.now c.set_cursor.new.session c.self.view_is within' within c.index_mut-2.ensures.value) c.set_cursor.ensures.err

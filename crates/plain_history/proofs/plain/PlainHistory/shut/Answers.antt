@@ -6,7 +6,7 @@ use Rattle.plain_history.proofs.plain.PlainHistory.shut.Goals as goal
 
 pub returns : goal.returns
 returns c =
-    let p : Plain = record { history = c.self.inside.history.items; sessions = c.self.inside.sessions.items; waits = c.self.inside.waits.items; indexed = c.self.inside.indexed; too_new = c.self.inside.too_new.items; has_vacuum = c.self.inside.vacuuming } in
+    let p : Plain = record { history = c.self.inside.history; sessions = c.self.inside.sessions.items; waits = c.self.inside.waits.items; indexed = c.self.inside.indexed; too_new = c.self.inside.too_new.items; has_vacuum = c.self.inside.vacuuming } in
     let within : c.args.s < length c.self.inside.waits.items = omega arith in
     let within' : c.args.s < length c.self.inside.sessions.items = omega arith in
     subst (λ (q : Plain). world_of (record p { sessions = set p.sessions c.args.s c.close.new.session; waits = set p.waits c.args.s None }) ≡ change (world_of q) c.args.s without_cursor)

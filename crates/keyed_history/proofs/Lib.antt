@@ -1,0 +1,5 @@
+mod SpotLemmas
+pub mod Lists
+mod PlaceLemmas
+mod LatestLemmas
+mod NotingLemmas

@@ -1,5 +1,0 @@
-use Rattle.std.proofs.Common.{◌≡◌, take, ◌++◌}
-use Rattle.plain_history.proofs.lookup.extend_with.Given as goal
-
-abbrev pub invariant-loop-write : goal.invariant-loop-write
-invariant-loop-write l = l.writes.items ≡ l.fn.writes.items ++ take l.write-index l.later
