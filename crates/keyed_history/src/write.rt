@@ -89,7 +89,7 @@ impl PlainWrite {
     }
 
     /// The row where it is kept, if it is no deletion.
-    pub fn kept(&self) -> Option<&KeptRow>
+    pub fn kept_row(&self) -> Option<&KeptRow>
         ensures { MatchOption result (self.now.row ≡ None) (λ row. self.now.row ≡ Some row.now) }
     {
         match &self.row {

@@ -174,7 +174,7 @@ fn add_write(
 fn may_be_wanted(write: &PlainWrite, index: u8, bounds: Bounds) -> bool
     ensures { IfSome write.now.row (λ row. result ≡ is_wanted bounds index row) }
 {
-    match write.kept() {
+    match write.kept_row() {
         Some(row) => bounds.includes(row.value(index)),
         None => false,
     }
