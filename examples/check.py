@@ -4,7 +4,7 @@
     python3 examples/check.py HEAPVIEW
 
 A page has a table with a row for each line of its script, and for each further line of an answer. A row may stand for several lines,
-`and N times more: ..`, in which K counts as the row says.
+`and N times more: ..`, in which K counts as the row says. BODY stands for a body of a thousand bytes, each of which is 0.
 """
 
 import glob
@@ -14,11 +14,12 @@ import subprocess
 import sys
 
 HEADING = "| line of the script | answer | why |"
+BODY = "00" * 1000
 
 
 def quoted(cell):
     """What stands between backticks in a cell."""
-    return re.findall(r"`([^`]*)`", cell)
+    return [words.replace("BODY", BODY) for words in re.findall(r"`([^`]*)`", cell)]
 
 
 def repeated(line, answer, why):

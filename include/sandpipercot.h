@@ -25,7 +25,7 @@
  * nothing; it may be repeated. (Of _insert_many and _update_many the rows before stay written; and where memory for the places of keys
  * is refused, fewer are noted, and the call goes on.) sandpiper_begin_read_committed, _get, _rollback_to, _release, _commit, _abort,
  * _prune, _close, _next, _close_cursor, _slot_at, _page_at, _page_bytes, _check_page, _state_of, _version, _keep_places, _vacuum_begin,
- * _vacuum_step, _vacuum_cancel, _close_ticket and the looks ask for none. (The first _id_of asks for some, to keep what became of ids that
+ * _vacuum_step, _vacuum_cancel, _close_ticket and the looks but _draw ask for none. (The first _id_of asks for some, to keep what became of ids that
  * are asked for often; where that is refused it answers all the same.)
  * Nor do _open_heap, _open_by_key, _open_index and _open_keys, unless the session reads by statement and more than 8 ids are in progress.
  *
@@ -70,7 +70,8 @@ struct sandpiper_settings {
 #define SANDPIPER_SAVEPOINTS 32  /* that a session may have at a time */
 #define SANDPIPER_BODY 1024      /* bytes of the longest body */
 
-/* A row. Of the body the first `length` bytes count; the rest is neither read nor written. */
+/* A row. Of the body the first `length` bytes count; the rest is neither read nor written. It takes 1,072 bytes whatever it holds, so
+ * many are best written and read some at a time. */
 struct sandpiper_row {
     uint64_t key;
     int64_t cols[4];
@@ -115,9 +116,10 @@ enum sandpiper_status {
     SANDPIPER_STALE = 39,             /* the plan does not check: the page was changed since, or somebody may see what would go */
     SANDPIPER_NO_ENGINE = 48,         /* the handle has no table */
     SANDPIPER_HAS_ENGINE = 49,        /* sandpiper_open: the handle has a table already */
-    SANDPIPER_NO_PLACE = 50,          /* sandpiper_next, _page_bytes, _ticket_rows: there is no place for a row, a page, or all rows */
+    SANDPIPER_NO_PLACE = 50,          /* sandpiper_next, _page_bytes, _ticket_rows, _draw: there is no place for a row, a page, all rows, a picture */
     SANDPIPER_NO_TICKET = 51,         /* the ticket has no page */
     SANDPIPER_HAS_TICKET = 52,        /* sandpiper_take_page: the ticket has a page already */
+    SANDPIPER_TOO_MANY_PAGES = 53,    /* sandpiper_draw: a picture has at most 64 pages */
     /* sandpiper_open: the first setting that is out of its range */
     SANDPIPER_BAD_MAX_PAGES = 64,
     SANDPIPER_BAD_STOP_AGE = 65,
@@ -496,6 +498,14 @@ struct sandpiper_vacuum {
 /* FOUND, or NO_VACUUM where none runs. */
 uint32_t sandpiper_vacuum_of(struct sandpiper *table, struct sandpiper_vacuum *vacuum);
 
+#define SANDPIPER_PICTURE_PAGES 64 /* that a picture may have */
+
+/* A picture of the table as it is now, as SVG: of the pages of these numbers, counted from 0, or of all where `count` is 0. (Then nothing is
+ * read at `pages`.) Its text is written to the first of `capacity` bytes, with no zero behind it, and its length to *length: FOUND. NO_PLACE:
+ * it is longer than `capacity`, and nothing is written but *length. After all else *length is 0: TOO_MANY_PAGES, where more pages than
+ * SANDPIPER_PICTURE_PAGES were asked for or are in use; NO_SUCH_PAGE, where one is not in use; NO_MEMORY. */
+uint32_t sandpiper_draw(struct sandpiper *table, const uint32_t *pages, size_t count, char *text, size_t capacity, size_t *length);
+
 /* A status in words: one sentence, which lasts as long as the program. */
 static inline const char *sandpiper_words(uint32_t status) {
     switch (status) {
@@ -534,9 +544,10 @@ static inline const char *sandpiper_words(uint32_t status) {
     case SANDPIPER_STALE: return "the plan does not check";
     case SANDPIPER_NO_ENGINE: return "the handle has no table";
     case SANDPIPER_HAS_ENGINE: return "the handle has a table already";
-    case SANDPIPER_NO_PLACE: return "there is no place for a row, for a page, or for all rows";
+    case SANDPIPER_NO_PLACE: return "there is no place for a row, for a page, for all rows, or for a picture";
     case SANDPIPER_NO_TICKET: return "the ticket has no page";
     case SANDPIPER_HAS_TICKET: return "the ticket has a page already";
+    case SANDPIPER_TOO_MANY_PAGES: return "a picture has at most 64 pages";
     case SANDPIPER_BAD_MAX_PAGES: return "the setting max_pages is out of its range";
     case SANDPIPER_BAD_STOP_AGE: return "the setting stop_age is out of its range";
     case SANDPIPER_BAD_FREEZE_MIN_AGE: return "the setting freeze_min_age is out of its range";

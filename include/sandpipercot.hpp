@@ -64,6 +64,7 @@ enum class Status : std::uint32_t {
     NoPlace = SANDPIPER_NO_PLACE,
     NoTicket = SANDPIPER_NO_TICKET,
     HasTicket = SANDPIPER_HAS_TICKET,
+    TooManyPages = SANDPIPER_TOO_MANY_PAGES,
     BadMaxPages = SANDPIPER_BAD_MAX_PAGES,
     BadStopAge = SANDPIPER_BAD_STOP_AGE,
     BadFreezeMinAge = SANDPIPER_BAD_FREEZE_MIN_AGE,
@@ -467,6 +468,19 @@ public:
         sandpiper_vacuum it;
         const std::uint32_t status = sandpiper_vacuum_of(ready(), &it);
         return status == SANDPIPER_NO_VACUUM ? std::nullopt : std::optional<sandpiper_vacuum>((told(status), it));
+    }
+    // A picture of the table as it is now, as SVG: of the pages of these numbers, or of all where none is named.
+    std::string draw(const std::vector<std::uint32_t> &pages = {}) const {
+        const std::uint32_t none = 0;
+        std::string text(65536, ' ');
+        for (std::size_t length;; text.resize(length)) {
+            const auto *first = pages.empty() ? &none : pages.data();
+            const std::uint32_t status = sandpiper_draw(ready(), first, pages.size(), text.data(), text.size(), &length);
+            if (status == SANDPIPER_NO_PLACE) continue;
+            told(status);
+            text.resize(length);
+            return text;
+        }
     }
     // A whole vacuum, and the oldest id that is remembered after it.
     std::uint32_t vacuum(bool aggressive = false) {

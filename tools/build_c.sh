@@ -15,7 +15,7 @@ needs build_c.sh
 mkdir -p "$1"
 
 prove() {
-    echo "build_c.sh: proves 37 libraries and the calls for C: some 50 minutes on four processors (tools/quick.sh takes one, and proves nothing)"
+    echo "build_c.sh: proves the calls for C and the libraries below them: some 50 minutes on four processors (tools/quick.sh takes one, and proves nothing)"
     (cd "$root/crates/sandpiper_c" && rt lib ${RT_JOBS:+--jobs "$RT_JOBS"})
 }
 if [ $# -eq 2 ]; then

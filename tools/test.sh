@@ -35,7 +35,7 @@ rt ci
 python3 tools/check_docs.py crates/heapsh/out/heapsh
 python3 tests/scripts/test_scripts.py crates/heapsh/out/heapsh
 python3 tests/cuts/test_cuts.py crates/heapsh/out/heapsh
-python3 tests/refused/test_refused.py crates/heapsh/out/heapsh
+python3 tests/refused/test_refused.py crates/heapsh/out/heapsh crates/heapjudge/out/heapjudge
 python3 tests/orders/test_orders.py crates/heapsh/out/heapsh
 python3 tests/judge/test_judge.py crates/heapjudge/out/heapjudge crates/heapsh/out/heapsh
 python3 examples/check.py crates/heapview/out/heapview

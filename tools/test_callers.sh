@@ -39,11 +39,27 @@ in_c loops ""
 in_c statuses "$wrap"
 in_c waits "$wrap"
 in_c looks ""
+in_c pictures "$wrap"
+cmp "$work/pictures.out" "$root/docs/horizon.svg"
 in_c misuse "" 20000
 in_c memory "$wrap"
 in_c making "$wrap" 300
 in_c growth "$wrap" 40
 cat "$work/memory.out" "$work/making.out" "$work/growth.out"
+
+# What a table was answered while memory was refused is judged, by the program that the gate leaves or tools/quick.sh installs.
+judge=$root/crates/heapjudge/out/heapjudge
+[ -x "$judge" ] || judge=$prefix/bin/heapjudge
+if [ -x "$judge" ]; then
+    say "the answers of growth.c, by heapjudge"
+    mkdir "$work/transcripts"
+    "$work/growth" 1000 "$work/transcripts" >/dev/null
+    for transcript in "$work"/transcripts/*; do
+        "$judge" <"$transcript"
+    done
+else
+    say "not tried: there is no heapjudge to judge the answers of growth.c (tools/quick.sh PREFIX heapjudge)"
+fi
 
 # Threads that share a table under a lock of their own. What looks for races has to find one where there is no lock.
 "$compiler" -std=c11 "${flags[@]}" -fsanitize=thread "$tests/threads.c" "$prefix/lib/libsandpipercot.a" -pthread -o "$work/threads"
@@ -95,7 +111,7 @@ if command -v "$cplusplus" >/dev/null; then
     "$cplusplus" -std=c++17 "${flags[@]}" -fsanitize=address,undefined -fno-sanitize-recover=all "$tests/classes.cpp" \
         "$prefix/lib/libsandpipercot.a" -o "$work/classes_cpp"
     say "classes.cpp, with the address sanitizer"
-    "$work/classes_cpp"
+    "$work/classes_cpp" "$root/docs/horizon.svg"
     "$cplusplus" -std=c++17 "${flags[@]}" "$root/examples/cpp/first_committer_wins.cpp" -L"$prefix/lib" -lsandpipercot \
         -o "$work/example_cpp"
     example "the example in C++" "$work/example_cpp"
@@ -122,11 +138,13 @@ python3 "$tests/test_table.py"
 python3 "$tests/test_misuse.py"
 python3 "$root/tests/pages/test_pages.py"
 python3 "$tests/test_random.py"
+python3 "$tests/test_one_page.py"
 python3 "$tests/test_plans.py"
 python3 "$tests/test_looks.py"
-# (a story is made by the program heapview, which the gate leaves there)
+# (a story is made by the program heapview, which the gate leaves there; a picture is compared with what it draws)
 [ ! -x "$root/crates/heapview/out/heapview" ] || export HEAPVIEW="$root/crates/heapview/out/heapview"
 python3 "$tests/test_stories.py"
+python3 "$tests/test_draw.py"
 example "the example in Python" python3 "$root/examples/python/first_committer_wins.py"
 python3 "$tests/test_documents.py" "$prefix"
 

@@ -12,6 +12,19 @@ import tempfile
 import unproved
 
 
+def make(copy: str, program: str, to: str, work: str, way: unproved.Way) -> None:
+    """Makes the program of a copy of the repository."""
+    module = unproved.without_checks(unproved.module_of(f"{copy}/crates/{program}", work))
+    objects = unproved.compiled(module, work, way)
+    archives = [f"{unproved.KIT}/c/libos_c.a", f"{unproved.KIT}/c/liblibc_c.a"]
+    link = [f"{unproved.KIT}/bin/rattle-link", "--target", "x86_64-unknown-linux-gnu", "--toolchain", f"{unproved.KIT}/toolchain"]
+    linked = subprocess.run([*link, "-o", f"{work}/{program}", *objects, *archives], capture_output=True, text=True, check=False)
+    if linked.returncode != 0:
+        sys.exit(f"unproved_shell.py: it does not link:\n{linked.stderr}")
+    os.makedirs(os.path.dirname(os.path.abspath(to)), exist_ok=True)
+    subprocess.run(["install", "-m", "755", f"{work}/{program}", to], check=True)
+
+
 def main() -> None:
     if len(sys.argv) < 2 or sys.argv[2:] not in ([], ["--soon"]):
         sys.exit("usage: tools/unproved_shell.py TO [--soon]")
@@ -20,15 +33,7 @@ def main() -> None:
         sys.exit(f"unproved_shell.py: there is no program {program}")
     with tempfile.TemporaryDirectory() as work:
         unproved.copied(f"{work}/copy")
-        module = unproved.without_checks(unproved.module_of(f"{work}/copy/crates/{program}", work))
-        objects = unproved.compiled(module, work, unproved.way_of(sys.argv[2:]))
-        archives = [f"{unproved.KIT}/c/libos_c.a", f"{unproved.KIT}/c/liblibc_c.a"]
-        link = [f"{unproved.KIT}/bin/rattle-link", "--target", "x86_64-unknown-linux-gnu", "--toolchain", f"{unproved.KIT}/toolchain"]
-        linked = subprocess.run([*link, "-o", f"{work}/{program}", *objects, *archives], capture_output=True, text=True, check=False)
-        if linked.returncode != 0:
-            sys.exit(f"unproved_shell.py: it does not link:\n{linked.stderr}")
-        os.makedirs(os.path.dirname(os.path.abspath(sys.argv[1])), exist_ok=True)
-        subprocess.run(["install", "-m", "755", f"{work}/{program}", sys.argv[1]], check=True)
+        make(f"{work}/copy", program, sys.argv[1], work, unproved.way_of(sys.argv[2:]))
     print(f"unproved_shell.py: {sys.argv[1]} is a program that nothing has proved")
 
 

@@ -1,8 +1,8 @@
 /* Times one workload on one store, in a process of its own: turn WORKLOAD ROWS ORDER STEP, as turns.py calls it. STORE names the store.
  *
- * WORKLOAD is insert, get, scan, update or delete, of each row in any order, some 300,000 or more in all. ORDER is that of the keys at
- * loading, ascending or random, and each key is a multiple of STEP, modulo 2^64. There is a transaction an operation, but 50 inserts in
- * one. It prints the nanoseconds of processor time that an operation took, or a scanned row. */
+ * WORKLOAD is insert, get, scan, update or delete, of each row in any order, some 300,000 or more in all, or rewrite, which updates each
+ * row ten times. ORDER is that of the keys at loading, ascending or random, and each key is a multiple of STEP, modulo 2^64. There is a
+ * transaction an operation, but 50 inserts in one. It prints the nanoseconds of processor time that an operation took, or a scanned row. */
 #include "store.h"
 
 #include <string.h>
@@ -64,7 +64,7 @@ static void do_each(char workload, const uint64_t *keys, uint64_t rows) {
         store->begin(workload != 'g');
         if (workload == 'g')
             store->get(keys[i], &row);
-        else if (workload == 'u')
+        else if (workload == 'u' || workload == 'r')
             store->update(&row);
         else
             store->remove(keys[i]);
@@ -81,7 +81,7 @@ int main(int argc, char **argv) {
     for (uint64_t i = 0; i < rows; i++) keys[i] = i * step;
     bool changes = workload != 'g' && workload != 's';
     /* small tables are asked more often, and loaded anew where the workload changes them */
-    uint64_t rounds = rows < 300000 ? 300000 / rows : 1, loads = changes ? rounds : 1, times = changes ? 1 : rounds * 3;
+    uint64_t rounds = rows < 300000 ? 300000 / rows : 1, loads = changes ? rounds : 1, times = workload == 'r' ? 10 : changes ? 1 : rounds * 3;
     double used = 0;
     for (uint64_t load = 0; load < loads; load++) {
         if (argv[3][0] == 'r')

@@ -3,7 +3,8 @@
 
 PREFIX is where tools/build_c.sh or tools/unproved_c.py installed the library. The stores take turns, N times, and the table has medians:
 nanoseconds an operation, and the ratio to Sandpipercot. Keys are loaded in order or at random, dense or spread over 64 bits; bodies have
-0, 16 or 200 bytes. With --huge the memory of all programs is asked for in huge pages (GLIBC_TUNABLES); LMDB's map does not change by it.
+0, 16 or 200 bytes. Rewrite, which updates each row ten times, runs where --workloads names it. With --huge the memory of all programs is
+asked for in huge pages (GLIBC_TUNABLES); LMDB's map does not change by it.
 It needs liblmdb-dev and libsqlite3-dev.
 """
 import argparse

@@ -13,7 +13,7 @@ thread that opened it. The numbers are those of sandpipercot.h, which says more 
 """
 from __future__ import annotations
 
-from ._c import BODY, PAGE_BYTES, PAGE_ROWS, SAVEPOINTS, SESSIONS, VERSION
+from ._c import BODY, PAGE_BYTES, PAGE_ROWS, PICTURE_PAGES, SAVEPOINTS, SESSIONS, VERSION
 from .looks import (
     Action,
     ActionKind,
@@ -36,6 +36,7 @@ from .looks import (
     VacuumState,
 )
 from .pages import FaultKind, PageFault, check_page
+from .pictures import Picture
 from .rows import Row
 from .sessions import Cursor, KeyCursor, Savepoint, Session
 from .statuses import (
@@ -76,6 +77,7 @@ from .statuses import (
     Status,
     TooDeep,
     TooLarge,
+    TooManyPages,
     VacuumRunning,
 )
 from .stories import NoHeapview, NoStory, Story, story
@@ -89,6 +91,7 @@ __all__ = [
     "BODY",
     "PAGE_BYTES",
     "PAGE_ROWS",
+    "PICTURE_PAGES",
     "SAVEPOINTS",
     "SESSIONS",
     "VERSION",
@@ -142,6 +145,7 @@ __all__ = [
     "Page",
     "PageFault",
     "Phase",
+    "Picture",
     "Piece",
     "PieceKind",
     "Plan",
@@ -165,6 +169,7 @@ __all__ = [
     "Ticket",
     "TooDeep",
     "TooLarge",
+    "TooManyPages",
     "Vacuum",
     "VacuumRunning",
     "VacuumState",

@@ -12,6 +12,7 @@ PAGE_BYTES = 8192
 SAVEPOINTS = 32  # that a session may have at a time
 BODY = 1024  # bytes of the longest body
 PAGE_ROWS = 291  # that a page may have
+PICTURE_PAGES = 64  # that a picture may have
 
 VERSION = (0, 4)  # of this module, and of the library that it takes
 
@@ -171,6 +172,7 @@ ARGUMENTS: Dict[str, List[Any]] = {
     "fate_of": [POINTER, c_uint32, c_uint16, POINTER],
     "plan_of": [POINTER, c_uint32, POINTER, c_size_t, POINTER, POINTER],
     "vacuum_of": [POINTER, POINTER],
+    "draw": [POINTER, POINTER, c_size_t, POINTER, c_size_t, POINTER],
     "version": [],
 }
 

@@ -46,6 +46,7 @@ class Status(enum.IntEnum):
     NO_PLACE = 50
     NO_TICKET = 51
     HAS_TICKET = 52
+    TOO_MANY_PAGES = 53
     BAD_MAX_PAGES = 64
     BAD_STOP_AGE = 65
     BAD_FREEZE_MIN_AGE = 66
@@ -227,7 +228,7 @@ class HasEngine(Refused):
 
 
 class NoPlace(Refused):
-    """there is no place for a row, for a page, or for all rows"""
+    """there is no place for a row, for a page, for all rows, or for a picture"""
 
     status = Status.NO_PLACE
 
@@ -242,6 +243,12 @@ class HasTicket(Refused):
     """the ticket has a page already"""
 
     status = Status.HAS_TICKET
+
+
+class TooManyPages(Refused):
+    """a picture has at most 64 pages"""
+
+    status = Status.TOO_MANY_PAGES
 
 
 class BadMaxPages(Refused):

@@ -10,6 +10,7 @@ from typing import Any, Dict, Iterable, Iterator, List, NamedTuple, Optional, Se
 from . import _c
 from .looks import Action, Fate, Horizon, IdStatus, Looks, Plan, VacuumState
 from .owned import Owned
+from .pictures import Picture, draw
 from .rows import Places, fits
 from .sessions import Session
 from .statuses import AlreadyOpen, NoEngine, NoSuchSession, NoVacuum, Status, VacuumRunning, refusal
@@ -315,6 +316,14 @@ class Table(Owned):
     def vacuum_state(self) -> VacuumState:
         """The vacuum that is running. Refusal: NoVacuum."""
         return Looks(self._call).vacuum()
+
+    def draw(self, pages: Optional[Iterable[int]] = None) -> Picture:
+        """A picture of the table as it is now: of the pages of these numbers, counted from 0, or of all. A notebook shows it, and its `svg` is
+        the text. Refusals: TooManyPages, where they are more than 64, NoSuchPage, NoMemory."""
+        return draw(self._call, pages)
+
+    def _repr_svg_(self) -> str:
+        return self.draw().svg
 
     def close(self) -> None:
         """Aborts what is open, and gives the memory back. A table that is closed stays so."""

@@ -168,5 +168,13 @@ extern "C" {
         count: *mut usize,
         change: *mut u64,
     ) -> u32;
+    pub fn sandpiper_draw(
+        table: *mut Handle,
+        pages: *const u32,
+        count: usize,
+        text: *mut u8,
+        capacity: usize,
+        length: *mut usize,
+    ) -> u32;
     pub fn sandpiper_apply_plan(table: *mut Handle, page: u32, change: u64, actions: *const Action, count: usize) -> u32;
 }

@@ -42,6 +42,7 @@ const ROLLED_BACK: u32 = 4;
 const ROWS: u32 = 5;
 const WORKED: u32 = 7;
 const NOT_OPEN: u32 = 16;
+const NO_PLACE: u32 = 50;
 const BUSY: u32 = 256;
 
 macro_rules! refusals {
@@ -110,9 +111,10 @@ refusals! {
     Stale = 39, "the plan does not check";
     NoEngine = 48, "the handle has no table";
     HasEngine = 49, "the handle has a table already";
-    NoPlace = 50, "there is no place for a row, for a page, or for all rows";
+    NoPlace = 50, "there is no place for a row, for a page, for all rows, or for a picture";
     NoTicket = 51, "the ticket has no page";
     HasTicket = 52, "the ticket has a page already";
+    TooManyPages = 53, "a picture has at most 64 pages";
     BadMaxPages = 64, "the setting max_pages is out of its range";
     BadStopAge = 65, "the setting stop_age is out of its range";
     BadFreezeMinAge = 66, "the setting freeze_min_age is out of its range";

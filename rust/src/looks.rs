@@ -1,5 +1,5 @@
 //! Looks: why a session sees a version, who holds the horizon back, what pruning would do. They change nothing.
-use crate::{ffi, told, Refused, Session, Table, FOUND, PAGE_ROWS};
+use crate::{ffi, told, Refused, Session, Table, FOUND, NO_PLACE, PAGE_ROWS};
 
 /// Where an id stands to a snapshot.
 #[derive(Clone, Copy, Debug, PartialEq, Eq)]
@@ -239,6 +239,20 @@ impl Table {
         let places: Vec<ffi::Action> = plan.actions.iter().map(place).collect();
         let handle = self.handle.get();
         told(unsafe { ffi::sandpiper_apply_plan(handle, page, plan.change, places.as_ptr(), places.len()) }).map(drop)
+    }
+
+    /// A picture of the table as it is now, as SVG: of the pages of these numbers, or of all where none is named.
+    pub fn draw(&self, pages: &[u32]) -> Result<String, Refused> {
+        let (mut text, mut length, handle) = (vec![0; 65536], 0, self.handle.get());
+        loop {
+            let status =
+                unsafe { ffi::sandpiper_draw(handle, pages.as_ptr(), pages.len(), text.as_mut_ptr(), text.len(), &mut length) };
+            text.resize(length, 0);
+            if status != NO_PLACE {
+                told(status)?;
+                return Ok(String::from_utf8(text).expect("a picture is of ASCII"));
+            }
+        }
     }
 
     /// What became of an id, and the open session that has it, if one has.

@@ -3,6 +3,8 @@
 
 #include <algorithm>
 #include <cstdio>
+#include <fstream>
+#include <iterator>
 #include <type_traits>
 
 using namespace sandpipercot;
@@ -248,7 +250,30 @@ static void check_looks() {
     CHECK(refused_as([&] { table.horizon(); }) == Status::NoEngine && refused_as([&] { table.vacuum_state(); }) == Status::NoEngine);
 }
 
-int main() {
+// The steps of examples/horizon.script up to its first pruning, whose picture is kept in docs/horizon.svg.
+static void check_pictures(const char *kept) {
+    Table table;
+    auto write = [&](Session &session, std::int64_t value) { session.put({1, {value, 0, 0, 0}, ""}), session.commit(); };
+    Session first = table.begin();
+    write(first, 5);
+    Session writer = table.begin(), reader = table.begin();
+    write(writer, 6);
+    writer = table.begin(), write(writer, 7);
+    table.prune(0);
+    std::ifstream file(kept);
+    const std::string whole(std::istreambuf_iterator<char>(file), {});
+    CHECK(reader.number() == 1 && !whole.empty() && table.draw() == whole && table.draw({0}) == whole);
+    CHECK(refused_as([&] { table.draw({0, 1}); }) == Status::NoSuchPage);
+    CHECK(refused_as([&] { table.draw(std::vector<std::uint32_t>(SANDPIPER_PICTURE_PAGES + 1)); }) == Status::TooManyPages);
+    // (longer than the room that it has at first)
+    const std::string often = table.draw(std::vector<std::uint32_t>(SANDPIPER_PICTURE_PAGES));
+    CHECK(often.size() > 65536 && often.substr(often.size() - 6) == "</svg>");
+    reader.abort(), table.close();
+    CHECK(refused_as([&] { table.draw(); }) == Status::NoEngine);
+}
+
+int main(int, char **words) {
+    check_pictures(words[1]);
     check_looks();
     check_rows();
     check_bank();

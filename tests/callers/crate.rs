@@ -176,7 +176,26 @@ fn check_looks() -> Result<(), Refused> {
     Ok(())
 }
 
+/// The steps of examples/horizon.script up to its first pruning, whose picture is kept in docs/horizon.svg.
+fn check_pictures(kept: &str) -> Result<(), Refused> {
+    let table = Table::open(&Settings::default())?;
+    let write = |mut session: Session, value| session.put(&row(1, value, b"")).and_then(|()| session.commit());
+    write(table.begin()?, 5)?;
+    let (writer, reader) = (table.begin()?, table.begin()?);
+    write(writer, 6)?;
+    write(table.begin()?, 7)?;
+    table.prune(0)?;
+    assert_eq!((reader.number(), table.draw(&[])?.as_str(), table.draw(&[0])?.as_str()), (1, kept, kept));
+    assert_eq!((table.draw(&[0, 1]), table.draw(&[0; 65])), (Err(Refused::NoSuchPage), Err(Refused::TooManyPages)));
+    // (longer than the room that it has at first)
+    let often = table.draw(&[0; 64])?;
+    assert!(often.len() > 65536 && often.ends_with("</svg>"));
+    Ok(())
+}
+
 fn main() -> Result<(), Refused> {
+    let kept = std::env::args().nth(1).expect("the path of docs/horizon.svg");
+    check_pictures(&std::fs::read_to_string(kept).expect("a picture"))?;
     check_looks()?;
     check_rows()?;
     check_bank()?;

@@ -2,10 +2,14 @@
  * with memory. After a refusal both tables have to look alike, byte for byte; then the step is repeated, and both have to answer it alike.
  * Linked with -Wl,--wrap=malloc,--wrap=realloc.
  *
- * growth [ROWS] does so on tables of no row, of 3 and of ROWS, 10,000 where none are said. Those come to many doublings: of the list of
- * pages, of what is noted of them, of the statuses of ids, of sessions' lists, and of an index whose leaves and branches split. */
+ * growth [ROWS [FOLDER]] does so on tables of no row, of 3 and of ROWS, 10,000 where none are said. Those come to many doublings: of the
+ * list of pages, of what is noted of them, of the statuses of ids, of sessions' lists, and of an index whose leaves and branches split.
+ *
+ * The twin tells that a refusal leaves no trace, and not what is right. So what the table was asked and answered is written to FOLDER, a
+ * transcript for each table, which heapjudge has to allow. */
 #include "checks.h"
 #include "refusing.h"
+#include "transcript.h"
 
 #define ROWS_AT_A_TIME 64
 #define SESSIONS 64
@@ -71,6 +75,8 @@ static uint64_t keys;       /* all keys are below */
 static long refused[KINDS]; /* how often each kind was refused */
 static long untried, looks; /* pieces that were not refused, since the call did without one before; looks at the whole table */
 static long first_piece;    /* which piece of a call is refused first */
+static const char *folder;  /* where transcripts are written, or null */
+static bool over_keys[SESSIONS]; /* whether the session's cursor is over keys */
 
 /* A row of the key. Every eighth has a body; the indexed columns change with the tens of the value. */
 static const struct sandpiper_row *row_of(uint64_t key, int64_t value) {
@@ -129,6 +135,72 @@ static uint32_t take(struct sandpiper *on, struct step step, struct answer *answ
     default: CHECK(false);
     }
     return 0;
+}
+
+/* The step as a line of a script. */
+static void write_step(struct step step) {
+    unsigned s = step.session;
+    unsigned long long key = step.key;
+    long long value = step.value;
+    fputs("> ", transcript);
+    switch (step.kind) {
+    case BEGIN: fprintf(transcript, "begin %u\n", s); break;
+    case BEGIN_BY_STATEMENT: fprintf(transcript, "beginrc %u\n", s); break;
+    case GET: fprintf(transcript, "get %u %llu\n", s, key); break;
+    case INSERT: fprintf(transcript, "insert %u ", s), write_row(row_of(step.key, step.value)); break;
+    case UPDATE: fprintf(transcript, "update %u ", s), write_row(row_of(step.key, step.value)); break;
+    case DELETE: fprintf(transcript, "delete %u %llu\n", s, key); break;
+    case SAVEPOINT: fprintf(transcript, "savepoint %u\n", s); break;
+    case ROLLBACK_TO: fprintf(transcript, "rollbackto %u\n", s); break;
+    case RELEASE: fprintf(transcript, "release %u\n", s); break;
+    case COMMIT: fprintf(transcript, "commit %u\n", s); break;
+    case ABORT: fprintf(transcript, "abort %u\n", s); break;
+    case OPEN_HEAP: fprintf(transcript, "openheap %u\n", s); break;
+    case OPEN_BY_KEY: fprintf(transcript, "openindex %u 0 0 %llu\n", s, (unsigned long long)UINT64_MAX); break;
+    case OPEN_INDEX: fprintf(transcript, "openindex %u %llu %lld %lld\n", s, key, (long long)INT64_MIN, (long long)INT64_MAX); break;
+    case OPEN_KEYS: fprintf(transcript, "openkeys %u 0 %llu\n", s, (unsigned long long)UINT64_MAX); break;
+    case NEXT: fprintf(transcript, "next %u %d\n", s, ROWS_AT_A_TIME); break;
+    case CLOSE_CURSOR: fprintf(transcript, "close %u\n", s); break;
+    case TAKE_PAGE: fprintf(transcript, "takepage %u %llu\n", s, key); break;
+    case PRUNE: fprintf(transcript, "prune %llu\n", key); break;
+    case APPLY_PLAN: fprintf(transcript, "apply %llu %lld r1:3 u2\n", key, value); break;
+    case VACUUM_BEGIN: fprintf(transcript, "vacuum begin %s\n", key ? "aggressive" : "normal"); break;
+    case VACUUM_STEP: fputs("vacuum step\n", transcript); break;
+    case VACUUM_CANCEL: fputs("vacuum cancel\n", transcript); break;
+    case CREATE_INDEX: fprintf(transcript, "createindex %llu\n", key); break;
+    default: CHECK(false);
+    }
+}
+
+static void write_answer(struct step step, uint32_t status, const struct answer *answer) {
+    switch (status) {
+    case SANDPIPER_DONE: fputs("ok\n", transcript); break;
+    case SANDPIPER_FOUND: fputs("row ", transcript), write_row(answer->rows); break;
+    case SANDPIPER_NO_ROW: fputs(step.kind == GET ? "none\n" : "rows 0\n", transcript); break;
+    case SANDPIPER_COMMITTED: fputs("committed\n", transcript); break;
+    case SANDPIPER_ROLLED_BACK: fputs("rolled back\n", transcript); break;
+    case SANDPIPER_ROWS:
+        if (step.kind == NEXT && over_keys[step.session]) write_keys(answer->rows, answer->count);
+        else write_rows(answer->rows, answer->count);
+        break;
+    case SANDPIPER_END: fputs("end\n", transcript); break;
+    case SANDPIPER_WORKED:
+    case SANDPIPER_ENDED: write_piece(&answer->piece); break;
+    default: write_refusal(status);
+    }
+}
+
+/* Writes both, but of a plan that C's list had no memory for: then no step was asked for. */
+static void note(struct step step, uint32_t status, const struct answer *answer) {
+    if (!transcript || (step.kind == APPLY_PLAN && status == SANDPIPER_NO_MEMORY)) return;
+    if (step.kind == OPEN) {
+        if (status == SANDPIPER_DONE) write_settings(&settings);
+        return;
+    }
+    write_step(step);
+    write_answer(step, status, answer);
+    bool opens = step.kind == OPEN_HEAP || step.kind == OPEN_BY_KEY || step.kind == OPEN_INDEX || step.kind == OPEN_KEYS;
+    if (opens && status == SANDPIPER_DONE) over_keys[step.session] = step.kind == OPEN_KEYS;
 }
 
 /* What both say of themselves, and their pages, byte for byte. */
@@ -276,6 +348,7 @@ static uint32_t ask(struct step step) {
         asked = 0, counts = true;
         status = take(&t, step, &mine);
         counts = false;
+        note(step, status, &mine);
         CHECK(asks[step.kind] || asked == 0);
         if (status != SANDPIPER_NO_MEMORY) break;
         CHECK(asked == refused_piece + 1);
@@ -388,6 +461,17 @@ static void vacuum(bool aggressive) {
     while (ask(step) == SANDPIPER_WORKED) continue;
 }
 
+/* Begins the transcript of another table, or ends the last one. */
+static void begin_transcript(bool wanted) {
+    static unsigned number;
+    char path[4096];
+    if (transcript) CHECK(fclose(transcript) == 0);
+    transcript = NULL;
+    if (!folder || !wanted) return;
+    CHECK((size_t)snprintf(path, sizeof path, "%s/%u", folder, ++number) < sizeof path);
+    CHECK((transcript = fopen(path, "w")));
+}
+
 /* All kinds of steps on a table of so many rows. */
 static void all_steps(uint64_t rows, uint64_t at_a_time, uint64_t ids) {
     settings = (struct sandpiper_settings){65536, 2144483648u, 0, 3, 64, {true, false, true, false}};
@@ -426,9 +510,11 @@ static void refuse_each(uint64_t rows, uint64_t at_a_time, uint64_t ids) {
     looks = 0, first_piece = 0;
     do {
         untried = 0;
+        begin_transcript(true);
         all_steps(rows, at_a_time, ids);
         first_piece++;
     } while (untried > 0);
+    begin_transcript(false);
     printf("%lu rows: refused were", (unsigned long)rows);
     for (int kind = 0; kind < KINDS; kind++) {
         if (refused[kind]) printf(" %s %ld,", words[kind], refused[kind]);
@@ -439,6 +525,7 @@ static void refuse_each(uint64_t rows, uint64_t at_a_time, uint64_t ids) {
 
 int main(int argc, char **argv) {
     uint64_t rows = argc > 1 ? strtoull(argv[1], NULL, 10) : 10000;
+    folder = argc > 2 ? argv[2] : NULL;
     refuse_each(0, 1, 0);
     refuse_each(3, 1, 70);
     refuse_each(rows, 5, rows / 5);

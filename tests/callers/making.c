@@ -34,6 +34,27 @@ static const struct sandpiper_row *row_of(uint64_t key, uint64_t rows, int64_t c
     return row;
 }
 
+/* The row of a key after the first change, or after the third too (the second is taken back), if it has one. Each deletes one key in
+ * seven, and updates one in five of the others. */
+static const struct sandpiper_row *expected(uint64_t key, uint64_t rows, bool third) {
+    if (key >= rows || key % 7 == 0 || (third && key % 7 == 3)) return NULL;
+    return row_of(key, rows, third && key % 5 == 3 ? 3 : key % 5 == 0);
+}
+
+/* How many keys have one. */
+static uint64_t count_expected(uint64_t rows, bool third) {
+    uint64_t count = 0;
+    for (uint64_t key = 0; key < rows; key++) count += expected(key, rows, third) != NULL;
+    return count;
+}
+
+/* A row that was read is the one that its key is to have. */
+static void check_row(const struct sandpiper_row *found, uint64_t rows, bool third) {
+    const struct sandpiper_row *wanted = expected(found->key, rows, third);
+    CHECK(wanted && memcmp(found->cols, wanted->cols, sizeof found->cols) == 0);
+    CHECK(found->length == wanted->length && memcmp(found->body, wanted->body, found->length) == 0);
+}
+
 /* Updates and deletes some of the keys, where they have a row, and commits that or takes it back. */
 static void change(uint64_t rows, uint64_t first, int64_t changes, bool commits) {
     begin(WRITER);
@@ -66,8 +87,9 @@ static void load(uint64_t rows) {
     CHECK(sandpiper_open_heap(&t, SCANNING) == SANDPIPER_DONE);
 }
 
-/* Goes along an index. Its rows have to ascend by value and key, and each is what its key has. Answers how many there are. */
-static uint64_t scan(uint8_t index) {
+/* Goes along an index of a table of so many keys. Its rows have to ascend by value and key, and to be those that are committed; a get has
+ * to find the same. Answers how many there are. */
+static uint64_t scan(uint64_t keys, uint8_t index) {
     static struct sandpiper_row rows[ROWS_AT_A_TIME], found;
     size_t count;
     uint64_t seen = 0, key = 0;
@@ -78,16 +100,16 @@ static uint64_t scan(uint8_t index) {
             int64_t next = index == 0 ? (int64_t)rows[i].key : rows[i].cols[index - 1];
             CHECK(seen == 0 || value < next || (value == next && key < rows[i].key));
             value = next, key = rows[i].key;
-            CHECK(sandpiper_get(&t, BY_STATEMENT, key, &found) == SANDPIPER_FOUND);
-            CHECK(memcmp(found.cols, rows[i].cols, sizeof found.cols) == 0);
+            CHECK(sandpiper_get(&t, BY_STATEMENT, key, &found) == SANDPIPER_FOUND && found.key == key);
+            check_row(rows + i, keys, true), check_row(&found, keys, true);
         }
-    CHECK(sandpiper_close_cursor(&t, BY_STATEMENT) == SANDPIPER_DONE);
+    CHECK(sandpiper_close_cursor(&t, BY_STATEMENT) == SANDPIPER_DONE && seen == count_expected(keys, true));
     return seen;
 }
 
 /* The scans come first, since what they read leaves hints. */
-static struct shown show(void) {
-    struct shown now = {.rows = {scan(0), scan(1)}};
+static struct shown show(uint64_t rows) {
+    struct shown now = {.rows = {scan(rows, 0), scan(rows, 1)}};
     CHECK(sandpiper_state_of(&t, &now.state) == SANDPIPER_DONE);
     now.bytes = malloc(now.state.pages * (size_t)SANDPIPER_PAGE_BYTES + 1);
     now.heads = calloc(now.state.pages + 1, sizeof *now.heads);
@@ -106,8 +128,8 @@ static void forget(struct shown *shown) {
 }
 
 /* The table shows what it did, and has no index by the column. */
-static void check_unchanged(const struct shown *before) {
-    struct shown now = show();
+static void check_unchanged(const struct shown *before, uint64_t rows) {
+    struct shown now = show(rows);
     const struct sandpiper_state *a = &before->state, *b = &now.state;
     CHECK(a->next_id == b->next_id && a->oldest_id == b->oldest_id && a->ids_left == b->ids_left && a->pages == b->pages);
     CHECK(a->open_sessions == b->open_sessions && a->vacuum == b->vacuum && !b->has_index[MADE]);
@@ -124,21 +146,27 @@ static void check_unchanged(const struct shown *before) {
 }
 
 /* The index has an entry for each row and no other, and who was open by snapshot may not use it. */
-static void check_made(const struct shown *before) {
+static void check_made(const struct shown *before, uint64_t rows) {
     struct sandpiper_state state;
     CHECK(sandpiper_state_of(&t, &state) == SANDPIPER_DONE && state.has_index[MADE]);
-    CHECK(scan(MADE) == before->rows[0] && state.entries[MADE] == before->rows[0]);
+    CHECK(scan(rows, MADE) == before->rows[0] && state.entries[MADE] == before->rows[0]);
     CHECK(state.pages == before->state.pages && state.next_id == before->state.next_id);
     CHECK(sandpiper_open_index(&t, BY_SNAPSHOT, MADE, 0, 0) == SANDPIPER_INDEX_TOO_NEW);
 }
 
-/* The cursor that was open meanwhile hands out each row that its session sees, and the table is closed. */
+/* The cursor that was open meanwhile hands out each row that was committed before its session began, as a get by a like session finds it,
+ * and the table is closed. */
 static void close_table(uint64_t rows) {
+    static struct sandpiper_row found;
     size_t count;
     uint64_t seen = 0, here = 0;
-    for (uint64_t key = 0; key < rows; key++) here += sandpiper_get(&t, BY_SNAPSHOT, key, row) == SANDPIPER_FOUND;
-    while (sandpiper_next(&t, SCANNING, row, 1, &count) == SANDPIPER_ROWS) seen += count;
-    CHECK(seen == here && sandpiper_close(&t) == SANDPIPER_DONE);
+    for (uint64_t key = 0; key < rows; key++) {
+        bool is_here = sandpiper_get(&t, BY_SNAPSHOT, key, &found) == SANDPIPER_FOUND;
+        here += is_here;
+        if (is_here) check_row(&found, rows, false);
+    }
+    for (; sandpiper_next(&t, SCANNING, &found, 1, &count) == SANDPIPER_ROWS; seen += count) check_row(&found, rows, false);
+    CHECK(seen == here && seen == count_expected(rows, false) && sandpiper_close(&t) == SANDPIPER_DONE);
 }
 
 /* What the making answers where the piece of this number is refused, or none where it is below 0. */
@@ -152,21 +180,21 @@ static uint32_t make(long piece) {
 /* Refuses each piece in turn, and says how many there are. */
 static void refuse_each(uint64_t rows, bool anew) {
     load(rows);
-    struct shown before = show();
+    struct shown before = show(rows);
     long piece = 0;
     for (; make(piece) == SANDPIPER_NO_MEMORY; piece++) {
         CHECK(asked == piece + 1);
-        check_unchanged(&before);
+        check_unchanged(&before, rows);
         if (!anew) continue;
         CHECK(make(-1) == SANDPIPER_DONE);
-        check_made(&before);
+        check_made(&before, rows);
         close_table(rows);
         forget(&before);
         load(rows);
-        before = show();
+        before = show(rows);
     }
     CHECK(asked <= piece && (piece > 0) == (before.rows[0] > 0));
-    check_made(&before);
+    check_made(&before, rows);
     CHECK(make(0) == SANDPIPER_DONE && asked == 0);
     close_table(rows);
     printf("an index of %lu rows is made of %ld pieces of memory, each refused once\n", (unsigned long)before.rows[0], piece);

@@ -63,6 +63,11 @@ static uint32_t has_ticket(void) {
     CHECK(sandpiper_close_ticket(&ticket) == SANDPIPER_DONE);
     return status;
 }
+static uint32_t too_many_pages(void) {
+    static uint32_t pages[SANDPIPER_PICTURE_PAGES + 1];
+    char text;
+    return sandpiper_draw(&t, pages, SANDPIPER_PICTURE_PAGES + 1, &text, 1, &count);
+}
 static uint32_t bad_max_pages(void) { return settings.max_pages = 65537, opened(); }
 static uint32_t bad_stop_age(void) { return settings.stop_age = 2144483649u, opened(); }
 static uint32_t bad_freeze_min_age(void) { return settings.freeze_min_age = 1000000001u, opened(); }
@@ -141,6 +146,7 @@ static const struct {
     CASE(NO_SUCH_PAGE, no_such_page), CASE(NO_SUCH_INDEX, no_such_index), CASE(NO_SUCH_SESSION, no_such_session),
     CASE(VACUUM_RUNNING, vacuum_running), CASE(NO_VACUUM, no_vacuum), CASE(INDEX_TOO_NEW, index_too_new), CASE(INDEX_BUSY, index_busy),
     CASE(NO_ENGINE, no_engine), CASE(HAS_ENGINE, has_engine), CASE(NO_PLACE, no_place), CASE(NO_TICKET, no_ticket), CASE(HAS_TICKET, has_ticket),
+    CASE(TOO_MANY_PAGES, too_many_pages),
     CASE(BAD_MAX_PAGES, bad_max_pages),
     CASE(BAD_STOP_AGE, bad_stop_age), CASE(BAD_FREEZE_MIN_AGE, bad_freeze_min_age), CASE(BAD_FIRST_XID, bad_first_xid), CASE(BAD_DEAD_LIMIT, bad_dead_limit),
     CASE(DEADLOCK, deadlock), CASE(STALE, stale), CASE(BUSY, busy),

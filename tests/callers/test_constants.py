@@ -83,7 +83,7 @@ def main() -> None:
     defines = dict(re.findall(r"#define SANDPIPER_(\w+) \"?([\d.]+)", header))
     major, minor = map(str, sp.VERSION)
     ours = {"SESSIONS": str(sp.SESSIONS), "SAVEPOINTS": str(sp.SAVEPOINTS), "BODY": str(sp.BODY), "PAGE_BYTES": str(sp.PAGE_BYTES)}
-    ours["PAGE_ROWS"] = str(sp.PAGE_ROWS)
+    ours.update(PAGE_ROWS=str(sp.PAGE_ROWS), PICTURE_PAGES=str(sp.PICTURE_PAGES))
     ours.update(VERSION=sp.__version__, VERSION_MAJOR=major, VERSION_MINOR=minor)
     assert defines == ours, defines
     assert f'version = "{sp.__version__}"' in (ROOT / "python/pyproject.toml").read_text()

@@ -10,6 +10,7 @@ import tempfile
 from typing import List
 
 HERE = pathlib.Path(__file__).resolve().parent
+KEPT = HERE.parents[1] / "docs/horizon.svg"  # the picture with which that of the crate is compared
 MANIFEST = '[package]\nname = "tries"\nversion = "0.0.0"\nedition = "2021"\n\n[dependencies]\nsandpipercot = {{ path = "{}" }}\n'
 SCAN = "let mut session = table.begin()?; let rows = session.rows()?;"
 WRONG = [
@@ -45,7 +46,7 @@ def main(prefix: str) -> None:
                         "-l", "static=sandpipercot", crate / "src/lib.rs"], check=True)
         rustc += ["--extern", f"sandpipercot={folder}/libsandpipercot.rlib", "-L", library]
         subprocess.run([*rustc, "-O", HERE / "crate.rs", "-o", folder / "tries"], check=True)
-        subprocess.run([folder / "tries"], check=True)
+        subprocess.run([folder / "tries", KEPT], check=True)
         assert compiled(folder, rustc, RIGHT) == [], "the program without a fault"
         for fault, number, lines in WRONG:
             found = compiled(folder, rustc, lines)
@@ -54,7 +55,7 @@ def main(prefix: str) -> None:
             (folder / "by_path/src").mkdir(parents=True)
             (folder / "by_path/Cargo.toml").write_text(MANIFEST.format(crate))
             shutil.copy(HERE / "crate.rs", folder / "by_path/src/main.rs")
-            subprocess.run(["cargo", "run", "--quiet", "--offline"], cwd=folder / "by_path", check=True)
+            subprocess.run(["cargo", "run", "--quiet", "--offline", "--", KEPT], cwd=folder / "by_path", check=True)
     print(f"the crate does what it says, and {len(WRONG)} wrong programs are refused")
 
 

@@ -214,7 +214,8 @@ class ClosedTest(TableTest):
         yield from (table.begin, lambda: table.begin(read_committed=True), lambda: table.keep_places(True), lambda: table.create_index(0))
         yield from (lambda: table.prune(0), lambda: table.apply_plan(0, 0), table.vacuum_begin, table.vacuum_step, table.vacuum_cancel)
         yield from (table.vacuum, table.state, lambda: table.page(0), lambda: table.slots(0), lambda: list(table.slots(0)))
-        yield lambda: table.page_bytes(0)
+        yield from (lambda: table.page_bytes(0), table.horizon, lambda: table.fate(0, 1), lambda: table.plan(0), lambda: table.status_of(3))
+        yield table.vacuum_state
 
     def test_a_closed_table_says_so(self) -> None:
         session, slots = self.table.begin(), self.table.slots(0)
@@ -233,6 +234,8 @@ class ClosedTest(TableTest):
             lambda: list(session.by_column(0)),
             lambda: list(session.keys()),
             lambda: session.take_page(0),
+            lambda: session.explain(1),
+            session.state,
             session.savepoint,
             session.rollback_to,
             session.release,

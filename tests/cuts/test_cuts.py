@@ -1,6 +1,6 @@
 """Cuts scripts and two pages after each of their bytes, and has the program read what is left: test_cuts.py HEAPSH
 
-The scripts are the worked ones, those that loops make (both of tests/scripts), and the examples.
+The scripts are the worked ones, those that loops make (both of tests/scripts), and the examples but one, most of whose bytes are a body's.
 Of a cut script the lines before the cut are answered as they are in the whole one. A cut inside line N makes that the bad line N. A cut
 page is no page. Scripts are also cut as the lines of one worker, for `heapsh threads`: there nothing is written where a line is bad.
 The answers of the whole are those beside the lines of the worked scripts, and those on the pages of the examples; what is told of a whole
@@ -28,6 +28,10 @@ import made_scripts  # noqa: E402
 import page_format  # noqa: E402
 import tables  # noqa: E402
 import worked  # noqa: E402
+
+# A longer example has large bodies, and one cut within them is like another.
+MOST_BYTES = 16384
+
 
 class Script(NamedTuple):
     name: str
@@ -75,6 +79,8 @@ def examples() -> Iterator[Script]:
     for path in sorted(glob.glob(f"{ROOT}/examples/*.script")):
         with open(path, "rb") as file:
             text = file.read()
+        if len(text) > MOST_BYTES:
+            continue
         told = check.rows(path[: -len("script")] + "md")
         answers = "".join(f"{line}\n" for _, lines in told for line in lines)
         yield Script(os.path.basename(path), text, whole_answers(answers), None)

@@ -1,8 +1,9 @@
 """Refuses each piece of memory that the program asks for, in turn: in a script with every kind of step, on a small table and on a large
-one, in a script for threads, and in a look into a page: test_refused.py HEAPSH
+one, in a script for threads, and in a look into a page: test_refused.py HEAPSH HEAPJUDGE
 
 A step whose growth is refused is answered `error 16 NoMemory`. Then the program shows ids, pages, entries and rows, which have to be those
 before the step, and the step is asked for again. What it and all lines behind it are answered has to be what a run with memory answers.
+That, and the journal of each run by threads, heapjudge has to allow.
 Where the shell itself is refused, it ends with status 3 and `no memory`, after a beginning of the answers.
 
 By threads the refused step is asked for again at once, and then the worker reads all rows, by the heap and by each index. One thread, to
@@ -49,10 +50,11 @@ class End(NamedTuple):
 
 
 class Shell:
-    """The program, of whose calls for memory one may be refused."""
+    """The program, of whose calls for memory one may be refused, and the judge of its answers."""
 
-    def __init__(self, heapsh: str, room: str) -> None:
+    def __init__(self, heapsh: str, heapjudge: str, room: str) -> None:
         self.heapsh, self.library, self.counted = heapsh, f"{room}/refusing.so", f"{room}/counted"
+        self.heapjudge = heapjudge
         compiler = os.environ.get("CC", "cc")
         flags = ["-O2", "-Wall", "-Wextra", "-Werror", "-shared", "-fPIC"]
         subprocess.run([compiler, *flags, f"{HERE}/refusing.c", "-o", self.library], check=True)
@@ -76,6 +78,12 @@ class Shell:
         """How many pieces of memory are asked for where none is refused, and how that ends."""
         end = self.run(word, lines)
         return self.asked_for(), end
+
+    def judge(self, heading: str, answered: Iterable[Tuple[str, str]]) -> None:
+        """The history allows these answers to these lines of a script, on a table of its own."""
+        transcript = "".join([f"{heading}\n", *(f"> {line}\n{answer}" for line, answer in answered)])
+        ran = subprocess.run([self.heapjudge], input=transcript, capture_output=True, text=True, check=False, timeout=60)
+        assert ran.returncode == 0, f"heapjudge: {ran.stdout}{ran.stderr}"
 
     def asked_for(self) -> int:
         """How many pieces of memory the last run has asked for."""
@@ -183,6 +191,7 @@ class Run:
         assert self.end.status == 0 and NO_MEMORY not in self.end.output, f"with memory: {self.end}"
         self.answers = whole_answers(self.end.output)
         assert len(self.answers) == len(lines) - 1
+        shell.judge(lines[0], zip(lines[1:], self.answers))
         self.kinds: Dict[str, int] = {}
         self.shell_refused = self.passed_over = 0
         self.expected: Dict[int, List[str]] = {}
@@ -357,8 +366,9 @@ class Threads:
         self.to_read = self.pieces_to_read(self.lines)
 
     def check(self, lines: List[str], journal: Journal) -> None:
-        """Each worker's lines stand in their order. Without a step that was refused memory, a run answers the others alike, and shows
-        entries as they have to be where it was refused, and at the end."""
+        """Each worker's lines stand in their order, and the judge allows the journal. Without a step that was refused memory, a run answers the
+        others alike, and shows entries as they have to be where it was refused, and at the end."""
+        self.shell.judge(lines[0], journal.entries)
         for worker in range(self.workers):
             mine = [line.split(" ", 1)[1] for line in lines[1:] if line.startswith(f"@{worker} ")]
             assert [journal.entries[at][0] for at in journal.of(worker)] == mine, f"the lines of worker {worker}"
@@ -461,9 +471,10 @@ def look_after_each_line(shell: Shell, lines: Iterable[str]) -> int:
 
 
 def main() -> None:
-    heapsh, began = os.path.abspath(sys.argv[1]), time.monotonic()
+    heapsh, heapjudge = map(os.path.abspath, sys.argv[1:3])
+    began = time.monotonic()
     with tempfile.TemporaryDirectory() as room:
-        shell = Shell(heapsh, room)
+        shell = Shell(heapsh, heapjudge, room)
         for lines, pages in ((all_steps(12, 12), 3), (all_steps(1500, 40), 40)):
             print(f"test_refused.py: {Run(shell, lines, pages).refuse_in_turn()}")
         for workers in (1, 2):

@@ -19,8 +19,8 @@ listed = status.Done ∷ status.Found ∷ status.NoRow ∷ status.Committed ∷ 
     ∷ status.Refused refusal.NoSuchPage ∷ status.Refused refusal.NoSuchIndex ∷ status.Refused refusal.NoSuchSession
     ∷ status.Refused refusal.VacuumRunning ∷ status.Refused refusal.NoVacuum ∷ status.Refused refusal.IndexTooNew
     ∷ status.Refused refusal.IndexBusy ∷ status.Refused refusal.Deadlock ∷ status.Refused refusal.Stale
-    ∷ status.NoEngine ∷ status.HasEngine ∷ status.NoPlace ∷ status.NoTicket ∷ status.HasTicket ∷ status.BadMaxPages ∷ status.BadStopAge ∷ status.BadFreezeMinAge
-    ∷ status.BadFirstXid ∷ status.BadDeadLimit ∷ []
+    ∷ status.NoEngine ∷ status.HasEngine ∷ status.NoPlace ∷ status.NoTicket ∷ status.HasTicket ∷ status.TooManyPages ∷ status.BadMaxPages ∷ status.BadStopAge
+    ∷ status.BadFreezeMinAge ∷ status.BadFirstXid ∷ status.BadDeadLimit ∷ []
 
 -- the status that has the number
 abbrev status_at : ℕ → CallStatus

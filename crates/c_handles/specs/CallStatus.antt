@@ -83,6 +83,7 @@ number_of_status status.HasEngine = 49
 number_of_status status.NoPlace = 50
 number_of_status status.NoTicket = 51
 number_of_status status.HasTicket = 52
+number_of_status status.TooManyPages = 53
 number_of_status status.BadMaxPages = 64
 number_of_status status.BadStopAge = 65
 number_of_status status.BadFreezeMinAge = 66

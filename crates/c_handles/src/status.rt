@@ -35,12 +35,14 @@ pub enum CallStatus {
     NoEngine,
     /// The handle has an engine already.
     HasEngine,
-    /// There is no place for a row, for a page, or for all rows.
+    /// There is no place for a row, for a page, for all rows or for a picture.
     NoPlace,
     /// The ticket has no page.
     NoTicket,
     /// The ticket has a page already.
     HasTicket,
+    /// More pages were asked for than a picture has.
+    TooManyPages,
     /// The setting `max_pages` is out of its range.
     BadMaxPages,
     /// The setting `stop_age` is.
@@ -162,6 +164,7 @@ impl CallStatus {
             CallStatus::NoPlace => 50,
             CallStatus::NoTicket => 51,
             CallStatus::HasTicket => 52,
+            CallStatus::TooManyPages => 53,
             CallStatus::BadMaxPages => 64,
             CallStatus::BadStopAge => 65,
             CallStatus::BadFreezeMinAge => 66,

@@ -1,1 +1,2 @@
 pub mod ActionsLemmas
+mod BytesLemmas

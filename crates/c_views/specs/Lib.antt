@@ -11,3 +11,5 @@ pub mod Vacuums
 pub mod Pieces
 pub mod Faults
 pub mod Settings
+pub mod Bytes
+pub mod Pictures

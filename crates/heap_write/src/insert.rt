@@ -16,6 +16,7 @@ ghost use Rattle.tuple_header.specs.declared.version.TheConstants.{MOST_SLOTS};
 use crate::heap::{Answer, HeapState, WriteFault};
 use crate::hints::expect_root;
 use crate::target::{Target, put_version, reserve_place};
+use key_places::RootHint;
 use snapshot::OwnIds;
 use tuple_header::{Row, row_size};
 use write_ids::{needs_freeze, reserve_ids, take_ids};
@@ -95,7 +96,11 @@ impl HeapState {
         let (key, cols) = (row.key, row.cols);
         let tid = put_version(&mut self.pages, target, updated, x, row);
         self.indexes.enter(key, &cols, tid);
-        self.places.note(key, tid, self.indexes.by_key().len());
+        let page = self.pages.page(tid.page);
+        let begins = page.and_then(|page| page.place(tid.slot));
+        let (from, _) = begins.unwrap_or((0, 0));
+        let root = RootHint { place: tid, from };
+        self.places.note(key, root, self.indexes.by_key().len());
         expect_root(&mut self.hints, &self.statuses, tid.page, x);
         self.hints.cover(self.pages.len() as usize);
         tid

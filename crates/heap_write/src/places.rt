@@ -29,8 +29,8 @@ impl HeapState {
         ensures { FoundOrSeen reader.now.statuses.now (IsSeenBy reader.now)
             (slots_of self.now) (entries_in self.now.indexes 0) (pos key) key result }
     {
-        if let Some(place) = self.places.get(key) {
-            if let Some(row) = row_by_place(&self.pages, place, key, reader) {
+        if let Some(root) = self.places.get(key) {
+            if let Some(row) = row_by_place(&self.pages, root.place, root.from, key, reader) {
                 return Some(row);
             }
         }
@@ -44,6 +44,7 @@ impl HeapState {
         ensures { IfSome result
             (IsVersionOf (IsSeenUndeleted (IsSeenBy reader.now)) (slots_of self.now) key) }
     {
-        undeleted_by_place(&self.pages, self.places.get(key)?, key, reader)
+        let root = self.places.get(key)?;
+        undeleted_by_place(&self.pages, root.place, root.from, key, reader)
     }
 }

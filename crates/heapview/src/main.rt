@@ -3,12 +3,11 @@
 
 use clap::error::ErrorKind as Mistake;
 use clap::{Arg, ArgAction, ArgMatches, Command, Error};
-use drawing::{DrawFault, draw};
 use std::alloc::{AllocError, Global};
 use std::env;
 use std::io::ErrorKind;
 use std::process::ExitCode;
-use stories::{StoryFault, tell_story};
+use stories::{DrawFault, StoryFault, draw, tell_story};
 use viewing::{ShellFault, run_views, talk};
 
 fn fails(rt: &impl Eprint, fault: ShellFault) -> ExitCode {

@@ -1,5 +1,5 @@
 -- The version in a slot, and whether it is seen.
-use Rattle.std.proofs.Common.{◌≡◌, ℕ, List, map, Option, Some, None, refl, sym, ap, subst, ◌∙◌, slice_get}
+use Rattle.std.proofs.Common.{◌≡◌, ℕ, ◌==◌, if◌then◌else◌, List, map, Option, Some, None, refl, sym, ap, subst, ◌∙◌, slice_get}
 use Rattle.std.specs.Option.{option_map}
 use Rattle.std.proofs.lemmas.Option.{same_Some}
 use Rattle.tuple_header.specs.Version.{Version}
@@ -10,7 +10,7 @@ use Rattle.page_sheet.specs.Slots.{version_at, header_at, row_at, key_at}
 use Rattle.page_sheet.proofs.SlotLemmas.{version-from_header}
 use Rattle.page_slots.specs.View.{PageView}
 use Rattle.index_lookup.specs.Walking.{NoneSeenFrom, IsSeenRow, SeenRow}
-use Rattle.index_lookup.specs.ByPlace.{IsSeenRowOf, IsVersionOf}
+use Rattle.index_lookup.specs.ByPlace.{IsSeenRowOf, IsSeenUndeleted, IsVersionOf}
 use Rattle.index_lookup.proofs.PageLists.{slots-there}
 
 headless : (o : Option Version) (t : Version) → option_map (λ (t : Version). t.header) o ≡ None → o ≡ Some t → ⊥
@@ -48,6 +48,30 @@ seen-of_key seen pages n slot key page row at is of = record {
   of_key = sym (ap (λ (r : Row). r.key) is.is_row) ∙ of;
   is_seen = is.shown;
   is_row = is.is_row;
+}
+
+-- so is a version of the key that is seen
+pub seen-of_version : (seen : Header → Type 0) (pages : List PageView) (n slot key : ℕ) (page : PageView) (h : Header) (row : Row) → slice_get pages n ≡ Some page
+    → version_at page.slots slot ≡ Some (record { header = h; row = row }) → row.key ≡ key → seen h
+    → IsSeenRowOf seen (map (λ (p : PageView). p.slots) pages) key row
+seen-of_version seen pages n slot key page h row at is of has = record {
+  place = record { page = n; slot = slot };
+  version = record { header = h; row = row };
+  there = ap (λ slots. version_at slots slot) (slots-there pages n page at) ∙ is;
+  of_key = of;
+  is_seen = has;
+  is_row = refl;
+}
+
+-- and it is there undeleted, where nobody deleted it
+pub undeleted-of_version : (seen : Header → Type 0) (pages : List PageView) (n slot key : ℕ) (page : PageView) (h : Header) (row : Row) → slice_get pages n ≡ Some page
+    → version_at page.slots slot ≡ Some (record { header = h; row = row }) → row.key ≡ key → seen h → h.xmax.0 ≡ 0
+    → IsVersionOf (IsSeenUndeleted seen) (map (λ (p : PageView). p.slots) pages) key (record { page = n; slot = slot })
+undeleted-of_version seen pages n slot key page h row at is of has none = record {
+  version = record { header = h; row = row };
+  there = ap (λ slots. version_at slots slot) (slots-there pages n page at) ∙ is;
+  of_key = of;
+  meets = (has, ap (λ (x : ℕ). if x == 0 then None else Some x) none);
 }
 
 -- a version with this header and of this key in a slot of a page is at that place of the table

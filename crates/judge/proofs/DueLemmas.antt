@@ -11,7 +11,7 @@ use Rattle.calls.specs.declared.reply.Reply.TheVariants as reply
 use Rattle.calls.specs.declared.reply.Refusal.{Refusal}
 use Rattle.calls.specs.declared.reply.Refusal.TheVariants as refusal
 use Rattle.calls.specs.Words.{RowToWrite, FitsRow}
-use Rattle.calls.specs.Writes.{inserts, updates, deletes}
+use Rattle.calls.specs.Writes.{inserts, updates}
 use Rattle.calls.specs.Bars.{BarsOpen, BarsReady, BarsFree, BarsWithCursor}
 use Rattle.calls.proofs.BarsLemmas.{of_open, of_ready, of_free, of_with_cursor}
 use Rattle.refinement.specs.Allowed.{AllowsReply, Suits, savepoints}
@@ -19,7 +19,7 @@ use Rattle.one_answer.specs.OneAnswer.{IsDue}
 use Rattle.plain_history.specs.declared.refusal.Refused.{Refused}
 use Rattle.plain_history.specs.declared.refusal.Refused.TheVariants.{By}
 use Rattle.plain_history.specs.declared.refusal.Refused.TheVariants as refused
-use Rattle.plain_history.specs.Answers.{RefusesBegin, RefusesInsert, RefusesReplace, MayInsert, MayReplace, MayOpen, MaySave, RefusesSave, MayRollBack, RefusesRollBack, MayRelease, RefusesRelease, RefusesIndex, RefusesBounds, RefusesMaking}
+use Rattle.plain_history.specs.Answers.{RefusesBegin, RefusesInsert, RefusesReplace, MaySave, RefusesSave, MayRollBack, RefusesRollBack, MayRelease, RefusesRelease, RefusesIndex, RefusesBounds, RefusesMaking}
 use Rattle.snapshot.specs.declared.own.TheConstants.{MOST_SAVEPOINTS}
 use Rattle.judge.specs.Rulings.{refusal_of}
 
@@ -51,16 +51,6 @@ insert_barred w s row r is = of_free (world_sessions w) s (IsDueAt w (step.Inser
 pub update_barred : (w : World) (s : ℕ) (row : RowToWrite) (r : Refusal) → BarsFree (world_sessions w) s r → IsDueAt w (step.Update s row) r
 update_barred w s row r is = of_free (world_sessions w) s (IsDueAt w (step.Update s row)) (λ is. (is, λ x. x)) (λ is. (is, λ x. x)) (λ is. (is, λ x. x)) (λ is. (is, λ x. x)) r is
 
-pub delete_barred : (w : World) (s k : ℕ) (r : Refusal) → BarsFree (world_sessions w) s r → IsDueAt w (step.Delete s k) r
-delete_barred w s k r is = of_free (world_sessions w) s (IsDueAt w (step.Delete s k)) (λ is. (is, λ x. x)) (λ is. (is, λ x. x)) (λ is. (is, λ x. x)) (λ is. (is, λ x. x)) r is
-
--- a body that is too large
-pub insert_large : (w : World) (s : ℕ) (row : RowToWrite) → MayOpen w s → MOST_BODY < length row.body → IsDueAt w (step.Insert s row) refusal.TooLarge
-insert_large w s row may large = ((may.0, may.1, large), λ x. x)
-
-pub update_large : (w : World) (s : ℕ) (row : RowToWrite) → MayOpen w s → MOST_BODY < length row.body → IsDueAt w (step.Update s row) refusal.TooLarge
-update_large w s row may large = ((may.0, may.1, large), λ x. x)
-
 -- no wait closes a ring, of whichever session it is
 no_ring : (w : World) (s o : ℕ) → ¬ ClosesRing w.waits_for s o → (t : ℕ) → Some s ≡ Some t → ¬ ClosesRing w.waits_for t o
 no_ring w s o none t same closes = none (subst (λ s. ClosesRing w.waits_for s o) (sym (same_Some s t same)) closes)
@@ -85,31 +75,7 @@ update_refused w s row (By (refusal.Busy o)) fits is = (((is.0, update_suits w s
 update_refused w s row refused.Deadlock fits is = ((s, is.3.0, refl, (is.0, update_suits w s row is.0 fits is.1 is.2, is.3.1), is.3.2), λ x. x)
 update_refused w s row (By r) fits is = update_barred w s row r is
 
-delete_suits : (w : World) (s k : ℕ) (m : OpenSession) → IsWriter w s m → IsSome (view w.history m k) → Suits w s (deletes k) m
-delete_suits w s k m writer some = record { writer = writer; asks = some }
-
-pub delete_refused : (w : World) (s k : ℕ) (why : Refused) → RefusesReplace w s k why → IsDueAt w (step.Delete s k) (refusal_of why)
-delete_refused w s k (By refusal.NotThere) is = ((is.0, is.1, is.2), λ x. x)
-delete_refused w s k (By refusal.Conflict) is = ((is.0, delete_suits w s k is.0 is.1 is.2, is.3), λ x. x)
-delete_refused w s k (By (refusal.Busy o)) is = (((is.0, delete_suits w s k is.0 is.1 is.2, is.3.0), no_ring w s o is.3.1), λ x. x)
-delete_refused w s k refused.Deadlock is = ((s, is.3.0, refl, (is.0, delete_suits w s k is.0 is.1 is.2, is.3.1), is.3.2), λ x. x)
-delete_refused w s k (By r) is = delete_barred w s k r is
-
--- the write may be taken
-pub insert_taken : (w : World) (s : ℕ) (row : RowToWrite) → FitsRow row → MayInsert w s row.key → AllowsReply w (step.Insert s row) reply.Done
-insert_taken w s row fits is = (is.0, insert_suits w s row is.0 fits is.1.writer is.2, is.1)
-
-pub update_taken : (w : World) (s : ℕ) (row : RowToWrite) → FitsRow row → MayReplace w s row.key → AllowsReply w (step.Update s row) reply.Done
-update_taken w s row fits is = (is.0, update_suits w s row is.0 fits is.1.writer is.2, is.1)
-
-pub delete_taken : (w : World) (s k : ℕ) → MayReplace w s k → AllowsReply w (step.Delete s k) reply.Done
-delete_taken w s k is = (is.0, delete_suits w s k is.0 is.1.writer is.2, is.1)
-
 -- a transaction ends
-
-pub commit_refused : (w : World) (s : ℕ) (r : Refusal) → (r ≡ refusal.Failed → ⊥) → BarsReady (world_sessions w) s r → IsDueAt w (step.Commit s) r
-commit_refused w s r isnt is =
-    of_ready (world_sessions w) s (λ r. (r ≡ refusal.Failed → ⊥) → IsDueAt w (step.Commit s) r) (λ is isnt. (is, λ x. x)) (λ is isnt. (is, λ x. x)) (λ is isnt. absurd (isnt refl)) r is isnt
 
 pub abort_refused : (w : World) (s : ℕ) (r : Refusal) → BarsOpen (world_sessions w) s r → IsDueAt w (step.Abort s) r
 abort_refused w s r is = of_open (world_sessions w) s (IsDueAt w (step.Abort s)) (λ is. (is, λ x. x)) (λ is. (is, λ x. x)) r is

@@ -1,5 +1,5 @@
 -- What is due, and which rule a wrong answer breaks.
-use Rattle.std.proofs.Common.{◌≡◌, ◌≢◌, ℕ, suc, ◌<◌, List, [], ◌∷◌, length, take, max, Bool, true, false, Option, Some, refl, sym, ap, ◌∙◌, subst, arith}
+use Rattle.std.proofs.Common.{◌≡◌, ◌≢◌, ℕ, ◌<◌, List, [], ◌∷◌, length, take, max, Bool, true, false, Some, refl, sym, ap, ◌∙◌, subst, arith}
 use Rattle.std.specs.Prelude.{IsTrue, ◌↔◌}
 use Rattle.std.specs.Global.{Vec}
 use Rattle.tuple_header.specs.declared.version.Row.{Row}
@@ -9,7 +9,7 @@ use Rattle.plain_cursor.specs.declared.order.PlainOrder.TheVariants as order
 use Rattle.plain_cursor.specs.Order.{KeptCursor, row_of_key, index_of, IsInOrder}
 use Rattle.plain_cursor.specs.Hands.{plain_order_of, cursor_of}
 use Rattle.std.proofs.lemmas.Option.{same_Some}
-use Rattle.history.specs.World.{World, OpenSession, Cursor, by_heap, beginning, Holds, LacksIndex, MayIndex, IsReady}
+use Rattle.history.specs.World.{World, OpenSession, Cursor, by_heap, beginning, Holds, LacksIndex, IsReady}
 use Rattle.history.specs.Events.{stays}
 use Rattle.calls.specs.declared.step.Step.{Step}
 use Rattle.calls.specs.declared.step.Step.TheVariants as step
@@ -68,17 +68,6 @@ hands_due w s n c Open may is = (reply.Refused refusal.NoMemory, (may.0, c, may.
 
 -- The making of an index.
 
-pub making_says : (w : World) (c : ℕ) (has runs answer : Bool) → MayIndex w c → has ≡ w.has_index (suc c) → runs ≡ w.has_vacuum → (IsTrue answer ↔ ((has ≡ true → ⊥) → runs ≡ false))
-    → IsTrue answer ↔ AllowsReply w (step.CreateIndex c) reply.Done
-making_says w c has runs answer may has_is runs_is says = (
-  λ yes. (may, λ lacks. sym runs_is ∙ says.0 yes (λ had. let never : true ≡ false = sym had ∙ (has_is ∙ lacks) in cc)),
-  λ is. says.1 (λ hasnt. runs_is ∙ is.1 (sym has_is ∙ not_true has hasnt)),
-)
-  where
-    not_true : (b : Bool) → (b ≡ true → ⊥) → b ≡ false
-    not_true true isnt = absurd (isnt refl)
-    not_true false isnt = refl
-
 -- where it is there already, nothing is made
 pub made_before : (w : World) (c : ℕ) → c < 4 → ¬ LacksIndex w c → AllowsReply w (step.CreateIndex c) reply.Done
 made_before w c small isnt = ((small, λ lacks. absurd (isnt (small, lacks))), λ lacks. absurd (isnt (small, lacks)))
@@ -117,7 +106,3 @@ keys_due cursor n rest keys by same in_order left is = (
 pub read_by : (r : Rule) (w : World) (s key : ℕ) → ¬ Holds w s key → IsRuleOfView r w s → IsRuleOfRead r w s key
 read_by rule.OwnWrites w s key none view = absurd view
 read_by _ w s key none view = (none, view)
-
-pub found_beside : (w : World) (asked : Step) (row : Option Row) → ((s key : ℕ) → asked ≡ step.Get s key → ⊥) → GoesBy rule.NoRefusal w asked (reply.Found row)
-found_beside w (step.Get s key) row isnt = absurd (isnt s key refl)
-found_beside w _ row isnt = refl

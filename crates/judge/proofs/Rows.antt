@@ -75,9 +75,6 @@ apart_of rows none i j a b at bt same = elim (cases_lt i j) [
   ])
 ]
 
-pub before_apart : (rows : List Row) (i : ℕ) → StandsBefore rows i → HaveTheirOwnKeys rows → ⊥
-before_apart rows i before apart = let lt : before.0 < i = before.3 in let same : before.0 ≡ i = apart before.0 i before.1 before.2 before.4 before.5 before.6 in omega arith
-
 -- A session that may go on is not barred.
 
 reached_few : (w : World) → IsReached w → HasFew w

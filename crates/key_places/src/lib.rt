@@ -3,4 +3,4 @@
 
 mod places;
 
-pub use places::KeyPlaces;
+pub use places::{KeyPlaces, RootHint};

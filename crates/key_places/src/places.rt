@@ -10,32 +10,74 @@ const FIRST_COUNT: usize = 256;
 /// How many positions a place may stand at: those that differ from that of its key in the last three bits. They are 64 bytes.
 const GROUP: usize = 8;
 
-/// A place, and what tells most keys apart. Pages have numbers below 65,536, and slots are counted from 1.
+/// Where a root of a key was made, perhaps.
+#[derive(Clone, Copy, Debug)]
+pub struct RootHint {
+    /// Its place.
+    pub place: Tid,
+    /// Where on its page its bytes begin.
+    pub from: u16,
+}
+
+/// A hint, and what tells most keys apart, as one number: from its top 29 bits of the key, 16 of the page, 9 of the slot, and 10 of
+/// where the bytes begin, which is a multiple of 8. So eight stand in 64 bytes. Slots are counted from 1.
 #[derive(Clone, Copy, Debug)]
 struct KeyPlace {
-    tag: u32,
-    page: u16,
-    slot: u16,
+    bits: u64,
 }
 
 const _: () = prove!(size_of::<KeyPlace>() == 8);
 
 /// That no place is noted.
-const NOTHING: KeyPlace = KeyPlace {
-    tag: 0,
-    page: 0,
-    slot: 0,
-};
+const NOTHING: KeyPlace = KeyPlace { bits: 0 };
 
-/// The last 32 bits of a key, into which its other bits are folded. So the first keys have a position each, keys near each other
+impl KeyPlace {
+    /// The hint of a key of this tag. Of a number that has too many bits the upper ones are lost: there is none of a page or a slot.
+    #[inline(always)]
+    fn new(tag: u32, root: RootHint) -> KeyPlace {
+        let page = u64::from(root.place.page) % (1 << 16);
+        let slot = u64::from(root.place.slot) % (1 << 9);
+        let from = u64::from(root.from) / 8 % (1 << 10);
+        KeyPlace {
+            bits: u64::from(tag) << 35 | page << 19 | slot << 10 | from,
+        }
+    }
+
+    /// What is kept of the key.
+    #[inline(always)]
+    fn tag(self) -> u32 {
+        (self.bits >> 35) as u32
+    }
+
+    /// Whether no place is noted.
+    #[inline(always)]
+    fn is_empty(self) -> bool {
+        self.bits >> 10 & 0x1ff == 0
+    }
+
+    /// What is noted.
+    #[inline(always)]
+    fn root(self) -> RootHint {
+        let place = Tid {
+            page: (self.bits >> 19 & 0xffff) as u32,
+            slot: (self.bits >> 10 & 0x1ff) as u16,
+        };
+        RootHint {
+            place,
+            from: (self.bits & 0x3ff) as u16 * 8,
+        }
+    }
+}
+
+/// The last 29 bits of a key, into which its other bits are folded. So the first keys have a position each, keys near each other
 /// have positions near each other, and keys that differ in their upper bits alone have different ones too.
 #[inline(always)]
 fn tag_of(key: u64) -> u32 {
-    let mut bits = key ^ key >> 32;
+    let mut bits = key ^ key >> 29 ^ key >> 58;
     bits ^= bits >> 19;
     bits ^= bits >> 11;
     bits ^= bits >> 7;
-    (bits % (1 << 32)) as u32
+    (bits % (1 << 29)) as u32
 }
 
 /// Where the newest root of each key was made, as far as it is known: a hint. It may name a place of another key, or none, so
@@ -58,50 +100,38 @@ impl KeyPlaces {
 
     /// Where a root of the key was made last, perhaps.
     #[inline(always)]
-    pub fn get(&self, key: u64) -> Option<Tid> {
+    pub fn get(&self, key: u64) -> Option<RootHint> {
         let tag = tag_of(key);
         let position = self.position(tag);
         for n in 0..GROUP {
             let noted = self.places.get(position ^ n)?;
-            if noted.tag == tag {
-                return Some(Tid {
-                    page: u32::from(noted.page),
-                    slot: noted.slot,
-                });
+            if noted.tag() == tag {
+                return Some(noted.root());
             }
         }
         None
     }
 
-    /// Notes that a root of the key was made at a place, and that the index by key has so many entries. Where more memory is
+    /// Notes where a root of the key was made, and that the index by key has so many entries. Where more memory is
     /// wanted and refused, less is noted.
     #[inline(always)]
-    pub fn note(&mut self, key: u64, place: Tid, entries: u64) {
+    pub fn note(&mut self, key: u64, root: RootHint, entries: u64) {
         if !self.are_wanted {
             return;
         }
         if entries > self.places.len() as u64 {
             self.grow();
         }
-        // a page's number fits
-        let Ok(page) = u16::try_from(place.page) else {
-            return;
-        };
-        let noted = KeyPlace {
-            tag: tag_of(key),
-            page,
-            slot: place.slot,
-        };
-        self.put(noted);
+        self.put(KeyPlace::new(tag_of(key), root));
     }
 
     /// Puts a place at the first of its positions that has another of its tag, or none; or at the first of all.
     #[inline(always)]
     fn put(&mut self, noted: KeyPlace) {
-        let position = self.position(noted.tag);
+        let position = self.position(noted.tag());
         for n in 0..GROUP {
             if let Some(old) = self.places.get_mut(position ^ n) {
-                if old.tag == noted.tag || old.slot == 0 {
+                if old.tag() == noted.tag() || old.is_empty() {
                     *old = noted;
                     return;
                 }
@@ -146,7 +176,7 @@ impl KeyPlaces {
         }
         for n in 0..count {
             let noted = self.places[n];
-            if noted.tag as usize & count == 0 {
+            if noted.tag() as usize & count == 0 {
                 self.places.push_reserved(NOTHING);
             } else {
                 self.places[n] = NOTHING;

@@ -1,6 +1,8 @@
 -- Versions that lie one behind the other are moved at once.
-use Rattle.std.proofs.Common.{◌≡◌, ◌≢◌, ⊎_elim, inl, inr, ◌⊎◌, ℕ, ◌+◌, ◌*◌, ◌-◌, ◌%◌, ◌/◌, ◌<◌, ◌≤◌, List, length, take, drop, slice_index, sum_by, sym, ap, ◌∙◌, subst, refl, arith, length-take, length-drop, get_or-take, get_or-drop}
+use Rattle.std.proofs.Common.{◌≡◌, ◌≢◌, ⊎_elim, inl, inr, ◌⊎◌, ℕ, ◌+◌, ◌*◌, ◌-◌, ◌%◌, ◌/◌, ◌^◌, ◌<◌, ◌≤◌, List, length, take, drop, slice_index, sum_by, sym, ap, ◌∙◌, subst, refl, arith, length-take, length-drop, get_or-take, get_or-drop}
 use Rattle.std.specs.Int.{next_multiple_of}
+use Rattle.std.specs.Int.Bits.{bit_and, bit_or, bit_xor, and_zero_r, xor_zero_r, xor_self, xor_assoc}
+use Rattle.std.proofs.lemmas.Nat.{and_comm, or_comm, xor_comm, or_mod, xor_mod, and_or_self}
 use Rattle.std.proofs.lemmas.Bool.Decides.{nat_tests}
 use Rattle.std.proofs.lemmas.List.{take_all, take-take}
 use Rattle.std.proofs.lemmas.List.Sums.{sum_by-take-le}
@@ -415,11 +417,41 @@ edge-start bytes count first top page even =
 
 -- Versions one behind the other, with no other slot among them.
 
+-- no number has a bit that isn't in all bits taken together
+or-none : (a b : ℕ) → bit_or a b ≡ 0 → b ≡ 0
+or-none a b none = sym (and_or_self b a) ∙ ap (λ (x : ℕ). bit_and x b) none ∙ and_comm 0 b ∙ and_zero_r b
+
+-- numbers that differ in no bit
+xor-none : (a b : ℕ) → bit_xor a b ≡ 0 → a ≡ b
+xor-none a b none = sym (xor_zero_r a) ∙ ap (bit_xor a) (sym (xor_self b)) ∙ sym (xor_assoc a b b) ∙ ap (λ (x : ℕ). bit_xor x b) none ∙ xor_comm 0 b ∙ xor_zero_r b
+
+-- where no low bit of all differences is set, none was set before, and the last two numbers have the same low bits
+pub joined : (apart a b : ℕ) → bit_or apart (bit_xor a b) % 2 ^ 17 ≡ 0 → (apart % 2 ^ 17 ≡ 0) × (a % 2 ^ 17 ≡ b % 2 ^ 17)
+joined apart a b none =
+    let low : bit_or (apart % 2 ^ 17) (bit_xor a b % 2 ^ 17) ≡ 0 = sym (or_mod apart (bit_xor a b) 17) ∙ none in (
+      or-none (bit_xor a b % 2 ^ 17) (apart % 2 ^ 17) (or_comm (bit_xor a b % 2 ^ 17) (apart % 2 ^ 17) ∙ low),
+      xor-none (a % 2 ^ 17) (b % 2 ^ 17) (sym (xor_mod a b 17) ∙ or-none (apart % 2 ^ 17) (bit_xor a b % 2 ^ 17) low),
+    )
+
+-- a pointer's end has no higher bits
+end-low : (bytes : List ℕ) (count i word : ℕ) → IsSound bytes count → i < count → word ≡ number_at (24 + 4 * i) 4 bytes → end_in word < 131072
+end-low bytes count i word sound within read = by (pointer_in bytes i) (read ∙ sound.plain i within) (sound.pointers i within)
+  where
+    by : (p : Pointer) → word ≡ word_of p → IsPointer bytes count p → end_in word < 131072
+    by Pointer.Unused plain good = omega (arith, plain)
+    by (Pointer.Normal e) plain good =
+        let end : e.from + next_multiple_of e.len 8 ≤ 8192 = good.within in
+        let offset : word % 131072 ≡ e.from + 32768 = omega (arith, plain) in
+        let size : (word + 917504) / 1048576 ≡ (e.len + 7) / 8 = omega (arith, plain) in
+        let up = rounded-by e.len in
+        omega arith
+    by (Pointer.Redirect target) plain good = let few = sound.few in omega (arith, plain, good.0, good.1)
+    by Pointer.Dead plain good = omega (arith, plain)
+
 -- where no version so far lies apart from the one before it, they are a run, whose edge stands in the last one's word
 pub record IsFull (bytes : List ℕ) (count first top index apart : ℕ) : Type 0 where
   pub begun : first < index
-  pub few : apart ≤ index
-  pub run : apart ≡ 0 → IsEdge bytes count first top index (number_at (20 + 4 * index) 4 bytes % 131072)
+  pub run : apart % 131072 ≡ 0 → IsEdge bytes count first top index (number_at (20 + 4 * index) 4 bytes % 131072)
 
 full-next : (bytes : List ℕ) (count first top i edge : ℕ) → IsSound bytes count → i < count → IsEdge bytes count first top i edge → end_in (number_at (24 + 4 * i) 4 bytes) ≡ edge
     → IsEdge bytes count first top (i + 1) (number_at (20 + 4 * (i + 1)) 4 bytes % 131072)
@@ -432,24 +464,19 @@ pub full-start : (bytes : List ℕ) (count first top word : ℕ) → IsSound byt
     → end_in word ≡ top + 32768 → IsFull bytes count first top (first + 1) 0
 full-start bytes count first top word sound within page even read test = record {
   begun = omega arith;
-  few = omega arith;
   run = λ none. full-next bytes count first top first (top + 32768) sound within (edge-start bytes count first top page even) (ap end_in (sym read) ∙ test);
 }
 
 pub full-more : (bytes : List ℕ) (count first top i apart above word : ℕ) → IsSound bytes count → i < count → above ≡ number_at (20 + 4 * i) 4 bytes → word ≡ number_at (24 + 4 * i) 4 bytes
-    → end_in word ≡ above % 131072 → IsFull bytes count first top i apart → IsFull bytes count first top (i + 1) apart
-full-more bytes count first top i apart above word sound within read_above read test full =
+    → IsFull bytes count first top i apart → IsFull bytes count first top (i + 1) (bit_or apart (bit_xor (end_in word) above))
+full-more bytes count first top i apart above word sound within read_above read full =
     let begun = full.begun in
-    let few = full.few in
     record {
       begun = omega arith;
-      few = omega arith;
-      run = λ none. full-next bytes count first top i (number_at (20 + 4 * i) 4 bytes % 131072) sound within (full.run none)
+      run = λ none.
+          let same = joined apart (end_in word) above none in
+          let low = end-low bytes count i word sound within read in
+          let test : end_in word ≡ above % 131072 = omega (arith, low, same.1) in
+          full-next bytes count first top i (number_at (20 + 4 * i) 4 bytes % 131072) sound within (full.run same.0)
           (ap end_in (sym read) ∙ test ∙ ap (λ (n : ℕ). n % 131072) read_above);
     }
-
-pub full-apart : (bytes : List ℕ) (count first top i apart : ℕ) → IsFull bytes count first top i apart → IsFull bytes count first top (i + 1) (apart + 1)
-full-apart bytes count first top i apart full =
-    let begun = full.begun in
-    let few = full.few in
-    record { begun = omega arith; few = omega arith; run = λ none. absurd (omega arith) }

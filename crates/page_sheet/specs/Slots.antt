@@ -47,6 +47,10 @@ version_of (Normal t) = Some t
 version_of (Redirect target) = None
 version_of Dead = None
 
+-- its row, if this inserter made it and nobody deleted it
+abbrev pub undeleted_row : ℕ → Slot → Option Row
+undeleted_row x slot = if is_undeleted_by x slot then option_map (λ t. t.row) (version_of slot) else None
+
 -- where a slot leads, if it is a redirect
 abbrev pub target_of : Slot → Option ℕ
 target_of Unused = None
@@ -81,6 +85,10 @@ row_at slots n = option_map (λ t. t.row) (version_at slots n)
 
 abbrev pub key_at : List Slot → ℕ → Option ℕ
 key_at slots n = option_map (λ t. t.row.key) (version_at slots n)
+
+-- its row, if it is there, this inserter made it, and nobody deleted it
+abbrev pub undeleted_row_at : List Slot → ℕ → ℕ → Option Row
+undeleted_row_at slots x n = option_and_then (undeleted_row x) (slot_at slots n)
 
 -- where the slot of this number leads, if it is there and a redirect
 abbrev pub redirect_at : List Slot → ℕ → Option ℕ

@@ -31,6 +31,10 @@ pub record StandsAt (bytes : List ℕ) (i : ℕ) (e : Extent) : Type 0 where
   pub size : version_length (slot_in bytes i) ≡ Some e.len
   pub within : LiesWithin e.from e.len
 
+-- its first byte is this one
+abbrev pub BeginsAt : List ℕ → ℕ → ℕ → Type 0
+BeginsAt bytes i from = (len : ℕ) × (pointer_in bytes i ≡ Pointer.Normal (record { from = from; len = len }))
+
 -- these are the bytes of the version at an index: they have no fault
 pub record IsVersionAt (bytes : List ℕ) (i : ℕ) (part : List ℕ) : Type 0 where
   pub faultless : first_fault part ≡ None

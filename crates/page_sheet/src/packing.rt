@@ -105,11 +105,10 @@ fn full_run_from(bytes: &[u8], count: usize, first: usize, top: usize) -> Option
     for index in first + 1..count {
         let above = u32_at(bytes, PAGE_HEADER_BYTES - 4 + 4 * index);
         let word = u32_at(bytes, PAGE_HEADER_BYTES + 4 * index);
-        if end_in(word) != above % 131072 {
-            apart += 1;
-        }
+        apart |= end_in(word) ^ above;
     }
-    if apart > 0 {
+    // a bit is set where a version does not end where the one before it begins
+    if apart % 131072 > 0 {
         return None;
     }
     let last = u32_at(bytes, PAGE_HEADER_BYTES - 4 + 4 * count);

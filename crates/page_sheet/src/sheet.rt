@@ -1,6 +1,6 @@
 //! The bytes of a page, and what is read in them where it stands.
 
-ghost use Rattle.std.specs.Prelude.{◌≡◌, ◌≢◌, ◌≤◌, ◌<◌, ◌+◌, ◌-◌, ◌*◌, ◌++◌, ◌∷◌, ℕ, List, [], length, sum_by, drop, slice_set, slice_index_or, true, false, ◌==◌, ◌&&◌, Some, None, IfSome, IsTrue, ◌↔◌, MatchOption, if◌then◌else◌};
+ghost use Rattle.std.specs.Prelude.{◌≡◌, ◌≢◌, ◌≤◌, ◌<◌, ◌+◌, ◌-◌, ◌*◌, ◌++◌, ◌∷◌, ℕ, List, [], length, sum_by, drop, slice_set, slice_index_or, true, false, ◌==◌, ◌&&◌, Some, None, IfSome, IsSome, IsTrue, ◌↔◌, MatchOption, if◌then◌else◌};
 ghost use Rattle.std.specs.Option.{option_map};
 ghost use Rattle.std.specs.List.{position_or_len};
 ghost use Rattle.tuple_header.specs.Layout.{number_at, with_bytes, header_bytes, encoding};
@@ -9,13 +9,13 @@ ghost use Rattle.tuple_header.specs.Version.{size_of, rounded_size_of};
 ghost use Rattle.tuple_header.specs.Faults.{HeaderFits, IsVersion, header_fault};
 ghost use Rattle.page_sheet.specs.declared.sheet.TheConstants.{MOST_BYTES};
 ghost use Rattle.page_layout.specs.declared.sizes.TheConstants.{PAGE_BYTES, PAGE_HEADER_BYTES};
-ghost use Rattle.page_sheet.specs.Slots.{is_unused, is_dead, is_undeleted_by, redirects_to, with_header, version_of, target_of, head_of, bytes_taken};
+ghost use Rattle.page_sheet.specs.Slots.{is_unused, is_dead, is_undeleted_by, undeleted_row, redirects_to, with_header, version_of, target_of, head_of, bytes_taken};
 ghost use Rattle.page_layout.specs.Layout.{pointer_in, part_of, slot_count_in, change_in, flags_in, upper_in};
 ghost use Rattle.page_sheet.specs.Layout.{SomeRedirects, shown_by, slot_in, slots_in};
 ghost use Rattle.page_sheet.specs.Packing.{LieInOrder};
 ghost use Rattle.page_sheet.specs.Lying.{IsCleared, IsLying};
 ghost use Rattle.page_sheet.specs.Placing.{AllStay, OthersStay, HasGap, IsPutBelow, loses_last};
-ghost use Rattle.page_sheet.specs.Standing.{StandsAt, IsVersionAt};
+ghost use Rattle.page_sheet.specs.Standing.{StandsAt, BeginsAt, IsVersionAt};
 ghost use Rattle.page_layout.specs.declared.pointer.Pointer.{Pointer as SpecPointer};
 ghost use Rattle.page_layout.specs.Sound.{HoldsNoVersion, IsSound, IsPointer};
 
@@ -293,6 +293,40 @@ impl Sheet {
         }
     }
 
+    /// The bytes of the version at an index, where they stand, if they begin at `from`. The pointer has to say so, but they can be read
+    /// before it is.
+    #[inline(always)]
+    fn part_from(&self, index: usize, from: u16) -> Option<&[u8]>
+        requires { index < self.now.count }
+        ensures { MatchOption result (¬ BeginsAt self.now.bytes index from)
+            (λ part. BeginsAt self.now.bytes index from
+            × IsVersionAt self.now.bytes index part.now) }
+    {
+        match self.pointer(index) {
+            Pointer::Normal(extent) if extent.from == from => {
+                let len = extent.len;
+                Some(part(&self.bytes, Extent { from, len }))
+            }
+            _ => None,
+        }
+    }
+
+    /// The header and the row of the version at an index, where they stand, if its bytes begin at `from`.
+    #[inline(always)]
+    pub fn version_from(&self, index: usize, from: u16) -> Option<(Header, RowRef<'_>)>
+        requires { index < self.now.count }
+        ensures value { MatchOption result (¬ BeginsAt self.now.bytes index from)
+            (λ found. version_of (slot_in self.now.bytes index)
+            ≡ Some (record { header = found.0; row = found.1 })) }
+        ensures begins { IsSome result → BeginsAt self.now.bytes index from }
+        ensures faultless { IfSome result (λ found. header_fault found.0 ≡ None) }
+    {
+        match self.part_from(index, from) {
+            Some(part) => Some((header_of(part), row_in(part))),
+            None => None,
+        }
+    }
+
     /// Whether the slot at an index is unused.
     #[inline(always)]
     pub fn is_unused(&self, index: usize) -> bool
@@ -374,6 +408,24 @@ impl Sheet {
         match self.version(index) {
             Some(part) => is_undeleted_by(part, inserter.0),
             None => false,
+        }
+    }
+
+    /// The row of the version at an index, where it stands, if this id made it and nobody deleted it.
+    #[inline(always)]
+    pub fn undeleted_row(&self, index: usize, inserter: Xid) -> Option<RowRef<'_>>
+        requires { index < self.now.count }
+        ensures { result ≡ undeleted_row inserter.0 (slot_in self.now.bytes index) }
+    {
+        match self.version(index) {
+            Some(part) => {
+                if is_undeleted_by(part, inserter.0) {
+                    Some(row_in(part))
+                } else {
+                    None
+                }
+            }
+            None => None,
         }
     }
 

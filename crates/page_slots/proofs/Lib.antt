@@ -4,3 +4,4 @@ pub mod RedirectLemmas
 pub mod CoverLemmas
 pub mod CheckLemmas
 pub mod PlainLemmas
+pub mod Begun

@@ -1,5 +1,5 @@
 -- Where a version of a page stands, for those who hold its bytes.
-use Rattle.std.specs.Prelude.{◌≡◌, ℕ, ◌-◌, List, None, length}
+use Rattle.std.specs.Prelude.{◌≡◌, ◌≢◌, ℕ, ◌-◌, List, None, length}
 use Rattle.xid_circle.specs.Numbers.{SlotNo}
 use Rattle.page_layout.specs.declared.pointer.Pointer.{Pointer}
 use Rattle.page_layout.specs.Layout.{pointer_in}
@@ -15,3 +15,7 @@ pub record IsPointedTo (page : PageView) (n : SlotNo) (from len : ℕ) : Type 0 
   pub long : length bytes ≡ PAGE_BYTES
   pub accepted : AreSoundRedirects page.slots → page_fault bytes ≡ None
   pub pointer : pointer_in bytes (n - 1) ≡ Pointer.Normal (record { from = from; len = len })
+
+-- the slot's version begins at another byte than this one
+abbrev pub BeginsElsewhere : PageView → SlotNo → ℕ → Type 0
+BeginsElsewhere page n from = (at : ℕ) × (len : ℕ) × IsPointedTo page n at len × (at ≢ from)

@@ -9,9 +9,9 @@ ghost use Rattle.page_sheet.specs.Layout.{shown_by};
 ghost use Rattle.page_slots.specs.Reading.{page_of};
 ghost use Rattle.page_slots.specs.Faults.{AreSoundRedirects, page_fault};
 ghost use Rattle.page_sheet.specs.Standing.{length_at, LiesWithin};
-ghost use Rattle.page_slots.specs.Standing.{IsPointedTo};
+ghost use Rattle.page_slots.specs.Standing.{BeginsElsewhere, IsPointedTo};
 ghost use Rattle.page_layout.specs.Sound.{HoldsNoVersion};
-ghost use Rattle.page_sheet.specs.Slots.{is_unused, is_dead, is_undeleted_by, redirects_to, head_of, slot_at, header_at, row_at, key_at, redirect_at, IsRedirected, SlotIsThere, IsNormalAt, the_slot, with_slot, with_header_at, has_unused, free_number, with_added, bytes_taken, free_bytes, room_of, next_change, change_unless, differs_in_hints_alone};
+ghost use Rattle.page_sheet.specs.Slots.{is_unused, is_dead, is_undeleted_by, redirects_to, head_of, slot_at, version_at, header_at, row_at, undeleted_row_at, key_at, redirect_at, IsRedirected, SlotIsThere, IsNormalAt, the_slot, with_slot, with_header_at, has_unused, free_number, with_added, bytes_taken, free_bytes, room_of, next_change, change_unless, differs_in_hints_alone};
 
 use page_layout::Pointer;
 use page_sheet::{MOST_BYTES, Sheet, Slot, SlotHead};
@@ -185,6 +185,40 @@ impl Page {
         let index = index_of(number)?;
         if index < self.sheet.len() {
             self.sheet.row(index)
+        } else {
+            None
+        }
+    }
+
+    /// The header and the row of the version in the slot of this number, where they stand, if that is there and normal, and its bytes
+    /// begin at `from`. So who knows where they begin waits for them beside the pointer, and not after it.
+    #[inline(always)]
+    pub fn version_from(&self, number: u16, from: u16) -> Option<(Header, RowRef<'_>)>
+        ensures value { IfSome result (λ found. version_at self.now.slots number
+            ≡ Some (record { header = found.0; row = found.1 })) }
+        ensures faultless { IfSome result (λ found. header_fault found.0 ≡ None) }
+        ensures none { result ≡ None → IsNormalAt self.now.slots number
+            → BeginsElsewhere self.now number from }
+    {
+        let index = index_of(number)?;
+        // They keep all promises of `bytes`.
+        let _bytes = self.sheet.bytes();
+        if index < self.sheet.len() {
+            self.sheet.version_from(index, from)
+        } else {
+            None
+        }
+    }
+
+    /// The row of the version in the slot of this number, where it stands, if that is there and normal, this id made it, and nobody
+    /// deleted it.
+    #[inline(always)]
+    pub fn undeleted_row(&self, number: u16, inserter: Xid) -> Option<RowRef<'_>>
+        ensures { result ≡ undeleted_row_at self.now.slots inserter.0 number }
+    {
+        let index = index_of(number)?;
+        if index < self.sheet.len() {
+            self.sheet.undeleted_row(index, inserter)
         } else {
             None
         }

@@ -9,3 +9,4 @@ pub mod State
 pub mod Tickets
 pub mod Many
 pub mod Looks
+pub mod Pictures

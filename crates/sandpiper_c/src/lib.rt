@@ -12,6 +12,7 @@ mod looks;
 mod many;
 mod opening;
 mod pages;
+mod picture;
 mod places;
 mod plans;
 mod rows;

@@ -4,7 +4,6 @@ use Rattle.std.specs.Prelude.{Contains, Result, Ok, Err}
 use Rattle.std.specs.Option.{option_map}
 use Rattle.std.proofs.lemmas.Option.{none-some}
 use Rattle.std.proofs.lemmas.List.Elements.{Contains-append_right}
-use Rattle.tuple_header.specs.declared.version.Row.{Row}
 use Rattle.commit_status.specs.declared.status.Status.{Status}
 use Rattle.commit_status.specs.declared.status.Status.TheVariants.{InProgress, Committed, Aborted}
 use Rattle.commit_status.specs.Window.{IdEntry, Window, IsWindow, IsActive, status_in, status_of}
@@ -23,11 +22,14 @@ use Rattle.heap_write.specs.declared.heap.WriteFault.{WriteFault}
 use Rattle.heap_write.specs.declared.heap.WriteFault.TheVariants as fault
 use Rattle.calls.specs.declared.step.Step.{Step}
 use Rattle.calls.specs.declared.reply.Reply.{Reply}
+use Rattle.calls.specs.Words.{row_of}
+use Rattle.calls.specs.Writes.{WriteStep, inserts, updates, deletes}
 use Rattle.sessions.specs.declared.session.Session.{Session}
 use Rattle.session_steps.specs.State.{State, session_at, horizon_of}
 use Rattle.session_steps.specs.Keeps.{OwnIdsKeep}
 use Rattle.session_steps.specs.Changes.{Closes}
-use Rattle.session_steps.specs.Exact.{Exact, InsertTried, UpdateTried, DeleteTried}
+use Rattle.session_steps.specs.Exact.{Exact, WriteTried}
+use Rattle.session_steps.proofs.Writing.{takes-ids}
 use Rattle.session_steps.specs.Making.{HasOrMakes}
 use Rattle.session_steps.specs.Vacuums.{Forgets}
 use Rattle.sound_vacuum.specs.Between.{StepsBetween}
@@ -84,19 +86,13 @@ module _ (old new : State) where
   by-ids : (own own' : Own) (x : ℕ) → TakesIds old.heap.statuses new.heap.statuses own own' x → Stays
   by-ids own own' x takes = stays-given takes.given old.heap.statuses new.heap.statuses _ takes.gives
 
-  insert-stays : (s : ℕ) (row : Row) (outcome : Result (Unit {0}) WriteFault) → InsertTried old new s row outcome → Stays
-  insert-stays s row (Ok u) t = by-ids _ _ _ t.tried.tried.change.takes_ids
-  insert-stays s row (Err f) t = by-step (StepsBetween.keeps t.tried.tried.fault.1)
-
-  update-stays : (s : ℕ) (row : Row) (outcome : Result (Unit {0}) WriteFault) → UpdateTried old new s row outcome → Stays
-  update-stays s row (Ok u) t = by-ids _ _ _ t.tried.tried.change.takes_ids
-  update-stays s row (Err f) t = by-step (StepsBetween.fails_update t.may.session.own t.place row (horizon_of old) f t.tried.tried.fault)
-
-  delete-stays : (s key : ℕ) (outcome : Result (Unit {0}) WriteFault) → DeleteTried old new s key outcome → Stays
-  delete-stays s key (Ok u) t = by-ids _ _ _ t.tried.tried.change.takes_ids
-  delete-stays s key (Err fault.NeedsFreeze) t = by-step (StepsBetween.keeps t.tried.tried.fault.1)
-  delete-stays s key (Err fault.NoRoom) t = absurd t.tried.tried.fault
-  delete-stays s key (Err fault.NoMemory) t = by-step (StepsBetween.keeps t.tried.tried.fault.2)
+  write-stays : (s : ℕ) (write : WriteStep) (outcome : Result (Unit {0}) WriteFault) → WriteTried old new s write outcome → Stays
+  write-stays s write (Ok u) t = by-ids _ _ _ (takes-ids write t.place (horizon_of old) old.heap new.heap t.session.own t.own t.tried.0 t.tried.1)
+  write-stays s (updates row) (Err f) t = by-step (StepsBetween.fails_update t.session.own t.place (row_of row) (horizon_of old) f t.tried.1)
+  write-stays s (inserts row) (Err f) t = by-step (StepsBetween.keeps t.tried.1.1)
+  write-stays s (deletes key) (Err fault.NeedsFreeze) t = by-step (StepsBetween.keeps t.tried.1.1)
+  write-stays s (deletes key) (Err fault.NoRoom) t = absurd t.tried.1
+  write-stays s (deletes key) (Err fault.NoMemory) t = by-step (StepsBetween.keeps t.tried.1.2)
 
   module _ (own : OwnIdsKeep old.sessions old.heap.statuses) where
     close-stays : (s : ℕ) (status : Status) → Closes old new s status → (o : Option Session) → session_at old s ≡ o → Stays
@@ -113,9 +109,7 @@ module _ (old new : State) where
         r.back.finishes
     change-stays (Changes.becomes s before now at goes is) = same-state (ap (λ (st : State). st.heap) is)
     change-stays (Changes.becomes_any s f goes is) = same-state (ap (λ (st : State). st.heap) is)
-    change-stays (Changes.inserts s row outcome t) = insert-stays s row outcome t
-    change-stays (Changes.updates s row outcome t) = update-stays s row outcome t
-    change-stays (Changes.deletes s key outcome t) = delete-stays s key outcome t
+    change-stays (Changes.writes s write outcome t) = write-stays s write outcome t
     change-stays (Changes.cleans p c) = by-step (StepsBetween.prunes p (horizon_of old) c.heap)
     change-stays (Changes.applies p plan a) = by-step (StepsBetween.applies p (horizon_of old) plan.change plan.actions a.heap)
 

@@ -4,7 +4,7 @@ ghost use Rattle.std.specs.Prelude.{◌≡◌};
 ghost use Rattle.std.specs.Option.{is_some};
 ghost use Rattle.calls.specs.declared.step.Step.{Step};
 ghost use Rattle.session_steps.specs.Replies.{reply_to};
-ghost use Rattle.session_steps.specs.Follows.{worded};
+ghost use Rattle.session_steps.specs.Writes.{worded};
 ghost use Rattle.session_core.specs.Clauses.{WaitingFollows, WaitingExact};
 ghost use Rattle.session_core.specs.Gets.{EngineGets, LooksUp, place_of};
 

@@ -1,10 +1,7 @@
 -- What a vacuum asks of the engine's ids.
-use Rattle.std.proofs.Common.{◌≡◌, ℕ, ◌<◌, ◌≤◌, ◌⊎◌, ◌↔◌, Bool, true, false, IsTrue, List, length, get_or, ◌+◌, Option, Some, arith, refl, sym, ap, ◌∙◌, subst, ⊎_elim}
+use Rattle.std.proofs.Common.{◌≡◌, ℕ, ◌<◌, ◌≤◌, ◌⊎◌, ◌↔◌, Bool, true, false, IsTrue, List, length, Option, Some, arith, refl, sym, ap, ◌∙◌, subst, ⊎_elim}
 use Rattle.std.specs.Prelude.{Contains}
-use Rattle.std.specs.Option.{option_flatten}
-use Rattle.std.proofs.lemmas.Option.{slice_get-get_or}
 use Rattle.std.proofs.lemmas.Bool.{cases_lt}
-use Rattle.xid_circle.specs.declared.Xid.{Xid}
 use Rattle.xid_circle.specs.Circle.{Precedes, given}
 use Rattle.commit_status.specs.Window.{Window, IsWindow, IsGiven, IsUpToNext, place, next_id, turns}
 use Rattle.commit_status.specs.Changes.{Truncates}

@@ -20,7 +20,7 @@ use Rattle.snapshot.proofs.Sights.{sees-top}
 use Rattle.snapshot.proofs.Levels.{level-among, level-mine, level-none, level-some, level-newest, unassigned_levels-given, prefixes-given}
 use Rattle.visibility.proofs.Makers.{active-to}
 use Rattle.heap_write.specs.Heap.{HeapView}
-use Rattle.write_ids.specs.Ids.{SameIds, GivesUnder, TakesIds}
+use Rattle.write_ids.specs.Ids.{SameIds, SameOwn, GivesUnder, TakesIds}
 use Rattle.forgetting.specs.Truncating.{IsWellTopped}
 use Rattle.forgetting.proofs.WellTopped.{before-place}
 use Rattle.write_ids.proofs.GivenIds.{given-window, given-place, given-earlier, given-first, given-status, given-top_old, given-new, given-distinct, given-top, given-top_first}
@@ -40,33 +40,35 @@ use Rattle.refinement.proofs.Sights.{Agrees-sights}
 use Rattle.sessions.specs.declared.session.Session.{Session}
 use Rattle.visibility.specs.Visible.{state_of}
 use Rattle.session_steps.specs.State.{State, session_at, seen, seen_in, reader_of}
-use Rattle.sessions.specs.Session.{kept_by}
 use Rattle.session_steps.specs.Keeps.{OwnIdsKeep, EngineKeeps}
 use Rattle.sessions.specs.Places.{open_at}
 use Rattle.session_steps.specs.Agrees.{Agrees, Sound, SessionKeeps, SessionScans}
 use Rattle.sound_entries.specs.Since.{IsExactSince}
 use Rattle.sound_entries.proofs.Since.{giving-since}
-use Rattle.session_steps.specs.Writes.{SameSession}
 use Rattle.session_steps.proofs.OwnIdsLemmas.{open-within, open-set_same, open-set_other, open-set_cases, distinct-both, keep-same, keep-given}
 use Rattle.session_steps.proofs.StateLemmas.{only-set}
 use Rattle.session_steps.proofs.Windows.{GivesEach-from, SameSight-given, in-window-given, unseen-given}
 use Rattle.session_steps.proofs.Owns.{reader-is}
-use Rattle.session_steps.proofs.Statements.{for-same, kept-at}
+use Rattle.session_steps.proofs.Statements.{kept-at}
 
 -- the state after a write: another heap, and another session in its place
 abbrev pub with_write : State → HeapView → ℕ → Session → State
 with_write st h s e = record { settings = st.settings; heap = h; sessions = set st.sessions s (Some e) }
 
+-- the session with other ids of its own
+abbrev pub with_own : Session → Own → Session
+with_own e own = record e { own = own }
+
 -- A session that has as much memory or more, and is otherwise the same.
 
-reader-same : (e e' : Session) → SameSession e e' → reader_of e' ≡ reader_of e
-reader-same e e' same = rw (same.isolation, same.own.ids, same.own.saved, same.failed, same.cursor) refl
+reader-same : (e : Session) (own : Own) → SameOwn e.own own → reader_of (with_own e own) ≡ reader_of e
+reader-same e own same = rw (same.ids, same.saved) refl
 
-pub sessions-same : (xs : List (Option Session)) (s : ℕ) (e e' : Session) → open_at xs s ≡ Some e → SameSession e e' → (o : ℕ) → option_map reader_of (open_at (set xs s (Some e')) o) ≡ option_map reader_of (open_at xs o)
-sessions-same xs s e e' at same o = elim (cases_eq o s) [
-  | inl here ↦ ap (λ o. option_map reader_of (open_at (set xs s (Some e')) o)) here
-      ∙ (ap (option_map reader_of) (open-set_same xs s (Some e') (open-within xs s e at)) ∙ (ap Some (reader-same e e' same) ∙ (sym (ap (option_map reader_of) at) ∙ ap (λ o. option_map reader_of (open_at xs o)) (sym here))))
-  | inr ne ↦ ap (option_map reader_of) (open-set_other xs s o (Some e') ne)
+pub sessions-same : (xs : List (Option Session)) (s : ℕ) (e : Session) (own : Own) → open_at xs s ≡ Some e → SameOwn e.own own → (o : ℕ) → option_map reader_of (open_at (set xs s (Some (with_own e own))) o) ≡ option_map reader_of (open_at xs o)
+sessions-same xs s e own at same o = elim (cases_eq o s) [
+  | inl here ↦ ap (λ o. option_map reader_of (open_at (set xs s (Some (with_own e own))) o)) here
+      ∙ (ap (option_map reader_of) (open-set_same xs s (Some (with_own e own)) (open-within xs s e at)) ∙ (ap Some (reader-same e own same) ∙ (sym (ap (option_map reader_of) at) ∙ ap (λ o. option_map reader_of (open_at xs o)) (sym here))))
+  | inr ne ↦ ap (option_map reader_of) (open-set_other xs s o (Some (with_own e own)) ne)
 ]
 
 -- The ids are as they were, though there may be more memory.
@@ -104,17 +106,14 @@ since-spared : (w : Window) (k : ℕ) (since : Option ℕ) → IsExactSince w si
 since-spared w k None exact = tt
 since-spared w k (Some id) exact = record { upto = upto-spared w k id exact.upto; ended = λ x active. exact.ended x (record { is_given = active.is_given; unfinished = active.unfinished }) }
 
-keeps-spared : (w : Window) (k : ℕ) (e e' : Session) → SameSession e e' → SessionKeeps w e → SessionKeeps (spared w k) e'
-keeps-spared w k e e' same h = record {
-  snapshot = λ snap is. in-window-spared w k snap (h.snapshot snap (ap kept_by (sym same.isolation) ∙ is));
-  for_cursor = for-same e e' same.isolation same.cursor h.for_cursor;
-  topmost = λ x mine. ap (λ ids. slice_get ids 0) same.own.ids ∙ h.topmost x (subst (λ ids. Contains ids x) same.own.ids mine) ∙ ap Some (sym (top-spared w k x));
-  prefixes = rw (same.own.ids, same.own.saved) h.prefixes;
-  distinct = subst AreDistinct (sym same.own.ids) h.distinct;
+keeps-spared : (w : Window) (k : ℕ) (e : Session) (own : Own) → SameOwn e.own own → SessionKeeps w e → SessionKeeps (spared w k) (with_own e own)
+keeps-spared w k e own same h = record {
+  snapshot = λ snap is. in-window-spared w k snap (h.snapshot snap is);
+  for_cursor = h.for_cursor;
+  topmost = λ x mine. ap (λ ids. slice_get ids 0) same.ids ∙ h.topmost x (subst (λ ids. Contains ids x) same.ids mine) ∙ ap Some (sym (top-spared w k x));
+  prefixes = rw (same.ids, same.saved) h.prefixes;
+  distinct = subst AreDistinct (sym same.ids) h.distinct;
 }
-
-itself : (e : Session) → SameSession e e
-itself e = record { isolation = refl; own = record { ids = refl; saved = refl }; failed = refl; cursor = refl; too_new = refl }
 
 -- what readers see of the ids
 found-spared : (slots : List (List Slot)) (w v : Window) (xs : List (Option Session)) (m : World) → SameIds w v → theory.HeapAgrees (seen_in slots w xs) m → theory.HeapAgrees (seen_in slots v xs) m
@@ -123,16 +122,12 @@ found-spared slots w v xs m same found = subst (λ t. theory.HeapAgrees (seen_in
     (λ snap kept x status is. (λ sees. sees-top snap (spared w v.spare) w x (top-spared w v.spare x) sees, λ sees. sees-top snap w (spared w v.spare) x (sym (top-spared w v.spare x)) sees)) found)
 
 -- all that readers see is as it was
-pub found-kept : (slots : List (List Slot)) (w v : Window) (xs : List (Option Session)) (s : ℕ) (e e' : Session) (m : World) → open_at xs s ≡ Some e → SameSession e e' → SameIds w v
-    → theory.HeapAgrees (seen_in slots w xs) m → theory.HeapAgrees (seen_in slots v (set xs s (Some e'))) m
-found-kept slots w v xs s e e' m at same ids found =
-    Agrees-sessions (seen_in slots v xs) m (λ o. option_map reader_of (open_at (set xs s (Some e')) o)) (sessions-same xs s e e' at same) (found-spared slots w v xs m ids found)
+pub found-kept : (slots : List (List Slot)) (w v : Window) (xs : List (Option Session)) (s : ℕ) (e : Session) (own : Own) (m : World) → open_at xs s ≡ Some e → SameOwn e.own own → SameIds w v
+    → theory.HeapAgrees (seen_in slots w xs) m → theory.HeapAgrees (seen_in slots v (set xs s (Some (with_own e own)))) m
+found-kept slots w v xs s e own m at same ids found =
+    Agrees-sessions (seen_in slots v xs) m (λ o. option_map reader_of (open_at (set xs s (Some (with_own e own))) o)) (sessions-same xs s e own at same) (found-spared slots w v xs m ids found)
 
 -- Ids are given.
-
--- the session is another, with the ids that it took
-abbrev pub with_own : Session → Own → Session
-with_own e own = record e { own = own }
 
 -- the others keep theirs
 keeps-give : (xs : List ℕ) (w v : Window) (parent : Option ℕ) (e : Session) → IsWindow v → GivesUnder w parent xs v → ((x : ℕ) → Contains e.own.ids x → IsGiven w x) → SessionKeeps w e → SessionKeeps v e
@@ -224,9 +219,12 @@ since-given (x ∷ xs) w v parent since is gives exact =
 
 -- The engine after a write, or after one that failed.
 
-module _ (st : State) (w : World) (h : HeapView) (s : ℕ) (e e' : Session) (at : session_at st s ≡ Some e) (agrees : Agrees st w) where
+module _ (st : State) (w : World) (h : HeapView) (s : ℕ) (e : Session) (own : Own) (at : session_at st s ≡ Some e) (agrees : Agrees st w) where
+  abbrev e' : Session
+  e' = with_own e own
+
   -- the session's ids stay
-  pub Sound-kept : SameSession e e' → SameIds st.heap.statuses h.statuses → h.max_pages ≡ st.heap.max_pages → StaysSoundTable st.heap h → Sound (with_write st h s e')
+  pub Sound-kept : SameOwn e.own own → SameIds st.heap.statuses h.statuses → h.max_pages ≡ st.heap.max_pages → StaysSoundTable st.heap h → Sound (with_write st h s e')
   Sound-kept same ids limit stays =
       let sound = stays.sound in
       let is = spared-is st.heap.statuses h.statuses ids in
@@ -238,21 +236,21 @@ module _ (st : State) (w : World) (h : HeapView) (s : ℕ) (e e' : Session) (at 
         stop_age = ids.stop_age ∙ agrees.sound.stop_age;
         window = rw is (window-spared statuses k agrees.sound.window);
         sessions = λ o f bt. rw is (elim (open-set_cases st.sessions s o (Some e') f (open-within st.sessions s e at) bt) [
-          | inl now ↦ subst (λ f. SessionKeeps (spared statuses k) f) (same_Some e' f now.1) (keeps-spared statuses k e e' same (agrees.sound.sessions s e at))
-          | inr other ↦ keeps-spared statuses k f f (itself f) (agrees.sound.sessions o f other.1)
+          | inl now ↦ subst (λ f. SessionKeeps (spared statuses k) f) (same_Some e' f now.1) (keeps-spared statuses k e own same (agrees.sound.sessions s e at))
+          | inr other ↦ keeps-spared statuses k f f.own (record { ids = refl; saved = refl }) (agrees.sound.sessions o f other.1)
         ]);
         by_key = (stays.in_use 0).0 agrees.sound.by_key;
         since = λ n. subst (IsExactSince h.statuses) (sym (stays.since n)) (rw is (since-spared statuses k (since_at st.heap.indexes n) (agrees.sound.since n)));
         scans = scans-put h.statuses h.indexes st.sessions s e' (open-within st.sessions s e at)
-            (scans-as h.statuses h.indexes e e' same.isolation same.cursor same.too_new (scans-still statuses h.statuses st.heap.indexes h.indexes ids.first stays.in_use stays.since e (agrees.sound.scans s e at)))
+            (scans-as h.statuses h.indexes e e' refl refl refl (scans-still statuses h.statuses st.heap.indexes h.indexes ids.first stays.in_use stays.since e (agrees.sound.scans s e at)))
             (λ o f bt. scans-still statuses h.statuses st.heap.indexes h.indexes ids.first stays.in_use stays.since f (agrees.sound.scans o f bt));
         tops = rw is (λ x done. well-spared statuses k x (agrees.sound.tops x done));
         table = sound;
       }
 
   -- the session has taken ids
-  pub Sound-given : (own : Own) (x : ℕ) → TakesIds st.heap.statuses h.statuses e.own own x → e' ≡ with_own e own → IsWindow h.statuses → h.max_pages ≡ st.heap.max_pages → StaysSoundTable st.heap h → Sound (with_write st h s e')
-  Sound-given own x takes is window limit stays =
+  pub Sound-given : (x : ℕ) → TakesIds st.heap.statuses h.statuses e.own own x → IsWindow h.statuses → h.max_pages ≡ st.heap.max_pages → StaysSoundTable st.heap h → Sound (with_write st h s e')
+  Sound-given x takes window limit stays =
       let sound = stays.sound in
       let statuses = st.heap.statuses in
       let parent = current_xid e.own.ids e.own.saved in
@@ -264,7 +262,7 @@ module _ (st : State) (w : World) (h : HeapView) (s : ℕ) (e e' : Session) (at 
         stop_age = given-stop_age takes.given statuses h.statuses parent takes.gives ∙ agrees.sound.stop_age;
         window = window;
         sessions = λ o f bt. elim (open-set_cases st.sessions s o (Some e') f (open-within st.sessions s e at) bt) [
-          | inl now ↦ subst (λ f. SessionKeeps h.statuses f) (sym is ∙ same_Some e' f now.1) (keeps-taken statuses h.statuses e own x window takes (there s e at) (agrees.sound.sessions s e at))
+          | inl now ↦ subst (λ f. SessionKeeps h.statuses f) (same_Some e' f now.1) (keeps-taken statuses h.statuses e own x window takes (there s e at) (agrees.sound.sessions s e at))
           | inr other ↦ keeps-give takes.given statuses h.statuses parent f window takes.gives (there o f other.1) (agrees.sound.sessions o f other.1)
         ];
         by_key = (stays.in_use 0).0 agrees.sound.by_key;
@@ -273,7 +271,7 @@ module _ (st : State) (w : World) (h : HeapView) (s : ℕ) (e e' : Session) (at 
             let first = given-first takes.given statuses h.statuses parent takes.gives in
             let still : (o : ℕ) (f : Session) → session_at st o ≡ Some f → SessionScans h.statuses h.indexes f = λ o f bt. scans-still statuses h.statuses st.heap.indexes h.indexes first stays.in_use stays.since f (agrees.sound.scans o f bt) in
             scans-put h.statuses h.indexes st.sessions s e' (open-within st.sessions s e at)
-            (scans-as h.statuses h.indexes e e' (ap (λ (f : Session). f.isolation) is) (ap (λ (f : Session). f.cursor) is) (ap (λ (f : Session). f.too_new) is) (still s e at)) still;
+            (scans-as h.statuses h.indexes e e' refl refl refl (still s e at)) still;
         tops = tops-given takes.given statuses h.statuses parent window takes.gives agrees.sound.tops;
         table = sound;
       }
@@ -323,10 +321,10 @@ keeps-wrote xs w v s e e' x at takes window k = record {
   own = keep-given xs w v s e e' takes.given (current_xid e.own.ids e.own.saved) at takes.ids window takes.gives k.own;
 }
 
-pub keeps-kept : (xs : List (Option Session)) (w v : Window) (s : ℕ) (e e' : Session) → open_at xs s ≡ Some e → SameSession e e' → SameIds w v → EngineKeeps xs w → EngineKeeps (set xs s (Some e')) v
-keeps-kept xs w v s e e' at same ids k = record {
-  count = length-set xs s (Some e') ∙ k.count;
-  own = rw (spared-is w v ids) (spared-own (set xs s (Some e')) w v.spare (keep-same xs w s e e' at same.own.ids k.own));
+pub keeps-kept : (xs : List (Option Session)) (w v : Window) (s : ℕ) (e : Session) (own : Own) → open_at xs s ≡ Some e → SameOwn e.own own → SameIds w v → EngineKeeps xs w → EngineKeeps (set xs s (Some (with_own e own))) v
+keeps-kept xs w v s e own at same ids k = record {
+  count = length-set xs s (Some (with_own e own)) ∙ k.count;
+  own = rw (spared-is w v ids) (spared-own (set xs s (Some (with_own e own))) w v.spare (keep-same xs w s e (with_own e own) at same.ids k.own));
 }
   where
     spared-own : (xs : List (Option Session)) (w : Window) (k : ℕ) → OwnIdsKeep xs w → OwnIdsKeep xs (spared w k)

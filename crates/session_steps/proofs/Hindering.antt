@@ -1,10 +1,7 @@
 -- A write that is refused before it is tried.
-use Rattle.std.proofs.Common.{◌≡◌, ℕ, Option, Some, None, refl, sym, ap, ◌∙◌, subst, Result, Err}
+use Rattle.std.proofs.Common.{◌≡◌, ℕ, Option, Some, None, refl, sym, ap, ◌∙◌, subst}
 use Rattle.std.specs.Option.{option_map}
-use Rattle.std.specs.Prelude.{MatchResult}
-use Rattle.std.proofs.lemmas.Result.{MatchResult-at_err}
 use Rattle.xid_circle.specs.declared.Tid.{Tid}
-use Rattle.root_index.specs.declared.index.PositionHint.{PositionHint}
 use Rattle.tuple_header.specs.declared.version.Row.{Row}
 use Rattle.history.specs.World.{World}
 use Rattle.history.specs.Moves.{change, as_failed}
@@ -21,18 +18,17 @@ use Rattle.refinement.proofs.Hindrances as hindrances
 use Rattle.sessions.specs.declared.session.Session.{Session}
 use Rattle.session_steps.specs.State.{State, session_at, put_session, with_failed, refused_state, seen, reader_of, failed_session, engine_sessions}
 use Rattle.session_steps.specs.Agrees.{Agrees, Follows, WrittenAgrees}
-use Rattle.session_steps.specs.Tests.{ReadsPlace, IsLateKey, IsHeld, RefusesInsertOfKey, RefusesChangeOfKey, MayWriteKey, MayChangeKey}
-use Rattle.session_steps.specs.Tests.{MayAct, BarsBegin}
-use Rattle.session_steps.specs.Exact.{ExactInsert, ExactUpdate, ExactDelete, Exact}
-use Rattle.session_steps.specs.Follows.{FollowsInsert, FollowsUpdate}
+use Rattle.session_steps.specs.Tests.{BarsBegin, MayAct, FindsPlace, IsLateKey, IsHeld, RefusesInsertOfKey, RefusesChangeOfKey}
+use Rattle.session_steps.specs.Exact.{ExactWrite, Exact, AnswersStep}
 use Rattle.refinement.proofs.Runs.{same_indexes, unmade}
 use Rattle.session_steps.proofs.InUse.{SameMarks, used-still, marks-put, agree}
 use Rattle.session_steps.proofs.OwnIdsLemmas.{open-within}
 use Rattle.session_steps.proofs.StateLemmas.{only-set}
 use Rattle.session_steps.proofs.Owns.{reader-is}
 use Rattle.session_steps.proofs.WrittenLemmas.{written-fails}
-use Rattle.session_steps.proofs.Searches.{late-to, not-late, held-to, begins-none, begins-some, target-of}
-use Rattle.session_steps.proofs.Follows.{Follows-same, stays-so, no_making, is_refused, led-same, Sound-fails}
+use Rattle.session_steps.proofs.Searches.{late-to, not-late, held-to, begins-none, begins-some, place-to}
+use Rattle.session_steps.proofs.Follows.{Follows-same, Follows-barred_write, stays-so, no_making, is_refused, led-same, Sound-fails}
+use Rattle.session_steps.proofs.Writing.{answers-write}
 
 -- A later commit, or another session, has written the key.
 
@@ -82,87 +78,73 @@ busies st s o e write at held begins w agrees =
     stays-so st w (step_of s write) (reply.Refused (refusal.Busy o)) (is_refused s write (refusal.Busy o)) agrees g
 
 -- what an insert reads is none of the key, and what an update or a deletion reads is a row of it
-check_insert : (st : State) (s : ℕ) (e : Session) (text : RowToWrite) → FitsRow text → ReadsPlace st s e text.key None
+asks_none : (st : State) (s : ℕ) (e : Session) (text : RowToWrite) → FitsRow text → MayAct st s e → FindsPlace st.heap e text.key None
     → (w : World) → Agrees st w → (o : Option Row) × BeginsWrite (seen st) s (reader_of e) text.key o × Asks (inserts text) o
-check_insert st s e text fits reads w agrees = (None, begins-none st w s e text.key agrees reads, (fits, refl))
+asks_none st s e text fits acts finds w agrees = (None, begins-none st w s e text.key agrees acts finds, (fits, refl))
 
-check_update : (st : State) (s : ℕ) (e : Session) (p : Tid) (write : WriteStep) → ((row : Row) → Asks write (Some row)) → ReadsPlace st s e (key_of write) (Some p)
+asks_some : (st : State) (s : ℕ) (e : Session) (p : Tid) (write : WriteStep) → ((row : Row) → Asks write (Some row)) → MayAct st s e → FindsPlace st.heap e (key_of write) (Some p)
     → (w : World) → Agrees st w → (o : Option Row) × BeginsWrite (seen st) s (reader_of e) (key_of write) o × Asks write o
-check_update st s e p write asks reads w agrees =
-    let t = target-of st w s e (key_of write) p agrees reads in
-    (Some t.0.row, begins-some st s e (key_of write) p t.0 reads t.1, asks t.0.row)
+asks_some st s e p write asks acts finds w agrees =
+    let t = place-to st w s e (key_of write) (Some p) agrees acts.1 finds in
+    (Some t.0.row, begins-some st s e (key_of write) p t.0 acts t.1, asks t.0.row)
 
 -- Inserts.
 
-insert-hindered : (st : State) (s : ℕ) (text : RowToWrite) (r : Refusal) → FitsRow text → RefusesInsertOfKey st s text.key r → Follows st (step.Insert s text) (reply.Refused r) (refused_state st s r)
-insert-hindered st s text refusal.AlreadyThere fits (e, p, reads) = λ w agrees.
-    let t = target-of st w s e text.key p agrees reads in
+insert-hindered : (st : State) (s : ℕ) (e : Session) (text : RowToWrite) (r : Refusal) → FitsRow text → MayAct st s e → RefusesInsertOfKey st e text.key r → Follows st (step.Insert s text) (reply.Refused r) (refused_state st s r)
+insert-hindered st s e text refusal.AlreadyThere fits acts (p, finds) = λ w agrees.
+    let t = place-to st w s e text.key (Some p) agrees acts.1 finds in
     Follows-same st (step.Insert s text) (reply.Refused refusal.AlreadyThere) tt
-    (hindrances.Follows-already_there (seen st) s (reader_of e) text t.0.row (begins-some st s e text.key p t.0 reads t.1) fits) w agrees
-insert-hindered st s text refusal.Conflict fits d = conflicts st s d.session (inserts text) d.reads.at d.delays (check_insert st s d.session text fits d.reads)
-insert-hindered st s text (refusal.Busy o) fits d = busies st s o d.session (inserts text) d.reads.at d.delays (check_insert st s d.session text fits d.reads)
-insert-hindered st s text _ fits is = absurd is
-
-pub Follows-hindered_insert : (st : State) (s : ℕ) (row : Row) (r : Refusal) → RefusesInsertOfKey st s row.key r → FollowsInsert st s row (reply.Refused r) (refused_state st s r)
-Follows-hindered_insert st s row r h text fits same = insert-hindered st s text r fits (subst (λ (row : Row). RefusesInsertOfKey st s row.key r) same h)
+    (hindrances.Follows-already_there (seen st) s (reader_of e) text t.0.row (begins-some st s e text.key p t.0 acts t.1) fits) w agrees
+insert-hindered st s e text refusal.Conflict fits acts d = conflicts st s e (inserts text) acts.1 d.1 (asks_none st s e text fits acts d.0)
+insert-hindered st s e text (refusal.Busy o) fits acts d = busies st s o e (inserts text) acts.1 d.1 (asks_none st s e text fits acts d.0)
+insert-hindered st s e text _ fits acts d = absurd d.1
 
 -- Updates and deletions.
 
-change-hindered : (st : State) (s : ℕ) (write : WriteStep) (r : Refusal) → ((row : Row) → Asks write (Some row)) → hindrances.NeedsRow write → RefusesChangeOfKey st s (key_of write) r
+change-hindered : (st : State) (s : ℕ) (e : Session) (write : WriteStep) (r : Refusal) → ((row : Row) → Asks write (Some row)) → hindrances.NeedsRow write → MayAct st s e → RefusesChangeOfKey st e (key_of write) r
     → Follows st (step_of s write) (reply.Refused r) (refused_state st s r)
-change-hindered st s write refusal.NotThere asks needs (e, reads) = λ w agrees.
-    Follows-same st (step_of s write) (reply.Refused refusal.NotThere) (is_refused s write refusal.NotThere) (hindrances.Follows-not_there (seen st) s (reader_of e) write (begins-none st w s e (key_of write) agrees reads) needs) w agrees
-change-hindered st s write refusal.Conflict asks needs d = conflicts st s d.1.session write d.1.reads.at d.1.delays (check_update st s d.1.session d.0 write asks d.1.reads)
-change-hindered st s write (refusal.Busy o) asks needs d = busies st s o d.1.session write d.1.reads.at d.1.delays (check_update st s d.1.session d.0 write asks d.1.reads)
-change-hindered st s write _ asks needs is = absurd is
+change-hindered st s e write refusal.NotThere asks needs acts finds = λ w agrees.
+    Follows-same st (step_of s write) (reply.Refused refusal.NotThere) (is_refused s write refusal.NotThere)
+    (hindrances.Follows-not_there (seen st) s (reader_of e) write (begins-none st w s e (key_of write) agrees acts finds) needs) w agrees
+change-hindered st s e write refusal.Conflict asks needs acts d = conflicts st s e write acts.1 d.2 (asks_some st s e d.0 write asks acts d.1)
+change-hindered st s e write (refusal.Busy o) asks needs acts d = busies st s o e write acts.1 d.2 (asks_some st s e d.0 write asks acts d.1)
+change-hindered st s e write _ asks needs acts d = absurd d.2
 
-pub Follows-hindered_update : (st : State) (s : ℕ) (row : Row) (r : Refusal) → RefusesChangeOfKey st s row.key r → FollowsUpdate st s row (reply.Refused r) (refused_state st s r)
-Follows-hindered_update st s row r h text fits same =
-    change-hindered st s (updates text) r (λ row. (fits, refl)) fits (subst (λ (row : Row). RefusesChangeOfKey st s row.key r) same h)
+-- What such a refusal leaves: it names no fault of a write that was tried.
 
-pub Follows-hindered_delete : (st : State) (s key : ℕ) (r : Refusal) → RefusesChangeOfKey st s key r → Follows st (step.Delete s key) (reply.Refused r) (refused_state st s r)
-Follows-hindered_delete st s key r h = change-hindered st s (deletes key) r (λ row. refl) tt h
+exact-insert : (st : State) (s : ℕ) (e : Session) (write : WriteStep) (key : ℕ) (r : Refusal) → RefusesInsertOfKey st e key r → ExactWrite st s write (reply.Refused r) (refused_state st s r)
+exact-insert st s e write key refusal.NoRoom h = absurd h.1
+exact-insert st s e write key refusal.NeedsFreeze h = absurd h.1
+exact-insert st s e write key refusal.NoMemory h = absurd h.1
+exact-insert st s e write key _ h = refl
 
--- What such a refusal leaves.
+exact-change : (st : State) (s : ℕ) (e : Session) (write : WriteStep) (key : ℕ) (r : Refusal) → RefusesChangeOfKey st e key r → ExactWrite st s write (reply.Refused r) (refused_state st s r)
+exact-change st s e write key refusal.NoRoom h = absurd h.2
+exact-change st s e write key refusal.NeedsFreeze h = absurd h.2
+exact-change st s e write key refusal.NoMemory h = absurd h.2
+exact-change st s e write key _ h = refl
 
-pub exact-hindered_insert : (st : State) (s : ℕ) (row : Row) (r : Refusal) → RefusesInsertOfKey st s row.key r → ExactInsert st s row (reply.Refused r) (refused_state st s r)
-exact-hindered_insert st s row refusal.NoRoom h = absurd h
-exact-hindered_insert st s row refusal.NeedsFreeze h = absurd h
-exact-hindered_insert st s row refusal.NoMemory h = absurd h
-exact-hindered_insert st s row _ h = refl
+pub answers-hindered_insert : (st : State) (s : ℕ) (e : Session) (text : RowToWrite) (r : Refusal) → FitsRow text → MayAct st s e → RefusesInsertOfKey st e text.key r → AnswersStep st (step.Insert s text) (reply.Refused r) (refused_state st s r)
+answers-hindered_insert st s e text r fits acts h = record { follows = insert-hindered st s e text r fits acts h; exact = exact-insert st s e (inserts text) text.key r h }
 
-pub exact-hindered_update : (st : State) (s : ℕ) (row : Row) (r : Refusal) → RefusesChangeOfKey st s row.key r → ExactUpdate st s row (reply.Refused r) (refused_state st s r)
-exact-hindered_update st s row refusal.NoRoom h = absurd h
-exact-hindered_update st s row refusal.NeedsFreeze h = absurd h
-exact-hindered_update st s row refusal.NoMemory h = absurd h
-exact-hindered_update st s row _ h = refl
+pub answers-hindered_update : (st : State) (s : ℕ) (e : Session) (text : RowToWrite) (r : Refusal) → FitsRow text → MayAct st s e → RefusesChangeOfKey st e text.key r → AnswersStep st (step.Update s text) (reply.Refused r) (refused_state st s r)
+answers-hindered_update st s e text r fits acts h =
+    record { follows = change-hindered st s e (updates text) r (λ row. (fits, refl)) fits acts h; exact = exact-change st s e (updates text) text.key r h }
 
-pub exact-hindered_delete : (st : State) (s key : ℕ) (r : Refusal) → RefusesChangeOfKey st s key r → ExactDelete st s key (reply.Refused r) (refused_state st s r)
-exact-hindered_delete st s key refusal.NeedsFreeze h = absurd h
-exact-hindered_delete st s key refusal.NoMemory h = absurd h
-exact-hindered_delete st s key _ h = refl
+pub answers-hindered_delete : (st : State) (s : ℕ) (e : Session) (key : ℕ) (r : Refusal) → MayAct st s e → RefusesChangeOfKey st e key r → AnswersStep st (step.Delete s key) (reply.Refused r) (refused_state st s r)
+answers-hindered_delete st s e key r acts h = record { follows = change-hindered st s e (deletes key) r (λ row. refl) tt acts h; exact = exact-change st s e (deletes key) key r h }
 
 -- A session that is not open, or has failed, leaves all as it was.
 
-pub exact-unready_insert : (st : State) (s : ℕ) (row : Row) (r : Refusal) → BarsFree (engine_sessions st) s r → ExactInsert st s row (reply.Refused r) st
-exact-unready_insert st s row refusal.Conflict is = absurd is
-exact-unready_insert st s row refusal.NoRoom is = absurd is
-exact-unready_insert st s row refusal.NeedsFreeze is = absurd is
-exact-unready_insert st s row refusal.NoMemory is = absurd is
-exact-unready_insert st s row _ is = refl
+exact-unready : (st : State) (s : ℕ) (write : WriteStep) (r : Refusal) → BarsFree (engine_sessions st) s r → ExactWrite st s write (reply.Refused r) st
+exact-unready st s write refusal.Conflict is = absurd is
+exact-unready st s write refusal.NoRoom is = absurd is
+exact-unready st s write refusal.NeedsFreeze is = absurd is
+exact-unready st s write refusal.NoMemory is = absurd is
+exact-unready st s write _ is = refl
 
-pub exact-unready_update : (st : State) (s : ℕ) (row : Row) (r : Refusal) → BarsFree (engine_sessions st) s r → ExactUpdate st s row (reply.Refused r) st
-exact-unready_update st s row refusal.Conflict is = absurd is
-exact-unready_update st s row refusal.NoRoom is = absurd is
-exact-unready_update st s row refusal.NeedsFreeze is = absurd is
-exact-unready_update st s row refusal.NoMemory is = absurd is
-exact-unready_update st s row _ is = refl
-
-pub exact-unready_delete : (st : State) (s key : ℕ) (r : Refusal) → BarsFree (engine_sessions st) s r → ExactDelete st s key (reply.Refused r) st
-exact-unready_delete st s key refusal.Conflict is = absurd is
-exact-unready_delete st s key refusal.NeedsFreeze is = absurd is
-exact-unready_delete st s key refusal.NoMemory is = absurd is
-exact-unready_delete st s key _ is = refl
+pub answers-unready : (st : State) (s : ℕ) (write : WriteStep) (r : Refusal) → BarsFree (engine_sessions st) s r → AnswersStep st (step_of s write) (reply.Refused r) st
+answers-unready st s write r is = answers-write st s write (reply.Refused r) st (Follows-barred_write st s write r is) (exact-unready st s write r is)
 
 pub exact-barred_begin : (st : State) (s : ℕ) (r : Refusal) → BarsBegin st s r → Exact st (step.Begin s) (reply.Refused r) st
 exact-barred_begin st s refusal.NoMemory is = absurd is
@@ -177,13 +159,3 @@ pub barred-begin : (st : State) (s : ℕ) (r : Refusal) → (r ≡ refusal.NotOp
 barred-begin st s refusal.NoSuchSession ne is = is
 barred-begin st s refusal.NotOpen ne is = absurd (ne refl)
 barred-begin st s _ ne is = absurd is
-
--- What keeps a session that may act from a write.
-
-pub hinders-insert : (st : State) (s key : ℕ) (e : Session) {A : Type 0} (r : Result A Refusal) (refusal : Refusal) → r ≡ Err refusal → MayAct st s e
-    → ((s : ℕ) → MayAct st s e → MatchResult r (λ _. MayWriteKey st s key None) (λ refusal. RefusesInsertOfKey st s key refusal)) → RefusesInsertOfKey st s key refusal
-hinders-insert st s key e r refusal is acts says = MatchResult-at_err (λ _. MayWriteKey st s key None) (λ refusal. RefusesInsertOfKey st s key refusal) refusal is (says s acts)
-
-pub hinders-change : (st : State) (s key : ℕ) (e : Session) (r : Result (Tid × Option PositionHint) Refusal) (refusal : Refusal) → r ≡ Err refusal → MayAct st s e
-    → ((s : ℕ) → MayAct st s e → MatchResult r (λ found. MayChangeKey st s key found.0) (λ refusal. RefusesChangeOfKey st s key refusal)) → RefusesChangeOfKey st s key refusal
-hinders-change st s key e r refusal is acts says = MatchResult-at_err (λ found. MayChangeKey st s key found.0) (λ refusal. RefusesChangeOfKey st s key refusal) refusal is (says s acts)

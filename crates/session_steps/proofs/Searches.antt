@@ -25,8 +25,7 @@ use Rattle.visibility.specs.Visible.{state_of}
 use Rattle.session_steps.specs.State.{State, session_at, seen, position_of, reader_of}
 use Rattle.sessions.specs.Session.{statement_snapshot}
 use Rattle.session_steps.specs.Agrees.{Agrees}
-use Rattle.session_steps.specs.Tests.{FindsPlace, IsLateBy, IsHeldUnder, IsUncontested, ConflictsWrite, RefusesInsertOfKey}
-use Rattle.session_steps.specs.Tests as tests
+use Rattle.session_steps.specs.Tests.{MayAct, FindsPlace, IsLateBy, IsHeldUnder, IsUncontested, ConflictsWrite, MayInsertKey, RefusesInsertOfKey, RefusesChangeOfKey}
 use Rattle.session_steps.proofs.Owns.{reader-is}
 use Rattle.session_steps.proofs.Statements.{statement_sight, statement-sees, statement-misses}
 
@@ -126,16 +125,11 @@ held-from st w e key x agrees some =
 
 -- Tests that are passed, or not.
 
-pub begins-none : (st : State) (w : World) (s : ℕ) (e : Session) (key : ℕ) → Agrees st w → tests.ReadsPlace st s e key None → BeginsWrite (seen st) s (reader_of e) key None
-begins-none st w s e key agrees reads =
-    record { at = reader-is st s e reads.at; sound = reads.sound; bare = ap position_of reads.bare; finds = place-to st w s e key None agrees reads.at reads.finds }
+pub begins-none : (st : State) (w : World) (s : ℕ) (e : Session) (key : ℕ) → Agrees st w → MayAct st s e → FindsPlace st.heap e key None → BeginsWrite (seen st) s (reader_of e) key None
+begins-none st w s e key agrees acts finds = record { at = reader-is st s e acts.1; sound = acts.2; bare = ap position_of acts.3; finds = place-to st w s e key None agrees acts.1 finds }
 
-pub target-of : (st : State) (w : World) (s : ℕ) (e : Session) (key : ℕ) (p : Tid) → Agrees st w → tests.ReadsPlace st s e key (Some p) → (t : Version) × IsTarget st e key p t
-target-of st w s e key p agrees reads = place-to st w s e key (Some p) agrees reads.at reads.finds
-
-pub begins-some : (st : State) (s : ℕ) (e : Session) (key : ℕ) (p : Tid) (t : Version) → tests.ReadsPlace st s e key (Some p) → IsTarget st e key p t → BeginsWrite (seen st) s (reader_of e) key (Some t.row)
-begins-some st s e key p t reads target =
-    record { at = reader-is st s e reads.at; sound = reads.sound; bare = ap position_of reads.bare; finds = (p, t, target.there, target.of_key, (target.seen, refl)) }
+pub begins-some : (st : State) (s : ℕ) (e : Session) (key : ℕ) (p : Tid) (t : Version) → MayAct st s e → IsTarget st e key p t → BeginsWrite (seen st) s (reader_of e) key (Some t.row)
+begins-some st s e key p t acts target = record { at = reader-is st s e acts.1; sound = acts.2; bare = ap position_of acts.3; finds = (p, t, target.there, target.of_key, (target.seen, refl)) }
 
 pub free-with : (st : State) (w : World) (s : ℕ) (e : Session) (key : ℕ) (found : Option Row) → Agrees st w → BeginsWrite (seen st) s (reader_of e) key found → IsUncontested st e key → Free (seen st) s (reader_of e) key found
 free-with st w s e key found agrees begins free =
@@ -143,14 +137,17 @@ free-with st w s e key found agrees begins free =
 
 -- what delays a session, delays it of what it reads
 
-pub delayed-insert : (st : State) (s key : ℕ) (e : Session) (r : Refusal) → tests.ReadsPlace st s e key None → ConflictsWrite st e key r → RefusesInsertOfKey st s key r
-delayed-insert st s key e refusal.Conflict reads delays = record { session = e; reads = reads; delays = delays }
-delayed-insert st s key e (refusal.Busy o) reads delays = record { session = e; reads = reads; delays = delays }
-delayed-insert st s key e _ reads delays = absurd delays
+delayed-insert : (st : State) (e : Session) (key : ℕ) (r : Refusal) → FindsPlace st.heap e key None → ConflictsWrite st e key r → RefusesInsertOfKey st e key r
+delayed-insert st e key refusal.AlreadyThere finds delays = absurd delays
+delayed-insert st e key _ finds delays = (finds, delays)
 
--- What a session that may act, and reads this of the key, may do.
+pub delayed-change : (st : State) (e : Session) (key : ℕ) (p : Tid) (r : Refusal) → FindsPlace st.heap e key (Some p) → ConflictsWrite st e key r → RefusesChangeOfKey st e key r
+delayed-change st e key p refusal.NotThere finds delays = absurd delays
+delayed-change st e key p _ finds delays = (p, finds, delays)
 
-pub may-insert : {A : Type 0} (st : State) (s key : ℕ) (e : Session) (r : Result A Refusal) → tests.ReadsPlace st s e key None → MatchResult r (λ _. IsUncontested st e key) (λ refusal. ConflictsWrite st e key refusal)
-    → MatchResult r (λ _. tests.MayWriteKey st s key None) (λ refusal. RefusesInsertOfKey st s key refusal)
-may-insert st s key e (Ok u) reads free = record { session = e; reads = reads; free = free }
-may-insert st s key e (Err refusal) reads delays = delayed-insert st s key e refusal reads delays
+-- What a session may do that reads no row of the key.
+
+pub may-insert : {A : Type 0} (st : State) (e : Session) (key : ℕ) (r : Result A Refusal) → FindsPlace st.heap e key None → MatchResult r (λ _. IsUncontested st e key) (λ refusal. ConflictsWrite st e key refusal)
+    → MatchResult r (λ _. MayInsertKey st e key) (λ refusal. RefusesInsertOfKey st e key refusal)
+may-insert st e key (Ok u) finds free = (finds, free)
+may-insert st e key (Err refusal) finds delays = delayed-insert st e key refusal finds delays

@@ -3,7 +3,7 @@ use Rattle.std.proofs.Common.{◌≡◌, ℕ, suc, ◌+◌, ◌<◌, false, List
 use Rattle.std.specs.List.{flat_map}
 use Rattle.std.specs.Option.{option_map}
 use Rattle.std.proofs.lemmas.Bool.{cases_lt}
-use Rattle.std.proofs.lemmas.Option.{same_Some, none-some}
+use Rattle.std.proofs.lemmas.Option.{same_Some, none-some, slice_get_within}
 use Rattle.xid_circle.specs.declared.Tid.{Tid}
 use Rattle.tuple_header.specs.declared.version.Row.{Row}
 use Rattle.tuple_header.specs.Version.{Version}
@@ -24,7 +24,7 @@ use Rattle.sessions.specs.declared.session.Session.{Session}
 use Rattle.session_steps.specs.State.{State, session_at, seen, reader_of}
 use Rattle.session_steps.specs.Agrees.{Agrees}
 use Rattle.session_steps.specs.Takes.{ReadsBy}
-use Rattle.session_steps.specs.Tickets.{statement_sight, TakesTicket, AreViewed, AreAllOf, TakesAllPages, TicketsHoldTheView}
+use Rattle.session_steps.specs.Tickets.{statement_sight, SeesOnPage, TakesTicket, AreViewed, AreAllOf, TakesAllPages, TicketsHoldTheView}
 use Rattle.session_steps.proofs.Owns.{reader-is}
 use Rattle.session_steps.proofs.Searches.{statement_seen}
 use Rattle.session_steps.proofs.SessionReader.{as-session, by_statement}
@@ -120,11 +120,11 @@ module _ (st : State) (w : World) (s : ℕ) (e : Session) (agrees : Agrees st w)
   each-scan : (tickets : List TicketView) → TakesAllPages st s tickets → (i : ℕ) (ticket : TicketView) → slice_get tickets i ≡ Some ticket
       → ScansHeap (statement_sight st e) (start_of (0 + i)) (start_of (0 + i + 1)) (ticket_rows ticket)
   each-scan tickets takes i ticket is =
-      let took = takes.each i ticket is in
+      let took = (takes.each i ticket is).sees in
       let same : took.session ≡ e = same_Some took.session e (sym took.there ∙ at) in
       let number : i ≡ 0 + i = omega arith in
       subst (λ (n : ℕ). ScansHeap (statement_sight st e) (start_of n) (start_of (n + 1)) (ticket_rows ticket)) number
-      (subst (λ (e : Session). ScansHeap (statement_sight st e) (start_of i) (start_of (i + 1)) (ticket_rows ticket)) same took.rows.scans)
+      (subst (λ (e : Session). ScansHeap (statement_sight st e) (start_of i) (start_of (i + 1)) (ticket_rows ticket)) same took.all.scans)
 
   on-all : (tickets : List TicketView) → TakesAllPages st s tickets → AreAllOf (view w.history opened.0) (flat_map ticket_rows tickets)
   on-all tickets takes =
@@ -134,20 +134,24 @@ module _ (st : State) (w : World) (s : ℕ) (e : Session) (agrees : Agrees st w)
       (gathered (subst (λ (n : ℕ). ScansHeap (statement_sight st e) (start_of 0) (start_of n) (flat_map ticket_rows tickets)) end (scans-all (statement_sight st e) 0 tickets (each-scan tickets takes))))
       from_first none-behind-all
 
+-- Who reads as the session does sees what it sees.
+pub sees-on : (st : State) (s number : ℕ) (e : Session) (r : Reader) (page : PageView) (rows : List Row) → session_at st s ≡ Some e → e.failed ≡ false → ReadsBy st e (by_statement st e) r
+    → slice_get st.heap.pages.pages number ≡ Some page → AreSeenOn page r rows → SeesOnPage st s number rows
+sees-on st s number e r page rows at sound reads on seen = record {
+  session = e;
+  there = at;
+  sound = sound;
+  in_use = slice_get_within st.heap.pages.pages number page on;
+  all = as-session st e (by_statement st e) r (λ w snap own. TakesAll (record { heap = st.heap; statuses = w; sees = IsVisible w snap own.ids }) (start_of number) rows) reads (seen st.heap number on);
+}
+
 -- A ticket is taken.
 
 -- of who reads as the session does
 module _ (st : State) (s number : ℕ) (e : Session) (r : Reader) (page : PageView) (ticket : TicketView) where
   took-at : session_at st s ≡ Some e → e.failed ≡ false → ReadsBy st e (by_statement st e) r → slice_get st.heap.pages.pages number ≡ Some page → ticket.page ≡ page
       → AreSeenOn page r (ticket_rows ticket) → TakesTicket st s number ticket
-  took-at at sound reads on is seen = record {
-    session = e;
-    there = at;
-    sound = sound;
-    page = on ∙ ap Some (sym is);
-    rows = as-session st e (by_statement st e) r
-        (λ w snap own. TakesAll (record { heap = st.heap; statuses = w; sees = IsVisible w snap own.ids }) (start_of number) (ticket_rows ticket)) reads (seen st.heap number on);
-  }
+  took-at at sound reads on is seen = record { page = on ∙ ap Some (sym is); sees = sees-on st s number e r page (ticket_rows ticket) at sound reads on seen }
 
   -- the page was shared before, which changed nothing
   pub took : (now : State) → now ≡ st → session_at now s ≡ Some e → e.failed ≡ false → ReadsBy now e (by_statement now e) r → slice_get st.heap.pages.pages number ≡ Some page
@@ -155,14 +159,11 @@ module _ (st : State) (s number : ℕ) (e : Session) (r : Reader) (page : PageVi
   took now same at sound reads on is seen =
       took-at (subst (λ (v : State). session_at v s ≡ Some e) same at) sound (subst (λ (v : State). ReadsBy v e (by_statement v e) r) same reads) on is seen
 
--- its rows are the view's
-ticket-viewed : (st : State) (s : ℕ) (e : Session) (number : ℕ) (rows : List Row) → session_at st s ≡ Some e → TakesAll (statement_sight st e) (start_of number) rows → AreViewed st s rows
-ticket-viewed st s e number rows at takes w agrees =
-    let m = opened st w s e agrees at in
-    (m.0, m.1, on-page st w s e agrees at number rows takes)
-
-pub taken-viewed : (st : State) (s number : ℕ) (ticket : TicketView) → TakesTicket st s number ticket → AreViewed st s (ticket_rows ticket)
-taken-viewed st s number ticket takes = ticket-viewed st s takes.session number (ticket_rows ticket) takes.there takes.rows
+-- the rows are the view's
+pub rows-viewed : (st : State) (s number : ℕ) (rows : List Row) → SeesOnPage st s number rows → AreViewed st s rows
+rows-viewed st s number rows sees w agrees =
+    let m = opened st w s sees.session agrees sees.there in
+    (m.0, m.1, on-page st w s sees.session agrees sees.there number rows sees.all)
 
 -- who is open in the world is open
 open-there : (st : State) (w : World) (s : ℕ) (m : OpenSession) → Agrees st w → w.session s ≡ Some m → (e : Session) × (session_at st s ≡ Some e)

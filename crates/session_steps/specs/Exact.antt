@@ -1,13 +1,11 @@
 -- What the history leaves to an engine: what a write does to its own ids and pages, when it finds no id, no room or no memory,
 -- and what a refusal leaves as it was.
 use Rattle.std.specs.Prelude.{◌≡◌, ℕ, ◌<◌, ◌≤◌, length, Bool, true, false, Option, Some, None, IsSome, Result, Ok, Err, slice_set}
-use Rattle.std.specs.Option.{option_map}
 use Rattle.xid_circle.specs.declared.Tid.{Tid}
-use Rattle.tuple_header.specs.declared.version.Row.{Row}
 use Rattle.commit_status.specs.declared.status.Status.TheVariants as status
 use Rattle.commit_status.specs.Window.{next_id}
+use Rattle.snapshot.specs.Own.{Own}
 use Rattle.snapshot.specs.Snap.{Snap, taken}
-use Rattle.heap_write.specs.Heap.{HeapView}
 use Rattle.heap_write.specs.Writes.{Prunes, Applies}
 use Rattle.heap_write.specs.Refusals.{Unapplied}
 use Rattle.heap_write.specs.declared.applying.ApplyFault.{ApplyFault}
@@ -19,68 +17,41 @@ use Rattle.calls.specs.declared.step.Step.TheVariants as step
 use Rattle.calls.specs.declared.reply.Reply.{Reply}
 use Rattle.calls.specs.declared.reply.Reply.TheVariants as reply
 use Rattle.calls.specs.declared.reply.Refusal.TheVariants as refusal
-use Rattle.calls.specs.Words.{PlanToApply, row_of}
+use Rattle.calls.specs.Words.{PlanToApply}
+use Rattle.calls.specs.Writes.{WriteStep, inserts, updates, deletes}
 use Rattle.refinement.specs.Cursors.{heap_start}
 use Rattle.sessions.specs.declared.session.Session.{Session}
 use Rattle.sessions.specs.declared.session.SessionIsolation.TheVariants.{BySnapshot, ByStatement}
 use Rattle.table_scans.specs.declared.progress.CursorScan.{CursorScan}
 use Rattle.table_scans.specs.declared.progress.CursorScan.TheVariants.{Rows, Keys}
 use Rattle.table_scans.specs.declared.progress.Scan.TheVariants.{Index, Heap}
-use Rattle.session_steps.specs.State.{State, session_at, engine_index, put_session, map_session, with_cursor, with_kept, failed_session, horizon_of}
+use Rattle.session_steps.specs.State.{State, session_at, engine_index, put_session, map_session, with_cursor, with_kept, refused_state, horizon_of}
 use Rattle.sessions.specs.Session.{IsByStatement, is_too_new, owns_of}
 use Rattle.session_steps.specs.Agrees.{FollowsByNotes}
 use Rattle.session_steps.specs.Changes.{Opens, Closes, SetsSavepoint, Releases, SessionBecomes, RollsBack}
 use Rattle.session_steps.specs.Takes.{HandsOut, HandsOutByKeys}
-use Rattle.session_steps.specs.Tests.{MayWriteKey, MayChangeKey}
-use Rattle.session_steps.specs.Tickets.{AreTicketRows, RefusesTicket}
-use Rattle.session_steps.specs.Writes.{TriesInsert, TriesUpdate, TriesDelete}
+use Rattle.session_steps.specs.Tests.{MayAct, MayTry}
+use Rattle.session_steps.specs.Tickets.{SeesOnPage, RefusesRows}
+use Rattle.session_steps.specs.Writes.{TriesWrite}
 
--- the session tried to write: nothing but the heap and the session itself changes
-pub record Tried (old new : State) (s : ℕ) (session : Session) (tries : HeapView → HeapView → Session → Session → Type 0) : Type 0 where
-  pub now : Session
-  pub is : new ≡ record { settings = old.settings; heap = new.heap; sessions = slice_set old.sessions s (Some now) }
-  pub tried : tries old.heap new.heap session now
-
--- it tried to insert the row, of whose key it reads none
-pub record InsertTried (old new : State) (s : ℕ) (row : Row) (outcome : Result (Unit {0}) WriteFault) : Type 0 where
-  pub may : MayWriteKey old s row.key None
-  pub tried : Tried old new s may.session (λ h h' e e'. TriesInsert h h' e e' row outcome)
-
--- to update the version of the key at the place where it may
-pub record UpdateTried (old new : State) (s : ℕ) (row : Row) (outcome : Result (Unit {0}) WriteFault) : Type 0 where
+-- the session tried to write, as it may: nothing but the heap and its own ids changes
+pub record WriteTried (old new : State) (s : ℕ) (write : WriteStep) (outcome : Result (Unit {0}) WriteFault) : Type 0 where
+  pub session : Session
+  pub acts : MayAct old s session
   pub place : Tid
-  pub may : MayChangeKey old s row.key place
-  pub tried : Tried old new s may.session (λ h h' e e'. TriesUpdate h h' e e' place row (horizon_of old) outcome)
+  pub may : MayTry old session write place
+  pub own : Own
+  pub is : new ≡ record { settings = old.settings; heap = new.heap; sessions = slice_set old.sessions s (Some (record session { own = own })) }
+  pub tried : TriesWrite write place (horizon_of old) old.heap new.heap session.own own outcome
 
--- or to delete it
-pub record DeleteTried (old new : State) (s key : ℕ) (outcome : Result (Unit {0}) WriteFault) : Type 0 where
-  pub place : Tid
-  pub may : MayChangeKey old s key place
-  pub tried : Tried old new s may.session (λ h h' e e'. TriesDelete h h' e e' place outcome)
-
--- A conflict makes the session fail, and any refusal before the write is tried leaves all as it was.
-abbrev pub ExactInsert : State → ℕ → Row → Reply → State → Type 0
-ExactInsert old s row reply.Done new = InsertTried old new s row (Ok tt)
-ExactInsert old s row (reply.Refused refusal.NeedsFreeze) new = InsertTried old new s row (Err fault.NeedsFreeze)
-ExactInsert old s row (reply.Refused refusal.NoRoom) new = InsertTried old new s row (Err fault.NoRoom)
-ExactInsert old s row (reply.Refused refusal.NoMemory) new = InsertTried old new s row (Err fault.NoMemory)
-ExactInsert old s row (reply.Refused refusal.Conflict) new = new ≡ put_session old s (option_map failed_session (session_at old s))
-ExactInsert old s row reply new = new ≡ old
-
-abbrev pub ExactUpdate : State → ℕ → Row → Reply → State → Type 0
-ExactUpdate old s row reply.Done new = UpdateTried old new s row (Ok tt)
-ExactUpdate old s row (reply.Refused refusal.NeedsFreeze) new = UpdateTried old new s row (Err fault.NeedsFreeze)
-ExactUpdate old s row (reply.Refused refusal.NoRoom) new = UpdateTried old new s row (Err fault.NoRoom)
-ExactUpdate old s row (reply.Refused refusal.NoMemory) new = UpdateTried old new s row (Err fault.NoMemory)
-ExactUpdate old s row (reply.Refused refusal.Conflict) new = new ≡ put_session old s (option_map failed_session (session_at old s))
-ExactUpdate old s row reply new = new ≡ old
-
-abbrev pub ExactDelete : State → ℕ → ℕ → Reply → State → Type 0
-ExactDelete old s key reply.Done new = DeleteTried old new s key (Ok tt)
-ExactDelete old s key (reply.Refused refusal.NeedsFreeze) new = DeleteTried old new s key (Err fault.NeedsFreeze)
-ExactDelete old s key (reply.Refused refusal.NoMemory) new = DeleteTried old new s key (Err fault.NoMemory)
-ExactDelete old s key (reply.Refused refusal.Conflict) new = new ≡ put_session old s (option_map failed_session (session_at old s))
-ExactDelete old s key reply new = new ≡ old
+-- A conflict makes the session fail, and any other refusal before the write is tried leaves all as it was.
+abbrev pub ExactWrite : State → ℕ → WriteStep → Reply → State → Type 0
+ExactWrite old s write reply.Done new = WriteTried old new s write (Ok tt)
+ExactWrite old s write (reply.Refused refusal.NeedsFreeze) new = WriteTried old new s write (Err fault.NeedsFreeze)
+ExactWrite old s write (reply.Refused refusal.NoRoom) new = WriteTried old new s write (Err fault.NoRoom)
+ExactWrite old s write (reply.Refused refusal.NoMemory) new = WriteTried old new s write (Err fault.NoMemory)
+ExactWrite old s write (reply.Refused refusal) new = new ≡ refused_state old s refusal
+ExactWrite old s write reply new = ⊥
 
 -- one page is pruned at the horizon, and nothing else changes
 pub record Cleans (old new : State) (p : ℕ) : Type 0 where
@@ -141,9 +112,9 @@ Exact old (step.Begin s) reply.Done new = Opens old new s (BySnapshot (snapshot_
 Exact old (step.Begin s) (reply.Refused refusal.NoMemory) new = MustList old × (new ≡ old)
 Exact old (step.BeginReadCommitted s) reply.Done new = Opens old new s (ByStatement None)
 Exact old (step.BeginReadCommitted s) (reply.Refused refusal.NoMemory) new = ⊥
-Exact old (step.Insert s row) reply new = ExactInsert old s (row_of row) reply new
-Exact old (step.Update s row) reply new = ExactUpdate old s (row_of row) reply new
-Exact old (step.Delete s key) reply new = ExactDelete old s key reply new
+Exact old (step.Insert s row) reply new = ExactWrite old s (inserts row) reply new
+Exact old (step.Update s row) reply new = ExactWrite old s (updates row) reply new
+Exact old (step.Delete s key) reply new = ExactWrite old s (deletes key) reply new
 Exact old (step.Get s key) reply new = new ≡ old
 Exact old (step.Savepoint s) reply.Done new = SessionBecomes old new s SetsSavepoint
 Exact old (step.Savepoint s) (reply.Refused refusal.NoMemory) new = MustNote old s × (new ≡ old)
@@ -162,9 +133,9 @@ Exact old (step.Next s n) (reply.Rows rows) new = HandsOut old new s n rows.item
 Exact old (step.Next s n) (reply.Keys keys) new = HandsOutByKeys old new s n keys.items
 Exact old (step.Next s n) reply.End new = new ≡ old
 Exact old (step.Close s) reply.Done new = HasCursor old new s None None
-Exact old (step.TakePage s p) (reply.Rows rows) new = AreTicketRows old s p rows.items × (new ≡ old)
-Exact old (step.TakePage s p) (reply.Refused refusal.NoSuchPage) new = RefusesTicket old s p refusal.NoSuchPage × (new ≡ old)
-Exact old (step.TakePage s p) (reply.Refused refusal.NoMemory) new = RefusesTicket old s p refusal.NoMemory × (new ≡ old)
+Exact old (step.TakePage s p) (reply.Rows rows) new = SeesOnPage old s p rows.items × (new ≡ old)
+Exact old (step.TakePage s p) (reply.Refused refusal.NoSuchPage) new = RefusesRows old s p refusal.NoSuchPage × (new ≡ old)
+Exact old (step.TakePage s p) (reply.Refused refusal.NoMemory) new = RefusesRows old s p refusal.NoMemory × (new ≡ old)
 Exact old (step.Commit s) reply.Committed new = Closes old new s status.Committed
 Exact old (step.Commit s) reply.RolledBack new = Closes old new s status.Aborted
 Exact old (step.Abort s) reply.RolledBack new = Closes old new s status.Aborted

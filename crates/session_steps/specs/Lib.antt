@@ -11,6 +11,5 @@ pub mod Takes
 pub mod NextRows
 pub mod Tickets
 pub mod Exact
-pub mod Follows
 pub mod New
 pub mod Laws

@@ -11,6 +11,7 @@ use Rattle.calls.specs.declared.reply.Refusal.TheVariants as refusal
 use Rattle.sessions.specs.declared.session.Session.{Session}
 use Rattle.session_steps.specs.State.{State, session_at}
 use Rattle.sessions.specs.Session.{statement_snapshot}
+use Rattle.calls.specs.Writes.{WriteStep, inserts, updates, deletes}
 use Rattle.calls.specs.declared.step.TheConstants.{MOST_SESSIONS}
 
 -- what bars a session from a beginning, by snapshot or by statement
@@ -34,14 +35,6 @@ IsLateBy h e key x = SomeOf h.statuses (IsNewerCommitIn h.statuses (statement_sn
 -- another session has written it, under this id
 abbrev pub IsHeldUnder : HeapView → Session → ℕ → ℕ → Type 0
 IsHeldUnder h e key x = SomeOf h.statuses (IsOtherWriterIn h.statuses e.own.ids x) (slots_of h) (entries_in h.indexes 0) (pos key) key
-
--- the session is open, has not failed and has no cursor, and reads the version at this place, or none of the key
-pub record ReadsPlace (st : State) (s : ℕ) (e : Session) (key : ℕ) (found : Option Tid) : Type 0 where
-  pub within : s < MOST_SESSIONS
-  pub at : session_at st s ≡ Some e
-  pub sound : e.failed ≡ false
-  pub bare : e.cursor ≡ None
-  pub finds : FindsPlace st.heap e key found
 
 -- nothing keeps the session from writing the key: no later commit, and no other session
 pub record IsUncontested (st : State) (e : Session) (key : ℕ) : Type 0 where
@@ -67,11 +60,9 @@ ConflictsWrite st e key refusal.Conflict = IsLateKey st e key
 ConflictsWrite st e key (refusal.Busy o) = IsHeld st e key o
 ConflictsWrite st e key refusal = ⊥
 
--- the session may write the key, of which it reads this
-pub record MayWriteKey (st : State) (s key : ℕ) (found : Option Tid) : Type 0 where
-  pub session : Session
-  pub reads : ReadsPlace st s session key found
-  pub free : IsUncontested st session key
+-- the session may insert a row of the key: it reads none, and nothing keeps it from writing the key
+abbrev pub MayInsertKey : State → Session → ℕ → Type 0
+MayInsertKey st e key = FindsPlace st.heap e key None × IsUncontested st e key
 
 -- a version of the key is at this place that such a statement sees and that nobody has deleted
 abbrev pub SeesUndeleted : HeapView → Session → ℕ → Tid → Type 0
@@ -80,27 +71,21 @@ SeesUndeleted h e key p = IsVersionOf (IsSeenUndeleted (IsVisible h.statuses (st
 -- The session may change the version of the key at this place. Either it reads that by the index, and nothing keeps it from writing the
 -- key; or it sees that there, undeleted. Where the state agrees with a history, nothing keeps it from writing the key then either
 -- (`UndeletedIsUncontested` of refinement)
-pub record MayChangeKey (st : State) (s key : ℕ) (p : Tid) : Type 0 where
-  pub session : Session
-  pub acts : MayAct st s session
-  pub finds : (FindsPlace st.heap session key (Some p) × IsUncontested st session key) ⊎ SeesUndeleted st.heap session key p
+abbrev pub MayChangeKey : State → Session → ℕ → Tid → Type 0
+MayChangeKey st e key p = (FindsPlace st.heap e key (Some p) × IsUncontested st e key) ⊎ SeesUndeleted st.heap e key p
 
--- it may not write it, for this reason
-pub record HasWriteConflict (st : State) (s key : ℕ) (found : Option Tid) (refusal : Refusal) : Type 0 where
-  pub session : Session
-  pub reads : ReadsPlace st s session key found
-  pub delays : ConflictsWrite st session key refusal
+-- nothing keeps the session from the write. An update or a deletion is of the version at this place; an insert is of none
+abbrev pub MayTry : State → Session → WriteStep → (place : Tid) → Type 0
+MayTry st e (inserts row) place = MayInsertKey st e row.key
+MayTry st e (updates row) place = MayChangeKey st e row.key place
+MayTry st e (deletes key) place = MayChangeKey st e key place
 
--- what keeps a session that may act from inserting a row of the key
-abbrev pub RefusesInsertOfKey : State → ℕ → ℕ → Refusal → Type 0
-RefusesInsertOfKey st s key refusal.AlreadyThere = (e : Session) × (p : Tid) × ReadsPlace st s e key (Some p)
-RefusesInsertOfKey st s key refusal.Conflict = HasWriteConflict st s key None refusal.Conflict
-RefusesInsertOfKey st s key (refusal.Busy o) = HasWriteConflict st s key None (refusal.Busy o)
-RefusesInsertOfKey st s key refusal = ⊥
+-- what keeps it from inserting a row of the key
+abbrev pub RefusesInsertOfKey : State → Session → ℕ → Refusal → Type 0
+RefusesInsertOfKey st e key refusal.AlreadyThere = (p : Tid) × FindsPlace st.heap e key (Some p)
+RefusesInsertOfKey st e key refusal = FindsPlace st.heap e key None × ConflictsWrite st e key refusal
 
 -- what keeps it from changing the row of the key
-abbrev pub RefusesChangeOfKey : State → ℕ → ℕ → Refusal → Type 0
-RefusesChangeOfKey st s key refusal.NotThere = (e : Session) × ReadsPlace st s e key None
-RefusesChangeOfKey st s key refusal.Conflict = (p : Tid) × HasWriteConflict st s key (Some p) refusal.Conflict
-RefusesChangeOfKey st s key (refusal.Busy o) = (p : Tid) × HasWriteConflict st s key (Some p) (refusal.Busy o)
-RefusesChangeOfKey st s key refusal = ⊥
+abbrev pub RefusesChangeOfKey : State → Session → ℕ → Refusal → Type 0
+RefusesChangeOfKey st e key refusal.NotThere = FindsPlace st.heap e key None
+RefusesChangeOfKey st e key refusal = (p : Tid) × FindsPlace st.heap e key (Some p) × ConflictsWrite st e key refusal

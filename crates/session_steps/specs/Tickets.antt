@@ -22,17 +22,18 @@ use Rattle.session_steps.specs.Agrees.{Agrees}
 abbrev pub statement_sight : State → Session → Sight
 statement_sight st e = record { heap = st.heap; statuses = st.heap.statuses; sees = IsVisible st.heap.statuses (statement_snapshot st.heap.statuses e.isolation) e.own.ids }
 
--- the session, which has not failed, takes the page of this number: the ticket has all rows that a statement of it sees there, slot by slot
-pub record TakesTicket (st : State) (s : SessionNo) (number : PageNo) (ticket : TicketView) : Type 0 where
+-- the session, which has not failed, sees these rows on the page of this number: all that a statement of it sees there, slot by slot
+pub record SeesOnPage (st : State) (s : SessionNo) (number : PageNo) (rows : List Row) : Type 0 where
   pub session : Session
   pub there : session_at st s ≡ Some session
   pub sound : session.failed ≡ false
-  pub page : slice_get st.heap.pages.pages number ≡ Some ticket.page
-  pub rows : TakesAll (statement_sight st session) (start_of number) (ticket_rows ticket)
+  pub in_use : number < length st.heap.pages.pages
+  pub all : TakesAll (statement_sight st session) (start_of number) rows
 
--- these are the rows that a ticket has which the session takes of this page
-abbrev pub AreTicketRows : State → SessionNo → PageNo → List Row → Type 0
-AreTicketRows st s number rows = (ticket : TicketView) × TakesTicket st s number ticket × (rows ≡ ticket_rows ticket)
+-- the session takes the page of this number: the ticket has the page as it is, and the rows that the session sees there
+pub record TakesTicket (st : State) (s : SessionNo) (number : PageNo) (ticket : TicketView) : Type 0 where
+  pub page : slice_get st.heap.pages.pages number ≡ Some ticket.page
+  pub sees : SeesOnPage st s number (ticket_rows ticket)
 
 -- the session is open, and has not failed
 pub record IsReadyAt (st : State) (s : SessionNo) : Type 0 where
@@ -46,6 +47,11 @@ abbrev pub RefusesTicket : State → SessionNo → PageNo → Refusal → Type 0
 RefusesTicket st s number refusal.NoSuchPage = IsReadyAt st s × (length st.heap.pages.pages ≤ number)
 RefusesTicket st s number refusal.NoMemory = IsReadyAt st s × (number < length st.heap.pages.pages)
 RefusesTicket st s number reason = BarsReady (engine_sessions st) s reason
+
+-- why a page's rows are not read: as above, but memory is refused only where the session sees a row there
+abbrev pub RefusesRows : State → SessionNo → PageNo → Refusal → Type 0
+RefusesRows st s number refusal.NoMemory = (rows : List Row) × SeesOnPage st s number rows × (0 < length rows)
+RefusesRows st s number reason = RefusesTicket st s number reason
 
 -- the rows are the session's view's, whatever world the engine agrees with
 abbrev pub AreViewed : State → SessionNo → List Row → Type 0

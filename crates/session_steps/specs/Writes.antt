@@ -1,53 +1,44 @@
 -- What a write changes, and why it is not done. It is said of the engine's own ids and pages.
-use Rattle.std.specs.Prelude.{◌≡◌, ℕ, Result, Ok, Err}
+use Rattle.std.specs.Prelude.{Result, Ok, Err}
+use Rattle.xid_circle.specs.Numbers.{Id}
 use Rattle.xid_circle.specs.declared.Tid.{Tid}
 use Rattle.xid_circle.specs.declared.Xid.{Xid}
 use Rattle.tuple_header.specs.declared.version.Row.{Row}
+use Rattle.snapshot.specs.Own.{Own}
 use Rattle.heap_write.specs.Heap.{HeapView, Keeps}
 use Rattle.heap_write.specs.Writes.{Inserts, Updates, Deletes}
 use Rattle.write_ids.specs.Ids.{SameOwn}
 use Rattle.heap_write.specs.Refusals.{LacksForInsert, FailsUpdate, FailsDelete}
 use Rattle.heap_write.specs.declared.heap.WriteFault.{WriteFault}
 use Rattle.heap_write.specs.declared.heap.WriteFault.TheVariants as fault
+use Rattle.calls.specs.Words.{RowToWrite, row_of}
+use Rattle.calls.specs.Writes.{WriteStep, inserts, updates, deletes}
 use Rattle.calls.specs.declared.reply.Reply.{Reply}
 use Rattle.calls.specs.declared.reply.Reply.TheVariants as reply
 use Rattle.calls.specs.declared.reply.Refusal.{Refusal}
 use Rattle.calls.specs.declared.reply.Refusal.TheVariants as refusal
-use Rattle.sessions.specs.declared.session.Session.{Session}
 
--- the session is as it was, though there may be more memory
-pub record SameSession (e e' : Session) : Type 0 where
-  pub isolation : e'.isolation ≡ e.isolation
-  pub own : SameOwn e.own e'.own
-  pub failed : e'.failed ≡ e.failed
-  pub cursor : e'.cursor ≡ e.cursor
-  pub too_new : e'.too_new ≡ e.too_new
+-- What a write does to the heap and to the session's own ids, the newest of which is x then. An update or a deletion is of the version at
+-- this place; an insert is of none.
+abbrev pub DoesWrite : WriteStep → (place : Tid) → (horizon : Id) → HeapView → HeapView → Own → Own → (x : Id) → Type 0
+DoesWrite (inserts row) place horizon h h' own own' x = Inserts h h' own own' (row_of row) x
+DoesWrite (updates row) place horizon h h' own own' x = Updates h h' own own' place (row_of row) horizon x
+DoesWrite (deletes key) place horizon h h' own own' x = Deletes h h' own own' place x
 
--- the session wrote, under x: nothing of it changes but its own ids
-pub record Done (e e' : Session) (changes : ℕ → Type 0) : Type 0 where
-  pub is : e' ≡ record e { own = e'.own }
-  pub x : ℕ
-  pub change : changes x
+-- or why it is not done, of the first reason in the order of the tests, and what that leaves; a deletion asks for no room
+abbrev pub FailsWrite : WriteStep → (place : Tid) → (horizon : Id) → HeapView → HeapView → Own → WriteFault → Type 0
+FailsWrite (inserts row) place horizon h h' own f = LacksForInsert h own (row_of row) f × Keeps h h'
+FailsWrite (updates row) place horizon h h' own f = FailsUpdate h h' own place (row_of row) horizon f
+FailsWrite (deletes key) place horizon h h' own f = FailsDelete h h' own f
 
--- or it did not write, for this reason
-pub record RefusedWrite (e e' : Session) (fails : Type 0) : Type 0 where
-  pub same : SameSession e e'
-  pub fault : fails
+-- the one or the other, where the ids stay, though there may be more memory
+abbrev pub TriesWrite : WriteStep → (place : Tid) → (horizon : Id) → HeapView → HeapView → Own → Own → Result (Unit {0}) WriteFault → Type 0
+TriesWrite write place horizon h h' own own' (Ok u) = (x : Id) × DoesWrite write place horizon h h' own own' x
+TriesWrite write place horizon h h' own own' (Err f) = SameOwn own own' × FailsWrite write place horizon h h' own f
 
--- What a write of a row, an update of the version at a place, or a deletion does to the heap and to the session's ids; or why it
--- is not done, of the first reason in the order of the tests, and what that leaves.
-
-abbrev pub TriesInsert : HeapView → HeapView → Session → Session → Row → Result (Unit {0}) WriteFault → Type 0
-TriesInsert h h' e e' row (Ok u) = Done e e' (λ x. Inserts h h' e.own e'.own row x)
-TriesInsert h h' e e' row (Err f) = RefusedWrite e e' (LacksForInsert h e.own row f × Keeps h h')
-
-abbrev pub TriesUpdate : HeapView → HeapView → Session → Session → Tid → Row → ℕ → Result (Unit {0}) WriteFault → Type 0
-TriesUpdate h h' e e' place row horizon (Ok u) = Done e e' (λ x. Updates h h' e.own e'.own place row horizon x)
-TriesUpdate h h' e e' place row horizon (Err f) = RefusedWrite e e' (FailsUpdate h h' e.own place row horizon f)
-
-abbrev pub TriesDelete : HeapView → HeapView → Session → Session → Tid → Result (Unit {0}) WriteFault → Type 0
-TriesDelete h h' e e' place (Ok u) = Done e e' (λ x. Deletes h h' e.own e'.own place x)
-TriesDelete h h' e e' place (Err f) = RefusedWrite e e' (FailsDelete h h' e.own f)
+-- a row of the table in the words of a step that asks for it to be written
+abbrev pub worded : Row → RowToWrite
+worded row = record { key = row.key; cols = row.cols; body = row.body.items }
 
 -- what became of a write, whatever its id
 abbrev pub outcome_of : Result Xid WriteFault → Result (Unit {0}) WriteFault

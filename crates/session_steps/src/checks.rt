@@ -1,8 +1,8 @@
 //! The tests that every write of a session makes first, and its answers.
 
-ghost use Rattle.std.specs.Prelude.{◌≡◌, ℕ, MatchResult, Some, None, Err};
+ghost use Rattle.std.specs.Prelude.{◌≡◌, MatchResult, Err};
 ghost use Rattle.session_steps.specs.State.{refused_state, with_failed};
-ghost use Rattle.session_steps.specs.Tests.{MayAct, FindsPlace, IsUncontested, ConflictsWrite, MayWriteKey, MayChangeKey, RefusesInsertOfKey, RefusesChangeOfKey};
+ghost use Rattle.session_steps.specs.Tests.{FindsPlace, IsUncontested, ConflictsWrite, MayInsertKey, MayChangeKey, RefusesInsertOfKey, RefusesChangeOfKey};
 
 use crate::engine::SessionEngine;
 use crate::outcome::Ack;
@@ -43,9 +43,8 @@ impl SessionEngine {
     /// The refusal that bars a session that may act from inserting a row of the key; else a hint where its entry goes. Tests in
     /// order: AlreadyThere, Conflict, Busy.
     pub(crate) fn check_insert(&self, session: &Session, key: u64) -> Result<PositionHint, Refusal>
-        ensures { (s : ℕ) → MayAct self.now s session.now
-            → MatchResult result (λ _. MayWriteKey self.now s key None)
-            (λ refusal. RefusesInsertOfKey self.now s key refusal) }
+        ensures { MatchResult result (λ _. MayInsertKey self.now session.now key)
+            (λ refusal. RefusesInsertOfKey self.now session.now key refusal) }
     {
         let (place, write_conflict) = self.write_conflict(session, key);
         match place {
@@ -62,9 +61,8 @@ impl SessionEngine {
         session: &Session,
         key: u64,
     ) -> Result<(Tid, Option<PositionHint>), Refusal>
-        ensures { (s : ℕ) → MayAct self.now s session.now
-            → MatchResult result (λ found. MayChangeKey self.now s key found.0)
-            (λ refusal. RefusesChangeOfKey self.now s key refusal) }
+        ensures { MatchResult result (λ found. MayChangeKey self.now session.now key found.0)
+            (λ refusal. RefusesChangeOfKey self.now session.now key refusal) }
     {
         let mut snapshot = None;
         let reader = self.reader(session, &mut snapshot);

@@ -7,11 +7,11 @@ ghost use Rattle.calls.specs.Bars.{BarsReady};
 ghost use Rattle.session_steps.specs.State.{engine_sessions};
 ghost use Rattle.session_steps.specs.Exact.{AnswersStep};
 ghost use Rattle.session_steps.specs.Replies.{found_reply};
-ghost use Rattle.session_steps.specs.Tickets.{AreTicketRows, RefusesTicket};
+ghost use Rattle.session_steps.specs.Tickets.{SeesOnPage, RefusesRows};
 
 use crate::engine::SessionEngine;
 use calls::{Refusal, Reply, Row};
-use table_scans::{no_row, resolve};
+use table_scans::{no_row, read_rows};
 use tuple_header::RowRef;
 
 impl SessionEngine {
@@ -51,8 +51,8 @@ impl SessionEngine {
 
     /// All rows of the page that the session reads, in the order of their slots. Refusals in order: NoSuchSession, NotOpen, Failed,
     /// NoSuchPage, NoMemory.
-    pub(crate) fn read_page(&mut self, s: u8, number: u32, reply: &mut Reply)
-        ensures { AnswersStep self.old (Step.TakePage s number) reply.new self.new }
+    pub(crate) fn read_page(&self, s: u8, number: u32, reply: &mut Reply)
+        ensures { AnswersStep self.now (Step.TakePage s number) reply.new self.now }
     {
         match self.page_rows(s, number) {
             Ok(rows) => *reply = Reply::Rows(rows),
@@ -60,16 +60,20 @@ impl SessionEngine {
         }
     }
 
-    /// The rows that a ticket resolves to which is taken now.
-    fn page_rows(&mut self, s: u8, number: u32) -> Result<Vec<Row>, Refusal>
-        ensures same { self.new ≡ self.old }
-        ensures rows { MatchResult result (λ rows. AreTicketRows self.old s number rows.items)
-            (RefusesTicket self.old s number) }
+    /// The rows that a statement of the session sees on the page.
+    fn page_rows(&self, s: u8, number: u32) -> Result<Vec<Row>, Refusal>
+        ensures { MatchResult result (λ rows. SeesOnPage self.now s number rows.items)
+            (RefusesRows self.now s number) }
     {
         // so that it is known that there are 64 places for sessions
         let _ = &self.sessions;
-        let ticket = self.take_page(s, number)?;
-        match resolve(&ticket) {
+        let session = self.ready(s)?;
+        let Some(page) = self.heap.page(number) else {
+            return Err(Refusal::NoSuchPage);
+        };
+        let mut place = None;
+        let reader = self.reader(session, &mut place);
+        match read_rows(self.alloc, page, &reader) {
             Ok(rows) => Ok(rows),
             Err(_) => Err(Refusal::NoMemory),
         }

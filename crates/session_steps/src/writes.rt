@@ -6,10 +6,12 @@ ghost use Rattle.page_sheet.specs.Slots.{room_of};
 ghost use Rattle.heap_write.specs.Heap.{page_on};
 ghost use Rattle.heap_write.specs.Writes.{KeepsValues};
 ghost use Rattle.calls.specs.declared.step.Step.{Step};
-ghost use Rattle.session_steps.specs.Exact.{ExactInsert, ExactUpdate, AnswersStep};
+ghost use Rattle.calls.specs.Words.{FitsRow};
+ghost use Rattle.sessions.specs.declared.session.Session.{Session};
+ghost use Rattle.session_steps.specs.Exact.{AnswersStep};
 ghost use Rattle.session_steps.specs.Replies.{reply_to};
-ghost use Rattle.session_steps.specs.Follows.{FollowsInsert, FollowsUpdate, worded};
-ghost use Rattle.session_steps.specs.Tests.{MayWriteKey, MayChangeKey};
+ghost use Rattle.session_steps.specs.Writes.{worded};
+ghost use Rattle.session_steps.specs.Tests.{MayAct, MayInsertKey, MayChangeKey};
 
 use crate::engine::SessionEngine;
 use crate::outcome::{Ack, write_answer};
@@ -21,9 +23,9 @@ impl SessionEngine {
     /// Inserts the row, which nothing keeps the session from writing, under the id of its newest level; each level that
     /// has none is given one before.
     fn add(&mut self, s: u8, row: &Row) -> Result<Ack, Refusal>
-        requires { MayWriteKey self.old s row.now.key None }
-        ensures follows { FollowsInsert self.old s row.now (reply_to result) self.new }
-        ensures exact { ExactInsert self.old s row.now (reply_to result) self.new }
+        requires may { (e : Session) × MayAct self.old s e × MayInsertKey self.old e row.now.key }
+        requires fits { FitsRow (worded row.now) }
+        ensures { AnswersStep self.old (Step.Insert s (worded row.now)) (reply_to result) self.new }
     {
         let session = self.sessions.open_mut(s);
         // an id of its levels is one of its own ids
@@ -67,11 +69,12 @@ impl SessionEngine {
         row: &Row,
         keeps_values: bool,
     ) -> Result<Ack, Refusal>
-        requires may { MayChangeKey self.old s row.now.key place }
+        requires may { (e : Session) × MayAct self.old s e
+            × MayChangeKey self.old e row.now.key place }
+        requires fits { FitsRow (worded row.now) }
         requires room { rounded_size_of row.now ≤ room_of (page_on self.old.heap place.page).slots }
         requires values { IsTrue keeps_values ↔ KeepsValues self.old.heap place row.now }
-        ensures follows { FollowsUpdate self.old s row.now (reply_to result) self.new }
-        ensures exact { ExactUpdate self.old s row.now (reply_to result) self.new }
+        ensures { AnswersStep self.old (Step.Update s (worded row.now)) (reply_to result) self.new }
     {
         let session = self.sessions.open_mut(s);
         // an id of its levels is one of its own ids
@@ -84,10 +87,11 @@ impl SessionEngine {
 
     /// As [`SessionEngine::replace_on_page`], but where the row has no room on the page: that is pruned at the horizon first.
     fn replace_on_full_page(&mut self, s: u8, place: Tid, row: &Row) -> Result<Ack, Refusal>
-        requires may { MayChangeKey self.old s row.now.key place }
+        requires may { (e : Session) × MayAct self.old s e
+            × MayChangeKey self.old e row.now.key place }
+        requires fits { FitsRow (worded row.now) }
         requires room { room_of (page_on self.old.heap place.page).slots < rounded_size_of row.now }
-        ensures follows { FollowsUpdate self.old s row.now (reply_to result) self.new }
-        ensures exact { ExactUpdate self.old s row.now (reply_to result) self.new }
+        ensures { AnswersStep self.old (Step.Update s (worded row.now)) (reply_to result) self.new }
     {
         let horizon = self.horizon();
         let session = self.sessions.open_mut(s);
@@ -132,7 +136,7 @@ impl SessionEngine {
 
     /// Deletes the version at a place, which nothing keeps the session from, under the id of its newest level.
     fn take_away(&mut self, s: u8, key: u64, place: Tid) -> Result<Ack, Refusal>
-        requires { MayChangeKey self.old s key place }
+        requires { (e : Session) × MayAct self.old s e × MayChangeKey self.old e key place }
         ensures { AnswersStep self.old (Step.Delete s key) (reply_to result) self.new }
     {
         let session = self.sessions.open_mut(s);

@@ -5,3 +5,5 @@ pub mod IdLemmas
 pub mod EntryLemmas
 pub mod NoPageLemmas
 pub mod JoinedLemmas
+mod PictureLemmas
+pub mod PageLemmas

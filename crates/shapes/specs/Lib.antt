@@ -1,2 +1,3 @@
 pub mod Shapes
 pub mod Dead
+pub mod Pictures

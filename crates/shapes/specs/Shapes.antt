@@ -255,14 +255,18 @@ pub record IsFirstNotInUse (st : State) (numbers : List PageNo) (p : PageNo) : T
   pub unused : IsNotInUse st p
   pub first : (i q : ℕ) → i < at → slice_get numbers i ≡ Some q → ¬ IsNotInUse st q
 
+-- no more pages were asked for than are shown, and all are in use
+abbrev pub CanBeShown : State → List PageNo → Type 0
+CanBeShown st numbers = (length numbers ≤ MOST_PAGES) × AreAllInUse st numbers
+
 -- more pages were asked for than are shown, or one that is not in use; else memory was refused, as no definition can say
 abbrev pub IsPictureFault : State → List PageNo → PictureFault → Type 0
 IsPictureFault st numbers fault.TooManyPages = MOST_PAGES < length numbers
 IsPictureFault st numbers (fault.NoSuchPage p) = (length numbers ≤ MOST_PAGES) × IsFirstNotInUse st numbers p
-IsPictureFault st numbers fault.NoMemory = (length numbers ≤ MOST_PAGES) × AreAllInUse st numbers
+IsPictureFault st numbers fault.NoMemory = CanBeShown st numbers
 
 -- whether what was asked for can be shown, but for memory
 abbrev pub IsAskFault : State → List PageNo → Option PictureFault → Type 0
-IsAskFault st numbers None = (length numbers ≤ MOST_PAGES) × AreAllInUse st numbers
+IsAskFault st numbers None = CanBeShown st numbers
 IsAskFault st numbers (Some fault.NoMemory) = ⊥
 IsAskFault st numbers (Some f) = IsPictureFault st numbers f

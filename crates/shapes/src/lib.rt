@@ -4,6 +4,9 @@
 //! id, the open sessions, and of each page that is asked for its slots, their links, the entries that lead there, and beside each version
 //! a dot for each open session, filled where the session sees the version. `specs/Shapes.antt` defines what is in the list: each thing
 //! once, in this order, and nothing else. What a shape looks like, and where it is drawn, is not said here.
+//!
+//! [`draw_asked`] adds to a text the picture of the pages that were asked for, or of all where none was: these shapes, as `svg_text` spells
+//! them (`specs/Pictures.antt`). Programs draw by it, and so does the library for C.
 #![tactic(auto)]
 
 mod dots;
@@ -15,7 +18,9 @@ mod making;
 mod open_sessions;
 mod pages;
 mod slots;
+mod text;
 
 pub use fault::{MOST_IDS, MOST_PAGES, PictureFault};
 pub use making::picture;
 pub use shape_list::Shape;
+pub use text::{draw_all, draw_asked};

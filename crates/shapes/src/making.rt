@@ -1,7 +1,7 @@
 //! The picture.
 
 ghost use Rattle.std.specs.Prelude.{◌≡◌, ◌<◌, ℕ, Some, IsSome, OnOk, IfOk, MatchOption, MatchResult, length, slice_get};
-ghost use Rattle.shapes.specs.Shapes.{Adds, AreHead, ArePages, IsPicture, IsNotInUse, IsFirstNotInUse, AreAllInUse, IsPictureFault, IsAskFault};
+ghost use Rattle.shapes.specs.Shapes.{Adds, AreHead, ArePages, IsPicture, IsNotInUse, IsFirstNotInUse, AreAllInUse, CanBeShown, IsPictureFault, IsAskFault};
 
 use crate::fault::{MOST_PAGES, PictureFault};
 use crate::ids::{add_ids, horizon_shape, left_out};
@@ -89,6 +89,7 @@ pub fn picture(
     ensures picture { MatchResult result
         (λ shapes. IsPicture engine.old numbers.now shapes.items)
         (IsPictureFault engine.old.engine.core numbers.now) }
+    ensures few { IfOk result (λ _. CanBeShown engine.old.engine.core numbers.now) }
 {
     match ask_fault(engine, numbers) {
         Some(fault) => Err(fault),

@@ -1,5 +1,5 @@
 -- How many rows or keys a reply has.
-use Rattle.std.proofs.Common.{◌≤◌, ℕ, min, max, List, length, ap, arith}
+use Rattle.std.proofs.Common.{◌≤◌, ℕ, min, max, List, length, arith}
 use Rattle.tuple_header.specs.declared.version.Row.{Row}
 use Rattle.tuple_header.specs.declared.version.TheConstants.{MOST_SLOTS}
 use Rattle.calls.specs.declared.step.Step.{Step}
@@ -42,9 +42,7 @@ room-next old s n most room no_more enough w new _ agrees follows exact = tt
 
 pub room-page : (old : WaitingView) (s p room : ℕ) → MOST_SLOTS ≤ room → HasRoomFor old (step.TakePage s p) room
 room-page old s p room enough w new (reply.Rows rows) agrees follows exact =
-    let are = exact.0.core.0 in
-    let few = are.1.rows.few in
-    let same = ap length are.2 in omega (arith, few, same, enough)
+    let few = exact.0.core.0.all.few in omega (arith, few, enough)
 room-page old s p room enough w new (reply.Keys keys) agrees follows exact = absurd exact.0.core
 room-page old s p room enough w new _ agrees follows exact = tt
 

@@ -7,7 +7,7 @@ use Rattle.sessions.specs.declared.session.Session.{Session}
 use Rattle.session_steps.specs.State.{State, session_at, engine_sessions}
 use Rattle.view_text.specs.declared.versions.EntryLook.{EntryLook}
 use Rattle.viewing.specs.Showing.{IsExplanation}
-use Rattle.drawing.specs.Pictures.{AddsText}
+use Rattle.shapes.specs.Pictures.{AddsText}
 use Rattle.stories.specs.Html.{explanation_html}
 use Rattle.stories.specs.Telling.{IsReadingOf, ExplainsKey, ExplainsRead, ExplainsLine}
 

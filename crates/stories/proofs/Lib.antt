@@ -2,3 +2,5 @@ mod ExplainingLemmas
 mod PictureLemmas
 mod ToldLemmas
 mod OutcomeLemmas
+pub mod ReadLemmas
+pub mod DrawOutcomeLemmas

@@ -14,12 +14,12 @@ use Rattle.script.specs.declared.fault.ShellFault.TheVariants.{BadLine, BadPage,
 use Rattle.script.proofs.RunLemmas.{Uses-known}
 use Rattle.script.proofs.FirstLemmas.{begun_first, no_heading}
 use Rattle.viewing.specs.Viewing.{ViewEvent}
-use Rattle.drawing.specs.declared.fault.DrawFault.{DrawFault}
-use Rattle.drawing.specs.declared.fault.DrawFault.TheVariants.{Script, TooManyPages, NoSuchPage}
-use Rattle.drawing.specs.Pictures.{AddsText}
-use Rattle.drawing.specs.Outcomes.{LinesRead, IsReadFault, IsDrawCaused, ScriptRead, IsFromOutside}
-use Rattle.drawing.proofs.ReadLemmas.{is-from_outside}
-use Rattle.drawing.proofs.OutcomeLemmas.{caused-by, reads-of}
+use Rattle.stories.specs.declared.draw_fault.DrawFault.{DrawFault}
+use Rattle.stories.specs.declared.draw_fault.DrawFault.TheVariants.{Script, TooManyPages, NoSuchPage}
+use Rattle.shapes.specs.Pictures.{AddsText}
+use Rattle.stories.specs.DrawOutcomes.{LinesRead, IsReadFault, IsDrawCaused, ScriptRead, IsFromOutside}
+use Rattle.stories.proofs.ReadLemmas.{is-from_outside}
+use Rattle.stories.proofs.DrawOutcomeLemmas.{caused-by, reads-of}
 use Rattle.stories.specs.declared.fault.StoryFault.{StoryFault}
 use Rattle.stories.specs.declared.fault.StoryFault.TheVariants.{Drawing, TooManyLines}
 use Rattle.stories.specs.Html.{first_item, items_html}

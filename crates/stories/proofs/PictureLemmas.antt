@@ -1,16 +1,14 @@
 -- What is told of a line, and why a line is not told.
-use Rattle.std.proofs.Common.{◌≡◌, ℕ, zero, suc, ◌+◌, ◌<◌, List, [], ◌∷◌, ◌++◌, length, refl, ap, append_assoc, length-append, ◌∙◌, sym, subst, arith, None, Some, codes, slice_get, Result, Ok, Err, OnOk}
-use Rattle.std.proofs.lemmas.Option.{same_Some, none-some, slice_get_within}
+use Rattle.std.proofs.Common.{◌≡◌, ℕ, List, [], ◌++◌, refl, ap, append_assoc, ◌∙◌, sym, subst, codes, Result, Ok, Err, OnOk}
 use Rattle.script.specs.Engine.{WaitingView}
 use Rattle.session_steps.specs.State.{State}
-use Rattle.script.specs.declared.fault.ShellFault.TheVariants.{NoMemory}
 use Rattle.viewing.specs.Steps.{DoesView}
-use Rattle.page_slots.specs.View.{PageView}
-use Rattle.shapes.specs.declared.fault.TheConstants.{MOST_PAGES}
-use Rattle.shapes.specs.Shapes.{IsFirstNotInUse}
-use Rattle.drawing.specs.declared.fault.DrawFault.{DrawFault}
-use Rattle.drawing.specs.declared.fault.DrawFault.TheVariants.{Script, TooManyPages, NoSuchPage}
-use Rattle.drawing.specs.Pictures.{AddsText, numbers_below, all_pages, IsPictureText, IsDrawFault}
+use Rattle.shapes.specs.declared.fault.PictureFault.{PictureFault}
+use Rattle.shapes.specs.declared.fault.PictureFault.TheVariants as fault
+use Rattle.shapes.specs.Shapes.{IsPictureFault}
+use Rattle.shapes.specs.Pictures.{AddsText, all_pages, IsPictureText}
+use Rattle.shapes.proofs.PageLemmas.{all-in-use, too-wide}
+use Rattle.stories.specs.Faults.{fault_in_drawing}
 use Rattle.stories.specs.Html.{head_html, item_html}
 use Rattle.stories.specs.Telling.{ExplainsLine, IsBegun, IsEnded, IsTold, IsFirstTold, TellsLine, IsUndrawn}
 
@@ -70,35 +68,7 @@ line-told line from to last items items' told mid told' answer a d i b same =
 
 -- Why a line is not told.
 
-length-below : (n : ℕ) → length (numbers_below n) ≡ n
-length-below zero = refl
-length-below (suc n) = length-append (numbers_below n) (n ∷ []) ∙ ap (λ k. k + 1) (length-below n) ∙ omega arith
-
-below : (n i p : ℕ) → slice_get (numbers_below n) i ≡ Some p → p < n
-below zero i p at = absurd (let within = slice_get_within [] i p at in omega arith)
-below (suc n) i p at = at_end (numbers_below n) (below n) i at
-  where
-    at_end : (xs : List ℕ) → ((j q : ℕ) → slice_get xs j ≡ Some q → q < n) → (j : ℕ) → slice_get (xs ++ n ∷ []) j ≡ Some p → p < suc n
-    at_end [] each zero at = let e = same_Some n p at in omega arith
-    at_end [] each (suc j) at = absurd (let within = slice_get_within [] j p at in omega arith)
-    at_end (x ∷ xs) each zero at = let e = each 0 p at in omega arith
-    at_end (x ∷ xs) each (suc j) at = at_end xs (λ k q e. each (suc k) q e) j at
-
-all-in-use : (st : State) (p : ℕ) → IsFirstNotInUse st (all_pages st) p → ⊥
-all-in-use st p is =
-    let within = below (length st.heap.pages.pages) is.at p is.asked in
-    in_use st.heap.pages.pages p within is.unused
-  where
-    in_use : (pages : List PageView) (n : ℕ) → n < length pages → slice_get pages n ≡ None → ⊥
-    in_use [] n within none = omega arith
-    in_use (x ∷ xs) zero within none = none-some x (sym none)
-    in_use (x ∷ xs) (suc n) within none = in_use xs n (omega (arith, within)) none
-
-too-wide : (st : State) → MOST_PAGES < length (all_pages st) → MOST_PAGES < length st.heap.pages.pages
-too-wide st h = subst (λ k. MOST_PAGES < k) (length-below (length st.heap.pages.pages)) h
-
-pub picture-fault : (e : WaitingView) (f : DrawFault) → IsDrawFault e.engine.core (all_pages e.engine.core) f → IsUndrawn e f
-picture-fault e TooManyPages is = too-wide e.engine.core is
-picture-fault e (NoSuchPage p) is = absurd (all-in-use e.engine.core p is)
-picture-fault e (Script NoMemory) is = tt
-picture-fault e f is = absurd is
+pub picture-fault : (e : WaitingView) (f : PictureFault) → IsPictureFault e.engine.core (all_pages e.engine.core) f → IsUndrawn e (fault_in_drawing f)
+picture-fault e fault.TooManyPages is = too-wide e.engine.core is
+picture-fault e (fault.NoSuchPage p) is = absurd (all-in-use e.engine.core p is.1)
+picture-fault e fault.NoMemory is = tt

@@ -14,10 +14,10 @@ use Rattle.script.proofs.RunLemmas.{Uses-refl, Uses-Takes, Uses-known}
 use Rattle.viewing.specs.Viewing.{ViewEvent, view_line, view_answer, ViewMoves}
 use Rattle.stories.specs.declared.fault.StoryFault.{StoryFault}
 use Rattle.stories.specs.declared.fault.StoryFault.TheVariants.{Drawing, TooManyLines}
-use Rattle.drawing.specs.declared.fault.DrawFault.{DrawFault}
-use Rattle.drawing.specs.declared.fault.DrawFault.TheVariants.{Script, TooManyPages, NoSuchPage}
-use Rattle.drawing.specs.Outcomes.{IsReadFault}
-use Rattle.drawing.proofs.ReadLemmas.{ReadSoFar, read-nothing, read-more, read-line, read-lines, read-known, nothing-left, is-from_outside, always}
+use Rattle.stories.specs.declared.draw_fault.DrawFault.{DrawFault}
+use Rattle.stories.specs.declared.draw_fault.DrawFault.TheVariants.{Script, TooManyPages, NoSuchPage}
+use Rattle.stories.specs.DrawOutcomes.{IsReadFault}
+use Rattle.stories.proofs.ReadLemmas.{ReadSoFar, read-nothing, read-more, read-line, read-lines, read-known, nothing-left, is-from_outside, always}
 use Rattle.stories.specs.Html.{item_html, items_html}
 use Rattle.stories.specs.Telling.{IsTold, AreTold, TellsLine, IsTellFault}
 use Rattle.stories.specs.Outcomes.{TellsAll, EndsHere}

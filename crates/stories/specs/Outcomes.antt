@@ -11,10 +11,10 @@ use Rattle.script.specs.declared.fault.ShellFault.TheVariants.{BadLine, BadPage,
 use Rattle.script_text.specs.Grammar.{heading, with_feed}
 use Rattle.viewing.specs.Viewing.{ViewEvent}
 use Rattle.shapes.specs.declared.fault.TheConstants.{MOST_PAGES}
-use Rattle.drawing.specs.declared.fault.DrawFault.{DrawFault}
-use Rattle.drawing.specs.declared.fault.DrawFault.TheVariants.{Script, TooManyPages, NoSuchPage}
-use Rattle.drawing.specs.Pictures.{AddsText}
-use Rattle.drawing.specs.Outcomes.{LinesRead, IsBadNext, IsFromOutside, ScriptRead, IsBadAt, IsDrawCaused}
+use Rattle.stories.specs.declared.draw_fault.DrawFault.{DrawFault}
+use Rattle.stories.specs.declared.draw_fault.DrawFault.TheVariants.{Script, TooManyPages, NoSuchPage}
+use Rattle.shapes.specs.Pictures.{AddsText}
+use Rattle.stories.specs.DrawOutcomes.{LinesRead, IsBadNext, IsFromOutside, ScriptRead, IsBadAt, IsDrawCaused}
 use Rattle.stories.specs.declared.page.TheConstants.{BEGINNING, MIDDLE, END}
 use Rattle.stories.specs.declared.story.TheConstants.{MOST_LINES}
 use Rattle.stories.specs.declared.fault.StoryFault.{StoryFault}

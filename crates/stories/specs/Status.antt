@@ -1,6 +1,6 @@
 -- The statuses that the program ends with.
 use Rattle.std.specs.Prelude.{ℕ}
-use Rattle.drawing.specs.Status.{draw_status_of}
+use Rattle.stories.specs.DrawStatus.{draw_status_of}
 use Rattle.stories.specs.declared.fault.StoryFault.{StoryFault}
 use Rattle.stories.specs.declared.fault.StoryFault.TheVariants.{Drawing, TooManyLines}
 

@@ -17,9 +17,9 @@ use Rattle.viewing.specs.Showing.{IsExplanation}
 use Rattle.viewing.specs.Viewing.{ViewEvent, view_line, view_answer, ViewMoves}
 use Rattle.viewing.specs.Steps.{ViewFits}
 use Rattle.shapes.specs.declared.fault.TheConstants.{MOST_PAGES}
-use Rattle.drawing.specs.declared.fault.DrawFault.{DrawFault}
-use Rattle.drawing.specs.declared.fault.DrawFault.TheVariants.{Script, TooManyPages}
-use Rattle.drawing.specs.Pictures.{all_pages, IsPictureText}
+use Rattle.stories.specs.declared.draw_fault.DrawFault.{DrawFault}
+use Rattle.stories.specs.declared.draw_fault.DrawFault.TheVariants.{Script, TooManyPages}
+use Rattle.shapes.specs.Pictures.{all_pages, IsPictureText}
 use Rattle.stories.specs.Html.{explanation_html, item_html, head_html, section_html}
 
 -- Explanations.

@@ -5,10 +5,11 @@ ghost use Rattle.std.specs.Io.KnownBytes.{Appends};
 ghost use Rattle.calls.specs.Words.{AreSettings};
 ghost use Rattle.script_text.specs.Grammar.{heading, with_feed};
 ghost use Rattle.script.specs.Steps.{Uses};
-ghost use Rattle.drawing.specs.Outcomes.{IsDrawCaused};
+ghost use Rattle.stories.specs.DrawOutcomes.{IsDrawCaused};
 ghost use Rattle.stories.specs.Outcomes.{MatchesFirst, MakesTable};
 
-use drawing::{DrawFault, next_of, no_memory};
+use crate::draw_fault::{DrawFault, no_memory};
+use crate::lines::next_of;
 use script::{Front, IoLog, Pending, ShellFault};
 use script_text::{extend, settings_at};
 use session_core::{Engine, Settings};

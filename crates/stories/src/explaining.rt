@@ -2,7 +2,7 @@
 
 ghost use Rattle.std.specs.Prelude.{◌≡◌, ◌++◌, OnOk, IfOk};
 ghost use Rattle.svg_text.specs.Sentences.{numbered};
-ghost use Rattle.drawing.specs.Pictures.{AddsText};
+ghost use Rattle.shapes.specs.Pictures.{AddsText};
 ghost use Rattle.stories.specs.Html.{escaped, html, version_html, versions_html, place_html, entry_html, entries_html, no_entry_html, explanation_html};
 ghost use Rattle.stories.specs.Telling.{read_by, read_of, IsReadingOf, ExplainsKey, ExplainsRead, ExplainsLine};
 

@@ -3,7 +3,7 @@
 ghost use Rattle.std.specs.Prelude.{◌≡◌};
 ghost use Rattle.stories.specs.Status.{story_status_of};
 
-use drawing::DrawFault;
+use crate::draw_fault::DrawFault;
 use thiserror::Error;
 
 /// Why there is no story. The words are those of the program's standard error.

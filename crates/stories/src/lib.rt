@@ -1,21 +1,27 @@
-//! The story of a script.
+//! The picture of a script, and its story.
 //!
-//! [`tell_story`] writes a page of HTML: the lines of a script that may have looks with their answers, and for each what a read of it
-//! finds, in sentences, and the picture of the table behind it. It reads by the functions of `script` and `viewing`, and draws as `drawing`
-//! does.
+//! [`draw`] does the lines of a script that may have looks, up to one or all, by the functions of `script` and `viewing`, and writes the
+//! picture of the table as it is then. Its contract says which lines were read and done, that what was written is the text of a picture
+//! (`shapes`) of the table behind them, and else why nothing was (`specs/DrawOutcomes.antt`).
 //!
-//! Its contract says which lines were read and done, that each picture is the text of one (`shapes`, `svg_text`) of the table as it was
-//! then, that each explanation is that of the line's session and key before the line, and that all this was written, or nothing
-//! (`specs/Outcomes.antt`, `specs/Telling.antt`).
+//! [`tell_story`] writes a page of HTML: the lines with their answers, and for each what a read of it finds, in sentences, and the picture
+//! of the table behind it. Its contract says besides that each explanation is that of the line's session and key before the line, and
+//! that all this was written, or nothing (`specs/Outcomes.antt`, `specs/Telling.antt`).
 #![tactic(auto)]
 
 mod beginning;
+mod draw_fault;
+mod drawing;
 mod explaining;
 mod fault;
+mod lines;
 mod page;
 mod story;
 mod telling;
 
+pub use draw_fault::{DrawFault, fault_of, no_memory};
+pub use drawing::draw;
 pub use fault::StoryFault;
-pub use script::IoLog;
+pub use lines::next_of;
+pub use script::{IoLog, ShellFault};
 pub use story::{MOST_LINES, tell_story};

@@ -5,10 +5,11 @@ ghost use Rattle.std.specs.Io.KnownBytes.{Appends};
 ghost use Rattle.stories.specs.Outcomes.{page_html, TellsAll, EndsHere, WritesPage, TellsFrom, StoryOutcome, IsStoryCaused};
 
 use crate::beginning::first_of;
+use crate::draw_fault::{DrawFault, no_memory};
 use crate::fault::StoryFault;
+use crate::lines::next_of;
 use crate::page::{BEGINNING, END, MIDDLE};
 use crate::telling::{tell_first, tell_line};
-use drawing::{DrawFault, next_of, no_memory};
 use script::{Front, IoLog, Pending, ShellFault, close};
 use script_text::{RefusedGrowth, extend};
 use session_core::{Engine, Reply};

@@ -2,15 +2,16 @@
 
 ghost use Rattle.std.specs.Prelude.{◌≡◌, ◌++◌, OnOk, IfOk, IfErr};
 ghost use Rattle.std.specs.Bool.{OnTrue, OnFalse};
-ghost use Rattle.drawing.specs.Pictures.{AddsText};
+ghost use Rattle.shapes.specs.Pictures.{AddsText};
 ghost use Rattle.viewing.specs.Steps.{IsNoView};
 ghost use Rattle.stories.specs.Html.{first_item, item_html, head_html};
 ghost use Rattle.stories.specs.Telling.{IsBegun, IsEnded, IsFirstTold, IsUndrawn, TellsLine, IsTellFault};
 
+use crate::draw_fault::{DrawFault, fault_of, no_memory};
 use crate::explaining::{escape, explain_line};
-use drawing::{DrawFault, draw_all, no_memory};
 use script_text::{RefusedGrowth, extend};
 use session_core::{Engine, Reply};
+use shapes::draw_all;
 use std::alloc::Global;
 use viewing::do_view;
 
@@ -65,7 +66,7 @@ fn end(told: &mut Vec<u8>, alloc: Global, engine: &mut Engine) -> Result<(), Dra
 {
     match draw_all(engine, alloc, told) {
         Ok(()) => {}
-        Err(fault) => return Err(fault),
+        Err(fault) => return Err(fault_of(fault)),
     }
     match extend(told, b"</section>") {
         Ok(()) => Ok(()),

@@ -5,3 +5,4 @@ pub mod PutLemmas
 pub mod KeyLemmas
 pub mod TicketRows
 pub mod SeenLemmas
+pub mod Beside

@@ -1,5 +1,5 @@
 -- Which rows of a page a reader sees.
-use Rattle.std.specs.Prelude.{◌≡◌, List, Some, slice_get}
+use Rattle.std.specs.Prelude.{◌≡◌, ◌<◌, List, length, Some, slice_get}
 use Rattle.xid_circle.specs.Numbers.{PageNo}
 use Rattle.tuple_header.specs.declared.version.Row.{Row}
 use Rattle.page_slots.specs.View.{PageView}
@@ -12,3 +12,7 @@ use Rattle.table_scans.specs.Takes.{TakesAll}
 abbrev pub AreSeenOn : PageView → Reader → List Row → Type 0
 AreSeenOn page reader rows = (h : HeapView) (number : PageNo) → slice_get h.pages.pages number ≡ Some page
     → TakesAll (sight_of h reader) (start_of number) rows
+
+-- and it sees some
+abbrev pub SeesSome : PageView → Reader → Type 0
+SeesSome page reader = (rows : List Row) × AreSeenOn page reader rows × (0 < length rows)

@@ -8,7 +8,7 @@
 //!
 //! A [`Ticket`] is made where nothing is written meanwhile. It holds the page as it is then, and which of its versions a reader sees.
 //! [`resolve`] gives their rows at any time after that. It is handed no table, so nothing that was done since can matter
-//! (`specs/Tickets.antt`).
+//! (`specs/Tickets.antt`). [`read_rows`] gives those of a page at once, where it stands.
 #![tactic(auto)]
 
 mod keys;
@@ -22,4 +22,4 @@ pub use keys::take_keys;
 pub use progress::{CursorScan, KeyRange, Scan, start_of};
 pub use putting::put_next;
 pub use taking::{no_row, take_next};
-pub use ticket::{Ticket, resolve};
+pub use ticket::{Ticket, read_rows, resolve};

@@ -6,8 +6,9 @@ ghost use Rattle.table_scans.specs.Puts.{PutsOfCursor, PutsNext, PutsOfIndex, Pu
 
 use crate::keys::put_keys;
 use crate::progress::{CursorScan, Scan, start_of};
+use crate::seeing::seen_beside;
 use heap_write::HeapState;
-use index_lookup::{IndexRange, seen_row};
+use index_lookup::IndexRange;
 use tuple_header::RowPlace;
 use visibility::Reader;
 use xid_circle::Tid;
@@ -124,8 +125,9 @@ fn put_rows_on(
     };
     let end = page.slots() + 1;
     let mut count = 0;
+    let mut counted = None;
     for slot in from.slot..end {
-        if let Some(row) = seen_row(page, slot, reader) {
+        if let Some(row) = seen_beside(page, slot, reader, &mut counted) {
             row.put_into(&mut places[count]);
             count += 1;
             if count == places.len() {

@@ -1,9 +1,9 @@
 //! Tickets: pages whose rows are read later.
 
-ghost use Rattle.std.specs.Prelude.{◌≡◌, ◌≢◌, ◌≤◌, [], IfOk, OnErr, length, vec_len, vec_capacity};
+ghost use Rattle.std.specs.Prelude.{◌≡◌, ◌≢◌, ◌<◌, ◌≤◌, [], IfOk, OnErr, length, vec_len, vec_capacity};
 ghost use Rattle.std.specs.Arc.{arc_value};
-ghost use Rattle.table_scans.specs.Tickets.{rows_at, ticket_rows};
-ghost use Rattle.table_scans.specs.Seen.{AreSeenOn};
+ghost use Rattle.table_scans.specs.Tickets.{rows_at, ticket_rows, HasRows};
+ghost use Rattle.table_scans.specs.Seen.{AreSeenOn, SeesSome};
 
 use crate::seeing::{SlotNumbers, seen_slots};
 use page_slots::Page;
@@ -55,13 +55,31 @@ fn copy_rows(page: &Page, numbers: &[u16], room: &mut Vec<Row>)
     }
 }
 
+/// Copies of the rows in these slots. Memory is refused only where there is one.
+fn rows_in(alloc: Global, page: &Page, numbers: &[u16]) -> Result<Vec<Row>, AllocError>
+    requires there { HasRows page.now.slots numbers.now }
+    ensures rows { IfOk result (λ rows. rows.items ≡ rows_at page.now.slots numbers.now) }
+    ensures refused { OnErr result (0 < length (rows_at page.now.slots numbers.now)) }
+{
+    let mut rows = Vec::with_capacity(alloc, numbers.len())?;
+    copy_rows(page, numbers, &mut rows);
+    Ok(rows)
+}
+
 /// The rows of the page that the session saw when it took the ticket, in the order of their slots. Memory is refused only where there is
 /// a row.
 pub fn resolve(ticket: &Ticket) -> Result<Vec<Row>, AllocError>
     ensures rows { IfOk result (λ rows. rows.items ≡ ticket_rows ticket.now) }
     ensures refused { OnErr result (ticket_rows ticket.now ≢ []) }
 {
-    let mut rows = Vec::with_capacity(ticket.alloc, ticket.seen.len())?;
-    copy_rows(&ticket.page, ticket.seen.as_slice(), &mut rows);
-    Ok(rows)
+    rows_in(ticket.alloc, &ticket.page, ticket.seen.as_slice())
+}
+
+/// The rows of the page that the reader sees, in the order of their slots. Memory is refused only where there is one.
+pub fn read_rows(alloc: Global, page: &Page, reader: &Reader<'_>) -> Result<Vec<Row>, AllocError>
+    ensures rows { IfOk result (λ rows. AreSeenOn page.now reader.now rows.items) }
+    ensures refused { OnErr result (SeesSome page.now reader.now) }
+{
+    let seen = seen_slots(page, reader);
+    rows_in(alloc, page, seen.as_slice())
 }

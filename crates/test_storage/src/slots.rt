@@ -61,7 +61,21 @@ fn set_unused(page: &mut Page, number: u16) {
 }
 
 fn is_placed(page: &Page, number: u16, from: u16, length: u16) -> bool {
-    page.place(number) == Some((from, length))
+    page.place(number) == Some((from, length)) && is_read_from(page, number, from)
+}
+
+/// Whether the version in a slot is found at this byte and not at the one before it. It is of id 3, and nobody deleted it.
+fn is_read_from(page: &Page, number: u16, from: u16) -> bool {
+    let Some((header, row)) = page.version_from(number, from) else {
+        return false;
+    };
+    let Some(undeleted) = page.undeleted_row(number, Xid(3)) else {
+        return false;
+    };
+    header.xmin == Xid(3)
+        && row.key() == undeleted.key()
+        && page.version_from(number, from.wrapping_sub(1)).is_none()
+        && page.undeleted_row(number, Xid(4)).is_none()
 }
 
 fn has_bytes(page: &Page, at: usize, expected: &[u8; 8]) -> bool {

@@ -1,5 +1,5 @@
 -- A transcript is cut just where an exchange is spelled.
-use Rattle.std.proofs.Common.{◌≡◌, ℕ, ◌+◌, ◌-◌, ◌<◌, ◌≤◌, suc, zero, List, [], ◌∷◌, ◌++◌, length, take, drop, get_or, refl, ap, append_assoc, length-append, ◌∙◌, sym, subst, arith, Option, None, Some, Bool, true, false, cond, eqb, eq-eqb, nat_lt, ◌&&◌, ◌||◌, ◌⊎◌, inl, inr, codes, position, drop-cons, add-one}
+use Rattle.std.proofs.Common.{◌≡◌, ℕ, ◌+◌, ◌<◌, ◌≤◌, suc, List, [], ◌∷◌, ◌++◌, length, take, drop, get_or, refl, ap, append_assoc, length-append, ◌∙◌, sym, subst, arith, Option, None, Some, Bool, true, false, cond, eqb, eq-eqb, nat_lt, ◌&&◌, ◌||◌, ◌⊎◌, inl, inr, codes, position, drop-cons, add-one}
 use Rattle.std.specs.Option.{option_map}
 use Rattle.std.proofs.lemmas.Option.{none-some, same_Some}
 use Rattle.std.proofs.lemmas.Bool.Decides.{nat_tests}
@@ -65,7 +65,7 @@ prompted_is [] h = absurd (let e = h in cc e)
 prompted_is (a ∷ []) h = let t = both_true (eqb a 62) (eqb 0 32) h in absurd (let e = t.1 in cc e)
 prompted_is (a ∷ b ∷ rest) h = let t = both_true (eqb a 62) (eqb b 32) h in two_are a b rest (is_62 a t.0) (is_32 b t.1)
 
-feed_behind : (asked more : List ℕ) → with_feed asked ++ more ≡ asked ++ 10 ∷ more
+pub feed_behind : (asked more : List ℕ) → with_feed asked ++ more ≡ asked ++ 10 ∷ more
 feed_behind asked more = append_assoc asked (10 ∷ []) more
 
 pub question_says : (text asked left : List ℕ) → question_in text ≡ Some (asked, left) → (text ≡ codes "> " ++ (with_feed asked ++ left)) × (position (λ b. eqb b 10) asked ≡ None)

@@ -1,5 +1,5 @@
 -- What failed outside, and what is written then.
-use Rattle.std.proofs.Common.{◌≡◌, ℕ, ◌+◌, ◌-◌, List, ◌++◌, length, take, take-add, drop, ap, append_assoc, ◌∙◌, sym, Option, None, Some, Bool, Ok, Err}
+use Rattle.std.proofs.Common.{ℕ, ◌+◌, ◌-◌, List, ◌++◌, length, take, take-add, drop, ap, append_assoc, ◌∙◌, sym, Option, None, Some, Bool, Ok, Err}
 use Rattle.std.specs.Io.KnownBytes.{Appends, Keeps}
 use Rattle.std.proofs.lemmas.List.{take-append-drop, take_rest}
 use Rattle.transcript.specs.declared.begins.Begins.{Begins}

@@ -1,5 +1,5 @@
 -- What is said of an answer, by the replies that it may stand for.
-use Rattle.std.proofs.Common.{◌≡◌, ℕ, ◌+◌, ◌^◌, ◌<◌, List, refl, ◌∙◌, sym, subst, arith, None, Some, true, false, Bool, ◌⊎◌, inl, inr, codes}
+use Rattle.std.proofs.Common.{◌≡◌, ℕ, ◌+◌, ◌<◌, List, refl, ◌∙◌, sym, subst, arith, None, Some, true, false, Bool, inl, inr, codes}
 use Rattle.std.specs.Str.{bytes_eq}
 use Rattle.std.proofs.lemmas.Bool.{cases_lt}
 use Rattle.std.proofs.lemmas.Slice.Eq.{bytes_eq-Decides}
@@ -9,7 +9,6 @@ use Rattle.calls.specs.declared.reply.Reply.{Reply}
 use Rattle.calls.specs.declared.reply.Reply.TheVariants as reply
 use Rattle.calls.specs.declared.reply.Refusal.TheVariants as refusal
 use Rattle.refinement.specs.Allowed.{AllowsReply}
-use Rattle.judge.specs.declared.judge.Ruling.TheVariants.{Allowed}
 use Rattle.judge.specs.declared.why.Why.{Why}
 use Rattle.judge.specs.Reasons.{Breaks, TellsDue}
 use Rattle.reply_text.specs.Replies.{SpellsReply}

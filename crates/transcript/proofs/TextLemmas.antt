@@ -1,5 +1,5 @@
 -- A transcript from its first line to its end.
-use Rattle.std.proofs.Common.{◌≡◌, ℕ, ◌+◌, ◌≤◌, List, [], ◌∷◌, ◌++◌, length, take, drop, refl, ap, append_assoc, length-append, ◌∙◌, sym, subst, arith, Option, None, Some, true, false, Bool, ◌⊎◌, inr, Result, Ok, Err, IfSome}
+use Rattle.std.proofs.Common.{◌≡◌, ℕ, ◌+◌, ◌≤◌, List, [], ◌∷◌, ◌++◌, length, take, drop, refl, ap, length-append, ◌∙◌, sym, subst, arith, Option, None, Some, true, false, Bool, inr, Result, Ok, Err, IfSome}
 use Rattle.std.proofs.lemmas.Option.{none-some, same_Some}
 use Rattle.std.proofs.lemmas.List.{append-nil, take-append-drop}
 use Rattle.std.proofs.Math.Seq.{take-append_seam}
@@ -17,10 +17,8 @@ use Rattle.transcript.specs.declared.fault.Fault.{Fault}
 use Rattle.transcript.specs.declared.fault.Fault.TheVariants.{BadLine, Input, Output, NoMemory}
 use Rattle.transcript.specs.Transcripts.{Exchange, AreAllowed, AreHeard, AreJudged, IsBadFirst, JudgesText, transcript_text, exchanges_text, allowed_text, line_ends, IsBadExchange, steps_judged, replies_judged}
 use Rattle.transcript.specs.Judging.{AreExchanges, AreAllExchanges, MatchesExchange}
+use Rattle.transcript.proofs.CuttingLaws.{feed_behind}
 use Rattle.transcript.proofs.ExchangeLemmas.{heard_right}
-
-feed_behind : (line more : List ℕ) → with_feed line ++ more ≡ line ++ 10 ∷ more
-feed_behind line more = append_assoc line (10 ∷ []) more
 
 cut_heading : (s : Settings) (more : List ℕ) → AreSettings s → cut_at 10 (with_feed (heading s) ++ more) ≡ Some (heading s, more)
 cut_heading s more are = ap (cut_at 10) (feed_behind (heading s) more) ∙ cut_at-free 10 (heading s) more (Free-heading s are)

@@ -1,6 +1,5 @@
 -- What is asked for by a line, and what is said of its answer.
 use Rattle.std.specs.Prelude.{◌≡◌, ℕ, ◌+◌, ◌^◌, ◌<◌, ◌≤◌, ◌⊎◌, Bool, true, false, List, [], ◌++◌, length, take, drop, Option, Some, None, Result, Ok, Err, MatchOption}
-use Rattle.std.specs.List.{flat_map, AllByRecursion}
 use Rattle.calls.specs.Words.{AreSettings}
 use Rattle.calls.specs.declared.settings.Settings.{Settings}
 use Rattle.script_text.specs.Grammar.{SettingsFit, heading, with_feed}

@@ -2,7 +2,6 @@
 use Rattle.std.proofs.Common.{◌≡◌, ◌≢◌, ◌⊎◌, ◌↔◌, ℕ, ◌≤◌, List, length, Option, Some, None, arith, refl, sym, ap, ◌∙◌, subst, inl, inr, ⊎_elim, slice_get}
 use Rattle.std.specs.Prelude.{Contains, IsSome}
 use Rattle.std.specs.Option.{option_map}
-use Rattle.std.proofs.lemmas.Option.{slice_get_within, get_or_from_slice_get}
 use Rattle.xid_circle.specs.declared.Tid.{Tid}
 use Rattle.tuple_header.specs.Version.{Version}
 use Rattle.page_sheet.specs.declared.slot.Slot.{Slot}
@@ -10,14 +9,14 @@ use Rattle.page_sheet.specs.Slots.{version_at}
 use Rattle.page_slots.specs.View.{PageView}
 use Rattle.commit_status.specs.declared.status.Status.{Status}
 use Rattle.commit_status.specs.declared.status.Status.TheVariants.{InProgress, Committed, Aborted}
-use Rattle.commit_status.specs.Window.{Window, IsWindow, IsGiven, IsActive, IsCommitted, IsAborted, IsUpToNext, place, status_of, top_of, next_id, turns}
+use Rattle.commit_status.specs.Window.{Window, IsWindow, IsGiven, IsActive, IsCommitted, IsAborted, IsUpToNext, place, status_of, top_of, turns}
 use Rattle.commit_status.specs.Changes.{Truncates}
-use Rattle.commit_status.proofs.Places.{at-from_place, some-from_is, is-from_some, upto-next}
+use Rattle.commit_status.proofs.Places.{at-from_place, some-from_is, is-from_some}
 use Rattle.commit_status.proofs.Giving.{finished-place}
 use Rattle.commit_status.proofs.Ancestors.{top-before}
-use Rattle.commit_status.proofs.Tables.{window_of, table-dropped}
 use Rattle.snapshot.specs.Snap.{Snap, Sees, earliest}
 use Rattle.snapshot.proofs.Sights.{sees-top}
+use Rattle.snapshot.proofs.Takes.{first-in}
 use Rattle.visibility.specs.Visible.{state_of}
 use Rattle.visibility.specs.Seeing.{IsRunning, Touches}
 use Rattle.visibility.proofs.Makers.{touch-cases, state-some, state-is, active-to}
@@ -46,7 +45,7 @@ use Rattle.session_steps.specs.State.{State, session_at, seen, seen_in, reader_o
 use Rattle.sessions.specs.Session.{kept_by, held_back}
 use Rattle.session_steps.specs.Agrees.{SessionKeeps, SessionScans, Agrees, KeepsAllTargets}
 use Rattle.sound_entries.specs.Since.{IsExactSince, MayScanSince}
-use Rattle.table_integrity.proofs.Forgetting.{forgotten-table, forgotten-since, forgotten-scan}
+use Rattle.table_integrity.proofs.Forgetting.{truncated-window, forgotten-table, forgotten-since, forgotten-scan}
 use Rattle.table_indexes.specs.Indexes.{IndexesView, entries_at, since_at, since_after, IsInUse}
 use Rattle.index_entries.specs.declared.entry.Entry.{Entry}
 use Rattle.session_steps.proofs.InUse.{marks-stay, agree}
@@ -59,9 +58,6 @@ use Rattle.sound_vacuum.specs.Vacuuming.{KeepsVacuum, IsVacuumed}
 use Rattle.vacuum_engine.specs.Laws.{TrueMaps, with_heap}
 use Rattle.vacuum_engine.proofs.Agreeing.{active-late, given-from}
 
-first-among : (ids : List ℕ) (x : ℕ) → slice_get ids 0 ≡ Some x → Contains ids x
-first-among ids x at = (0, slice_get_within ids 0 x at, get_or_from_slice_get ids 0 x x at)
-
 -- Ids.
 
 committed-ended : Committed ≢ InProgress
@@ -72,12 +68,6 @@ aborted-ended e = absurd (cc)
 
 aborted-some : (w : Window) (x : ℕ) → IsAborted w x → x ≢ 0
 aborted-some w x gone same = let e : Aborted ≡ InProgress = sym gone ∙ ap (status_of w) same in aborted-ended e
-
--- what is left of a window is one
-truncated-window : (w v : Window) (c : ℕ) → IsWindow w → Truncates w v c → IsUpToNext w c → IsWindow v
-truncated-window w v c is t up =
-    let dropped = table-dropped w.first w.stop_age w.entries v.entries w.spare v.spare (next_id w) c (turns w.first c) (record { window = is; normal = (upto-next w is).normal; next_is = refl }) up refl t.entries in
-    subst (λ f. IsWindow (window_of f v.stop_age v.entries v.spare)) (sym t.first) (subst (λ s. IsWindow (window_of c s v.entries v.spare)) (sym t.stop_age) dropped.window)
 
 module _ (w v : Window) (c : ℕ) (is : IsWindow w) (iv : IsWindow v) (t : Truncates w v c) (up : IsUpToNext w c) where
   -- an id that is not before the cutoff stays
@@ -158,7 +148,7 @@ module _ (st : State) (u : Window) (xs : IndexesView) (w : World) (v : VacuumVie
   own-top : (s : ℕ) (e : Session) → session_at st s ≡ Some e → (x : ℕ) → Contains e.own.ids x → top_of u x ≡ top_of before x
   own-top s e at x mine =
       let first = (agrees.sound.sessions s e at).topmost x mine in
-      let top = own-active s e at (top_of before x) (first-among e.own.ids (top_of before x) first) in
+      let top = own-active s e at (top_of before x) (first-in e.own.ids (top_of before x) first) in
       top-same before u c is iv t up x (active-stays x (own-active s e at x mine)) top.is_given (active-after (top_of before x) top)
 
   -- Pages.

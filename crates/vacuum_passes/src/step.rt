@@ -23,12 +23,14 @@ impl Vacuum {
         ensures { Steps heap.old heap.new self.old horizon.0
             (option_map (λ _. self.new) result) result }
     {
-        match self.work(heap, horizon) {
-            Some(piece) => {
+        match self.phase {
+            Phase::Heap => self.step_heap(heap, horizon),
+            Phase::Index(_, _) => self.step_index(heap),
+            Phase::Free => {
+                let page = self.free(heap, horizon);
                 self.count();
-                Some(piece)
+                Some(Piece::Free(page))
             }
-            None => None,
         }
     }
 
@@ -47,30 +49,16 @@ impl Vacuum {
         Some(Piece::Index(index))
     }
 
-    /// Does the next step, and doesn't count it.
-    fn work(&mut self, heap: &mut HeapState, horizon: Xid) -> Option<Piece>
-        ensures { Steps heap.old heap.new self.old horizon.0
-            (option_map (λ _. counted self.new) result) result }
-    {
-        match self.phase {
-            Phase::Heap => self.step_heap(heap, horizon),
-            Phase::Index(index, from) => {
-                self.sweep(heap, index, from);
-                Some(Piece::Index(index))
-            }
-            Phase::Free => Some(Piece::Free(self.free(heap, horizon))),
-        }
-    }
-
     /// Visits the next page. Where none is left the indexes begin, and if nothing is collected the vacuum has ended.
     fn step_heap(&mut self, heap: &mut HeapState, horizon: Xid) -> Option<Piece>
         requires phase { self.old.phase ≡ phase.Heap }
         ensures { Steps heap.old heap.new self.old horizon.0
-            (option_map (λ _. counted self.new) result) result }
+            (option_map (λ _. self.new) result) result }
     {
         match self.next_page(heap) {
             Some(number) => {
                 self.visit(heap, number, horizon);
+                self.count();
                 Some(Piece::Heap(number))
             }
             None => self.leave_heap(heap),
@@ -82,12 +70,13 @@ impl Vacuum {
         requires phase { self.old.phase ≡ phase.Heap }
         requires none_left { NoPageLeft heap.old self.old }
         ensures { (horizon : ℕ) → Steps heap.old heap.new self.old horizon
-            (option_map (λ _. counted self.new) result) result }
+            (option_map (λ _. self.new) result) result }
     {
         if self.store.is_empty() {
             return None;
         }
         self.begin_indexes(heap);
+        self.count();
         Some(Piece::Index(0))
     }
 

@@ -3,7 +3,7 @@ use Rattle.calls.specs.Words.{RowToWrite}
 use Rattle.calls.specs.declared.step.Step.TheVariants as step
 use Rattle.calls.specs.declared.reply.Refusal.{Refusal}
 use Rattle.session_steps.specs.declared.outcome.Ack.{Ack}
-use Rattle.session_steps.specs.Follows.{worded}
+use Rattle.session_steps.specs.Writes.{worded}
 use Rattle.session_steps.specs.Replies.{reply_to}
 use Rattle.c_handles.specs.declared.held.Held.{Held}
 use Rattle.sandpiper_c.specs.declared.writes.WriteKind.{WriteKind}

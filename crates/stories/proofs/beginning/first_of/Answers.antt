@@ -1,6 +1,6 @@
-use Rattle.drawing.proofs.OutcomeLemmas.{caused-by}
+use Rattle.stories.proofs.DrawOutcomeLemmas.{caused-by}
 use Rattle.script.proofs.FirstLemmas.{no_heading}
-use Rattle.drawing.specs.declared.fault.DrawFault.TheVariants.{Script}
+use Rattle.stories.specs.declared.draw_fault.DrawFault.TheVariants.{Script}
 use Rattle.stories.proofs.beginning.first_of.Goals as goal
 
 pub returns-in-Ok-Some-clause-begins : goal.returns-in-Ok-Some-clause-begins

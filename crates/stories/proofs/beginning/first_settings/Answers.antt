@@ -1,7 +1,7 @@
 use Rattle.std.proofs.Common.{refl, sym}
 use Rattle.std.proofs.lemmas.Option.{none-some}
 use Rattle.script.proofs.FirstLemmas.{bad_first, bad_text, bad_settings, first_used}
-use Rattle.drawing.proofs.OutcomeLemmas.{caused-by}
+use Rattle.stories.proofs.DrawOutcomeLemmas.{caused-by}
 use Rattle.stories.proofs.OutcomeLemmas.{read-fails, line-spelled}
 use Rattle.stories.proofs.beginning.first_settings.Goals as goal
 

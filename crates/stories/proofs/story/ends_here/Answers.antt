@@ -1,5 +1,5 @@
 use Rattle.std.proofs.Common.{arith}
-use Rattle.drawing.proofs.OutcomeLemmas.{caused-by}
+use Rattle.stories.proofs.DrawOutcomeLemmas.{caused-by}
 use Rattle.stories.proofs.ToldLemmas.{ended-here, more-here, refused-here}
 use Rattle.stories.proofs.story.ends_here.Goals as goal
 

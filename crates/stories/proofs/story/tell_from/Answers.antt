@@ -1,7 +1,7 @@
 use Rattle.std.proofs.Common.{◌++◌}
 use Rattle.std.proofs.KnownBytes.{Appends-nil}
-use Rattle.drawing.proofs.OutcomeLemmas.{all-known}
-use Rattle.drawing.proofs.ReadLemmas.{always}
+use Rattle.stories.proofs.DrawOutcomeLemmas.{all-known}
+use Rattle.stories.proofs.ReadLemmas.{always}
 use Rattle.stories.proofs.OutcomeLemmas.{picture-caused, first-untold, lines-untold-behind, lines-told-behind}
 use Rattle.stories.proofs.story.tell_from.Goals as goal
 

@@ -1,7 +1,7 @@
 use Rattle.std.proofs.Common.{arith, [], ◌++◌}
 use Rattle.std.proofs.KnownBytes.{Appends-trans}
-use Rattle.drawing.proofs.ReadLemmas.{bad-next, no-line, no-view, always}
-use Rattle.drawing.proofs.OutcomeLemmas.{caused-by}
+use Rattle.stories.proofs.ReadLemmas.{bad-next, no-line, no-view, always}
+use Rattle.stories.proofs.DrawOutcomeLemmas.{caused-by}
 use Rattle.stories.proofs.ToldLemmas.{told-nothing, told-more, told-line, tells-all, at-end, refused-telling, untold, ends-telling}
 use Rattle.stories.proofs.OutcomeLemmas.{tell-caused}
 use Rattle.stories.proofs.story.tell_lines.Goals as goal

@@ -1,4 +1,4 @@
-use Rattle.std.proofs.Common.{◌+◌, ◌++◌, arith, refl, ap, sym, ◌∙◌}
+use Rattle.std.proofs.Common.{◌+◌, arith, refl, ap, sym}
 use Rattle.std.proofs.lemmas.List.{take_rest}
 use Rattle.plain_history.specs.Plain.{world_of}
 use Rattle.transcript.proofs.ExchangeLemmas.{no_question, bad_question, no_answer, bad_answer, rest_fits, look_of, look_goes, step_goes, answer_wrong}

@@ -1,4 +1,3 @@
-use Rattle.plain_history.specs.Plain.{world_of}
 use Rattle.transcript.proofs.RulingLemmas.{by_named}
 use Rattle.transcript.proofs.ruling.judge_busy.Goals as goal
 

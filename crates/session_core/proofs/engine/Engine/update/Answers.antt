@@ -1,7 +1,7 @@
 use Rattle.std.proofs.Common.{refl}
 use Rattle.calls.specs.declared.step.Step.TheVariants as step
 use Rattle.session_steps.specs.Replies.{reply_to}
-use Rattle.session_steps.specs.Follows.{worded}
+use Rattle.session_steps.specs.Writes.{worded}
 use Rattle.session_core.proofs.DirectLemmas.{direct-follows}
 use Rattle.session_core.proofs.Caching.{answer-keeps}
 use Rattle.session_core.proofs.engine.Engine.update.Goals as goal

@@ -1,22 +1,20 @@
-use Rattle.std.proofs.Common.{◌∙◌, None, sym, subst}
+use Rattle.std.proofs.Common.{◌∙◌, sym, subst}
 use Rattle.std.proofs.lemmas.Option.{none-some}
-use Rattle.calls.specs.declared.reply.Reply.{Reply}
-use Rattle.sessions.specs.declared.session.Session.{Session}
-use Rattle.session_steps.specs.State.{State}
-use Rattle.session_steps.specs.Tests.{MayWriteKey}
-use Rattle.session_steps.specs.Writes.{outcome_of}
+use Rattle.calls.specs.Writes.{inserts}
+use Rattle.calls.specs.declared.step.Step.TheVariants as step
+use Rattle.session_steps.specs.State.{State, horizon_of}
+use Rattle.session_steps.specs.Writes.{outcome_of, worded}
 use Rattle.session_steps.specs.Replies.{reply_to}
-use Rattle.session_steps.specs.Exact.{ExactInsert}
-use Rattle.session_steps.specs.Follows.{FollowsInsert}
-use Rattle.session_steps.proofs.Trying.{with_session, newest-given, tries-insert, keeps-inserted, insert-tried, exact-inserted}
-use Rattle.session_steps.proofs.Writing.{Follows-inserted}
+use Rattle.session_steps.specs.Exact.{AnswersStep}
+use Rattle.session_steps.proofs.Giving.{with_write, with_own}
+use Rattle.session_steps.proofs.Trying.{MayTryAt, no_place, newest-given, tries-insert, keeps-tried, answers-tried}
 use Rattle.session_steps.proofs.engine.SessionEngine.add.Goals as goal
 
 pub open_mut-session-requires : goal.open_mut-session-requires
 open_mut-session-requires c =
-    let M : State → Type 0 = λ st. MayWriteKey st c.args.s c.args.row.now.key None in
-    let may = subst M (sym c.self.view_is) c.requires in
-    λ none. none-some may.session (sym none ∙ may.reads.at)
+    let M : State → Type 0 = λ st. MayTryAt st c.args.s (inserts (worded c.args.row.now)) no_place in
+    let may = subst M (sym c.self.view_is) c.requires.may in
+    λ none. none-some may.0 (sym none ∙ may.1.1)
 
 pub insert-requires : goal.insert-requires
 insert-requires c =
@@ -27,35 +25,19 @@ pub invariant_of-self : goal.invariant_of-self
 invariant_of-self c =
     let e = c.open_mut-session.result.now in
     let r = c.insert in
-    let tries = tries-insert c.self.inside.heap r.new.self e r.new.own c.args.row.now r.result r.ensures.ok r.ensures.fault r.ensures.err r.ensures.own in
-    keeps-inserted c.self.inside.sessions c.self.inside.heap r.new.self c.args.s e (record e { own = r.new.own }) c.args.row.now (outcome_of r.result) c.open_mut-session.ensures.value tries r.ensures.window c.self.invariant
+    let write = inserts (worded c.args.row.now) in
+    let tries = tries-insert c.self.inside.heap r.new.self e.own r.new.own (worded c.args.row.now) 0 r.result r.ensures.ok r.ensures.fault r.ensures.err r.ensures.own in
+    keeps-tried c.self.inside.sessions c.self.inside.heap r.new.self c.args.s e r.new.own write no_place 0 (outcome_of r.result) c.open_mut-session.ensures.value tries r.ensures.window c.self.invariant
 
-pub returns-clause-follows : goal.returns-clause-follows
-returns-clause-follows c =
+pub returns : goal.returns
+returns c =
     let before : State = record { settings = c.self.inside.settings; heap = c.self.inside.heap; sessions = c.self.inside.sessions } in
-    let M : State → Type 0 = λ st. MayWriteKey st c.args.s c.args.row.now.key None in
-    let may = subst M (sym c.self.view_is) c.requires in
+    let write = inserts (worded c.args.row.now) in
+    let M : State → Type 0 = λ st. MayTryAt st c.args.s write no_place in
+    let may = subst M (sym c.self.view_is) c.requires.may in
     let e = c.open_mut-session.result.now in
     let r = c.insert in
-    let now : Session = record e { own = r.new.own } in
-    let tries = tries-insert before.heap r.new.self e r.new.own c.args.row.now r.result r.ensures.ok r.ensures.fault r.ensures.err r.ensures.own in
-    let tried = insert-tried before r.new.self c.args.s e now c.args.row.now (outcome_of r.result) may c.open_mut-session.ensures.value tries in
-    let after = with_session before r.new.self c.args.s now in
-    let P : State → Type 0 = λ st. FollowsInsert st c.args.s c.args.row.now (reply_to c.write_answer.result) after in
-    let R : Reply → Type 0 = λ reply. FollowsInsert before c.args.s c.args.row.now reply after in
-    subst P c.self.view_is (subst R (sym c.write_answer.ensures) (Follows-inserted before after c.args.s c.args.row.now (outcome_of r.result) tried r.ensures.window))
-
-pub returns-clause-exact : goal.returns-clause-exact
-returns-clause-exact c =
-    let before : State = record { settings = c.self.inside.settings; heap = c.self.inside.heap; sessions = c.self.inside.sessions } in
-    let M : State → Type 0 = λ st. MayWriteKey st c.args.s c.args.row.now.key None in
-    let may = subst M (sym c.self.view_is) c.requires in
-    let e = c.open_mut-session.result.now in
-    let r = c.insert in
-    let now : Session = record e { own = r.new.own } in
-    let tries = tries-insert before.heap r.new.self e r.new.own c.args.row.now r.result r.ensures.ok r.ensures.fault r.ensures.err r.ensures.own in
-    let tried = insert-tried before r.new.self c.args.s e now c.args.row.now (outcome_of r.result) may c.open_mut-session.ensures.value tries in
-    let after = with_session before r.new.self c.args.s now in
-    let P : State → Type 0 = λ st. ExactInsert st c.args.s c.args.row.now (reply_to c.write_answer.result) after in
-    let R : Reply → Type 0 = λ reply. ExactInsert before c.args.s c.args.row.now reply after in
-    subst P c.self.view_is (subst R (sym c.write_answer.ensures) (exact-inserted before after c.args.s c.args.row.now (outcome_of r.result) tried))
+    let tries = tries-insert before.heap r.new.self e.own r.new.own (worded c.args.row.now) (horizon_of before) r.result r.ensures.ok r.ensures.fault r.ensures.err r.ensures.own in
+    let answers = answers-tried before r.new.self c.args.s e r.new.own write no_place (outcome_of r.result) (reply_to c.write_answer.result) may c.requires.fits c.open_mut-session.ensures.value tries r.ensures.window c.write_answer.ensures in
+    let P : State → Type 0 = λ st. AnswersStep st (step.Insert c.args.s (worded c.args.row.now)) (reply_to c.write_answer.result) (with_write before r.new.self c.args.s (with_own e r.new.own)) in
+    subst P c.self.view_is answers

@@ -5,12 +5,11 @@ use Rattle.session_steps.proofs.Searches.{may-insert}
 use Rattle.session_steps.proofs.engine.SessionEngine.check_insert.Goals as goal
 
 pub returns-in-Some : goal.returns-in-Some
-returns-in-Some c = λ s acts.
+returns-in-Some c =
     let F : Option Tid → Type 0 = λ o. FindsPlace c.args.self.now.heap c.args.session.now c.args.key o in
-    (c.args.session.now, c.in-Some.field-0, record { within = acts.0; at = acts.1; sound = acts.2; bare = acts.3; finds = subst F c.in-Some.is c.write_conflict-place.ensures.place })
+    (c.in-Some.field-0, subst F c.in-Some.is c.write_conflict-place.ensures.place)
 
 pub returns-in-None : goal.returns-in-None
-returns-in-None c = λ s acts.
+returns-in-None c =
     let F : Option Tid → Type 0 = λ o. FindsPlace c.args.self.now.heap c.args.session.now c.args.key o in
-    may-insert c.args.self.now s c.args.key c.args.session.now c.write_conflict-place.result.1
-    (record { within = acts.0; at = acts.1; sound = acts.2; bare = acts.3; finds = subst F c.in-None.is c.write_conflict-place.ensures.place }) c.write_conflict-place.ensures.write_conflict
+    may-insert c.args.self.now c.args.session.now c.args.key c.write_conflict-place.result.1 (subst F c.in-None.is c.write_conflict-place.ensures.place) c.write_conflict-place.ensures.write_conflict

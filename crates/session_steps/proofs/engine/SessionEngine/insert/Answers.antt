@@ -1,21 +1,17 @@
 use Rattle.std.proofs.Common.{rules, subst}
 use Rattle.tuple_header.specs.declared.version.Row.{Row}
-use Rattle.calls.specs.Words.{row_of}
 use Rattle.calls.specs.Writes.{inserts}
 use Rattle.calls.specs.declared.step.Step.TheVariants as step
 use Rattle.session_steps.specs.Replies.{reply_to}
 use Rattle.session_steps.specs.Exact.{AnswersStep}
-use Rattle.session_steps.specs.Follows.{worded}
-use Rattle.session_steps.proofs.Hindering.{exact-unready_insert}
-use Rattle.session_steps.proofs.Follows.{Follows-barred_write, Follows-too_large}
+use Rattle.session_steps.specs.Writes.{worded}
+use Rattle.session_steps.proofs.Hindering.{answers-unready}
+use Rattle.session_steps.proofs.Follows.{Follows-too_large}
 use Rattle.session_steps.proofs.Outcomes.{handed-on}
 use Rattle.session_steps.proofs.engine.SessionEngine.insert.Goals as goal
 
 pub returns-in_err-free : goal.returns-in_err-free
-returns-in_err-free c = rw (handed-on c.from_residual.result c.from_residual.ensures.1) (record {
-  follows = Follows-barred_write c.args.self.now c.args.s (inserts c.args.row) c.in_err-free.field-0.0 c.in_err-free.ensures;
-  exact = exact-unready_insert c.args.self.now c.args.s (row_of c.args.row) c.in_err-free.field-0.0 c.in_err-free.ensures;
-})
+returns-in_err-free c = rw (handed-on c.from_residual.result c.from_residual.ensures.1) (answers-unready c.args.self.now c.args.s (inserts c.args.row) c.in_err-free.field-0.0 c.in_err-free.ensures)
 
 pub returns-in_err-fill_row : goal.returns-in_err-fill_row
 returns-in_err-fill_row c = rw (handed-on c.from_residual-in_err-fill_row.result c.from_residual-in_err-fill_row.ensures.1, c.in_err-fill_row.ensures.fault.0) (record {

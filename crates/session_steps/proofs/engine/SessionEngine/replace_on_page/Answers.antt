@@ -5,19 +5,21 @@ use Rattle.page_sheet.specs.Slots.{room_of}
 use Rattle.heap_write.specs.Heap.{page_on}
 use Rattle.heap_write.specs.Writes.{KeepsValues}
 use Rattle.heap_write.specs.Refusals.{VersionIsThere}
+use Rattle.calls.specs.Writes.{updates}
+use Rattle.calls.specs.declared.step.Step.TheVariants as step
 use Rattle.session_steps.specs.State.{State, horizon_of}
-use Rattle.session_steps.specs.Tests.{MayChangeKey}
+use Rattle.session_steps.specs.Writes.{outcome_of, worded}
 use Rattle.session_steps.specs.Replies.{reply_to}
-use Rattle.session_steps.specs.Exact.{ExactUpdate}
-use Rattle.session_steps.specs.Follows.{FollowsUpdate}
-use Rattle.session_steps.proofs.Trying.{with_session, newest-given, change-there, keeps-answered, update-replies}
+use Rattle.session_steps.specs.Exact.{AnswersStep}
+use Rattle.session_steps.proofs.Giving.{with_write, with_own}
+use Rattle.session_steps.proofs.Trying.{MayTryAt, newest-given, change-there, tries-update, keeps-tried, answers-tried}
 use Rattle.session_steps.proofs.engine.SessionEngine.replace_on_page.Goals as goal
 
 pub open_mut-session-requires : goal.open_mut-session-requires
 open_mut-session-requires c =
-    let M : State → Type 0 = λ st. MayChangeKey st c.args.s c.args.row.now.key c.args.place in
+    let M : State → Type 0 = λ st. MayTryAt st c.args.s (updates (worded c.args.row.now)) c.args.place in
     let may = subst M (sym c.self.view_is) c.requires.may in
-    λ none. none-some may.session (sym none ∙ may.acts.1)
+    λ none. none-some may.0 (sym none ∙ may.1.1)
 
 pub update_on_page-requires-clause-newest : goal.update_on_page-requires-clause-newest
 update_on_page-requires-clause-newest c =
@@ -27,7 +29,7 @@ update_on_page-requires-clause-newest c =
 pub update_on_page-requires-clause-there : goal.update_on_page-requires-clause-there
 update_on_page-requires-clause-there c =
     let may = c.requires.may in
-    subst (λ (st : State). VersionIsThere st.heap c.args.place) (sym c.self.view_is) (change-there c.args.self.now c.args.s c.args.row.now.key c.args.place may)
+    subst (λ (st : State). VersionIsThere st.heap c.args.place) (sym c.self.view_is) (change-there c.args.self.now may.0 c.args.row.now.key c.args.place may.2)
 
 pub update_on_page-requires-clause-room : goal.update_on_page-requires-clause-room
 update_on_page-requires-clause-room c =
@@ -43,19 +45,19 @@ pub invariant_of-self : goal.invariant_of-self
 invariant_of-self c =
     let e = c.open_mut-session.result.now in
     let r = c.update_on_page in
-    keeps-answered c.self.inside.sessions c.self.inside.heap r.new.self c.args.s e r.new.own c.args.place c.args.row.now 0 r.result c.open_mut-session.ensures.value
-    (r.ensures 0) c.self.invariant
+    let tries = tries-update c.self.inside.heap r.new.self e.own r.new.own c.args.place (worded c.args.row.now) 0 r.result (r.ensures 0) in
+    keeps-tried c.self.inside.sessions c.self.inside.heap r.new.self c.args.s e r.new.own (updates (worded c.args.row.now)) c.args.place 0 (outcome_of r.result) c.open_mut-session.ensures.value tries (r.ensures 0).window c.self.invariant
 
 pub returns : goal.returns
 returns c =
     let before : State = record { settings = c.self.inside.settings; heap = c.self.inside.heap; sessions = c.self.inside.sessions } in
-    let M : State → Type 0 = λ st. MayChangeKey st c.args.s c.args.row.now.key c.args.place in
+    let write = updates (worded c.args.row.now) in
+    let M : State → Type 0 = λ st. MayTryAt st c.args.s write c.args.place in
     let may = subst M (sym c.self.view_is) c.requires.may in
     let e = c.open_mut-session.result.now in
     let r = c.update_on_page in
-    let replies = update-replies before r.new.self c.args.s e r.new.own c.args.place c.args.row.now r.result (reply_to c.write_answer.result) may c.open_mut-session.ensures.value (r.ensures (horizon_of before)) c.write_answer.ensures in
-    let after = with_session before r.new.self c.args.s (record e { own = r.new.own }) in
-    record {
-      follows = subst (λ st. FollowsUpdate st c.args.s c.args.row.now (reply_to c.write_answer.result) after) c.self.view_is replies.0;
-      exact = subst (λ st. ExactUpdate st c.args.s c.args.row.now (reply_to c.write_answer.result) after) c.self.view_is replies.1;
-    }
+    let says = r.ensures (horizon_of before) in
+    let tries = tries-update before.heap r.new.self e.own r.new.own c.args.place (worded c.args.row.now) (horizon_of before) r.result says in
+    let answers = answers-tried before r.new.self c.args.s e r.new.own write c.args.place (outcome_of r.result) (reply_to c.write_answer.result) may c.requires.fits c.open_mut-session.ensures.value tries says.window c.write_answer.ensures in
+    let P : State → Type 0 = λ st. AnswersStep st (step.Update c.args.s (worded c.args.row.now)) (reply_to c.write_answer.result) (with_write before r.new.self c.args.s (with_own e r.new.own)) in
+    subst P c.self.view_is answers

@@ -8,7 +8,7 @@ use Rattle.sessions.specs.declared.session.Session.{Session}
 use Rattle.session_steps.specs.State.{State, session_at}
 use Rattle.session_steps.specs.Changes.{RollsBack}
 use Rattle.sessions.proofs.Taking.{none-unless}
-use Rattle.session_steps.proofs.Trying.{with_session}
+use Rattle.session_steps.proofs.Giving.{with_write}
 use Rattle.session_steps.proofs.Outcomes.{handed-on}
 use Rattle.session_steps.proofs.Savepoints.{Follows-nowhere_to_return, Follows-closed_roll_back_to, Follows-barred_roll_back_to}
 use Rattle.session_steps.proofs.Noting.{none-saved, some-there, rolls-back-on, keeps-returned, Follows-returned}
@@ -72,7 +72,7 @@ returns c =
     let back = rolls-back-on c.self.inside.heap f.new.self e own since f.ensures.pages f.ensures.indexes f.ensures.max_pages c.since_savepoint.ensures c.roll_back.ensures.ids c.roll_back.ensures.saved f.ensures.finishes f.ensures.window in
     let now : Session = record e { own = own; failed = false } in
     let before : State = record { settings = c.self.inside.settings; heap = c.self.inside.heap; sessions = c.self.inside.sessions } in
-    let after = with_session before f.new.self c.args.s now in
+    let after = with_write before f.new.self c.args.s now in
     let R : State → Type 0 = λ st. RollsBack st after c.args.s in
     let rolls = subst R c.self.view_is (record { session = e; at = c.open_mut-session.ensures.value; now = now; settings = refl; sessions = refl; back = back }) in
     let found = c.in_ok-session.session.now in

@@ -33,7 +33,7 @@ returns-in-Next c =
 
 pub returns-in-TakePage : goal.returns-in-TakePage
 returns-in-TakePage c =
-    let does = subst (λ (step : Step). AnswersStep c.args.self.now step c.read_page.new.reply c.read_page.new.self) (sym c.in-TakePage.is) c.read_page.ensures in
+    let does = subst (λ (step : Step). AnswersStep c.args.self.now step c.read_page.new.reply c.args.self.now) (sym c.in-TakePage.is) c.read_page.ensures in
     record { answers = λ beside. does; stays = λ of_vacuum. absurd (not-both c.args.step (ap is_answered_above c.in-TakePage.is) of_vacuum) }
 
 pub returns : goal.returns

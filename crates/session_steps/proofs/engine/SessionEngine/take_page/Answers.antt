@@ -1,5 +1,6 @@
 use Rattle.std.specs.Arc.{arc_value}
-use Rattle.session_steps.proofs.TicketLemmas.{took, taken-viewed}
+use Rattle.table_scans.specs.Tickets.{ticket_rows}
+use Rattle.session_steps.proofs.TicketLemmas.{took, rows-viewed}
 use Rattle.session_steps.proofs.engine.SessionEngine.take_page.Goals as goal
 
 pub returns-clause-taken : goal.returns-clause-taken
@@ -8,4 +9,4 @@ returns-clause-taken c =
     c.share.ensures.same c.in_ok-session.ensures.1 c.in_ok-session.ensures.2 c.reader-reader.ensures c.in-Ok.ensures.shared c.of.ensures.page c.of.ensures.rows
 
 pub returns-clause-view : goal.returns-clause-view
-returns-clause-view c = taken-viewed c.args.self.now c.args.s c.args.number c.of.result (returns-clause-taken c)
+returns-clause-view c = rows-viewed c.args.self.now c.args.s c.args.number (ticket_rows c.of.result) (returns-clause-taken c).sees

@@ -1,4 +1,5 @@
-use Rattle.std.proofs.Common.{◌∙◌, refl, sym, ap}
+use Rattle.std.proofs.Common.{◌∙◌, Some, refl, sym, ap, subst}
+use Rattle.calls.specs.declared.vacuum.Piece.TheVariants as piece
 use Rattle.vacuum_passes.specs.View.{VacuumView}
 use Rattle.vacuum_passes.specs.Steps.{Steps}
 use Rattle.vacuum_passes.proofs.Stepping.{none-freed, shown-none, shown-some}
@@ -18,7 +19,9 @@ begin_indexes-requires-clause-some c =
     (ap (λ (v : VacuumView). v.store) (sym c.self.view_is)) (sym c.is_empty.ensures ∙ c.if-is_empty.false)
 
 pub returns : goal.returns
-returns c = λ horizon. Steps.begins_index c.begin_indexes.new.self c.requires.phase c.requires.none_left
+returns c = λ horizon.
+    subst (λ (v : VacuumView). Steps c.args.heap.now c.begin_indexes.new.heap c.args.self.now horizon (Some v) (Some (piece.Index 0))) (sym c.count.ensures)
+    (Steps.begins_index c.begin_indexes.new.self c.requires.phase c.requires.none_left
     (shown-some c.self.inside.freed c.self.inside.store c.args.self.now.store
     (none-freed c.self.inside.phase c.self.inside.freed (ap (λ (v : VacuumView). v.phase) c.self.view_is ∙ c.requires.phase) c.self.invariant.3)
-    (ap (λ (v : VacuumView). v.store) (sym c.self.view_is)) (sym c.is_empty.ensures ∙ c.if-is_empty.false)) c.begin_indexes.ensures
+    (ap (λ (v : VacuumView). v.store) (sym c.self.view_is)) (sym c.is_empty.ensures ∙ c.if-is_empty.false)) c.begin_indexes.ensures)

@@ -1,3 +1,0 @@
-pub mod ReadLemmas
-mod PictureLemmas
-pub mod OutcomeLemmas

@@ -1,6 +1,0 @@
-use Rattle.std.proofs.Common.{◌≡◌}
-use Rattle.drawing.specs.Pictures.{numbers_below}
-use Rattle.drawing.proofs.pictures.all_numbers.Given as goal
-
-abbrev pub invariant-loop-number : goal.invariant-loop-number
-invariant-loop-number l = l.numbers.items ≡ numbers_below l.number
