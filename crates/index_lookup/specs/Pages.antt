@@ -1,11 +1,9 @@
 -- The pages of a table, as an index sees them: a place is a page's number, from 0, and a slot's, from 1.
-use Rattle.std.specs.Prelude.{◌≡◌, ◌≢◌, ℕ, ℤ, List, [], map, Option, slice_index_or}
+use Rattle.std.specs.Prelude.{◌≡◌, ◌≢◌, ℕ, List, [], map, Option, slice_index_or}
 use Rattle.xid_circle.specs.declared.Tid.{Tid}
 use Rattle.tuple_header.specs.Version.{Version}
-use Rattle.tuple_header.specs.declared.version.Row.{Row}
 use Rattle.page_sheet.specs.declared.slot.Slot.{Slot}
 use Rattle.page_sheet.specs.Slots.{slot_at, version_at}
-use Rattle.index_entries.specs.declared.entry.Entry.{Entry}
 use Rattle.heap_pages.specs.View.{PagesView}
 
 abbrev pub page_slots_of : PagesView → List (List Slot)
@@ -26,7 +24,3 @@ version_in pages p = version_at (slots_on pages p.page) p.slot
 pub record Puts (pages pages' : List (List Slot)) (n : ℕ) (after : List Slot) : Type 0 where
   pub put : slots_on pages' n ≡ after
   pub others : (m : ℕ) → m ≢ n → slots_on pages' m ≡ slots_on pages m
-
--- the entry of a row's version at a place
-abbrev pub entry_for : (Row → ℤ) → Row → ℕ → ℕ → Entry
-entry_for value_of row page slot = record { value = value_of row; key = row.key; tid = record { page = page; slot = slot } }

@@ -31,7 +31,8 @@ use Rattle.tuple_writes.proofs.Growth.{none-some}
 use Rattle.tuple_writes.proofs.Slotted.{root-added, taken-away, updated-here, replaced-at, updated-slots}
 use Rattle.index_entries.specs.declared.entry.Entry.{Entry}
 use Rattle.index_entries.specs.Sets.{AddsEntry, IsOf}
-use Rattle.index_lookup.specs.Pages.{slots_on, version_in, Puts, entry_for}
+use Rattle.root_index.specs.Rows.{entry_for}
+use Rattle.index_lookup.specs.Pages.{slots_on, version_in, Puts}
 use Rattle.sound_entries.specs.Entries.{SoundHeap, MayBeTarget, IsExcused, EntriesAreSound, KeepsTarget, same_version, led_on, died, StaysSound}
 use Rattle.sound_entries.proofs.Leads.{chained-version}
 use Rattle.sound_entries.proofs.Going.{Resembles, PageGoesOn, stays-as, page-same, in-root, puts-pages, stay-sound, stay-led, add-sound}

@@ -22,7 +22,8 @@ use Rattle.tuple_writes.specs.Keeps.{IsDeletable}
 use Rattle.tuple_writes.specs.Laws.{DeletedWhatWasMade, AloneDeletedTheirs}
 use Rattle.index_entries.specs.declared.entry.Entry.{Entry}
 use Rattle.index_entries.specs.Sets.{AddsEntry, Loses}
-use Rattle.index_lookup.specs.Pages.{slots_on, slot_in, version_in, Puts, entry_for}
+use Rattle.root_index.specs.Rows.{entry_for}
+use Rattle.index_lookup.specs.Pages.{slots_on, slot_in, version_in, Puts}
 use Rattle.index_lookup.specs.Looking.{FirstFound, FirstPlace, SomeOf}
 use Rattle.sound_entries.specs.Entries.{SomeEntry, IsExcused, SoundEntries, EntriesAreSound, StaysSound, KeepsTargets}
 use Rattle.sound_entries.specs.Leading.{IsUndone, SeesNoExcused, HasOneEntry, IsOnHeap, IsByIndex, SomeOnHeap}

@@ -10,7 +10,7 @@ use Rattle.index_entries.specs.declared.entry.Entry.{Entry}
 use Rattle.index_entries.specs.Sets.{AddsEntry}
 use Rattle.root_index.specs.View.{IndexView, room_in}
 use Rattle.tuple_header.specs.IndexValue.{value_in}
-use Rattle.index_lookup.specs.Pages.{entry_for}
+use Rattle.root_index.specs.Rows.{entry_for}
 
 pub record IndexesView : Type 0 where
   -- by their numbers: none where one is not in use

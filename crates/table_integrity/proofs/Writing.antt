@@ -13,7 +13,8 @@ use Rattle.tuple_writes.proofs.Slotted.{root-added, taken-away, updated-here}
 use Rattle.snapshot.specs.Own.{Own}
 use Rattle.index_entries.specs.Sets.{AddsEntry}
 use Rattle.tuple_header.specs.IndexValue.{value_in}
-use Rattle.index_lookup.specs.Pages.{slots_on, slot_in, version_in, Puts, entry_for}
+use Rattle.root_index.specs.Rows.{entry_for}
+use Rattle.index_lookup.specs.Pages.{slots_on, slot_in, version_in, Puts}
 use Rattle.sound_entries.proofs.Going.{stays-same}
 use Rattle.sound_entries.proofs.Changes.{adding-stays, taking-stays, updating-stays, heap-puts}
 use Rattle.table_indexes.specs.Indexes.{entries_in, since_at, IsInUse}
