@@ -70,7 +70,7 @@ impl OwnPage {
         change(page)
     }
 
-    /// Sets whether all versions on the page are visible to all.
+    /// Sets whether all versions on the page are visible to all. It is an edit, so a copy that readers share is let go.
     pub(crate) fn set_flag(&mut self, flag: bool)
         ensures { self.new ≡ record self.old { flag = flag } }
     {

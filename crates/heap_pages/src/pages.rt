@@ -1,4 +1,4 @@
-//! The pages of a table.
+//! The pages of a table. What asks only one of their parts is here since the parts are private.
 
 ghost use Rattle.std.specs.Prelude.{◌≡◌, ◌≤◌, false, ◌<◌, ◌+◌, [], ◌∷◌, ◌++◌, length, OnOk, OnErr, IfOk, Some, slice_get, slice_set, option_copied};
 ghost use Rattle.std.specs.Fn.{FnOnceTakesAtMut};
@@ -126,7 +126,8 @@ impl Pages {
     }
 
     /// The page of this number, which is in use, as it is now, for readers to keep whatever is written later. Memory is asked for where
-    /// the page was changed since it was last shared, or never was.
+    /// the page was changed since it was last shared, or never was. (An `OwnPage` is
+    /// private to this crate.)
     pub fn share(&mut self, number: u32, alloc: Global) -> Result<Arc<Box<Page>>, AllocError>
         requires { number < length self.old.pages }
         ensures same { self.new ≡ self.old }
@@ -187,7 +188,7 @@ impl Pages {
     /// The first page whose free-space byte promises room for a version of this size, if there is one; else a new page is
     /// needed, or a page whose exact room is enough. The size is in bytes, as [`tuple_header::row_size`] counts them. It
     /// looks at the free space map alone: at its 256 groups at most, and at the bytes of two. The map remembers where the
-    /// look-up ended; nothing else changes.
+    /// look-up ended; nothing else changes. (The contract speaks of the pages, that of the map of its bytes.)
     pub fn page_for(&mut self, size: usize) -> Option<u32>
         ensures found { FindsFirstPage self.old.pages (Promises size) result }
         ensures same { self.new ≡ self.old }
@@ -196,7 +197,8 @@ impl Pages {
     }
 
     /// The first page in which a version of this size fits, if there is one. The size is in bytes, as
-    /// [`tuple_header::row_size`] counts them. It looks at each page before it whose byte leaves open whether it fits.
+    /// [`tuple_header::row_size`] counts them. It looks at each page before it whose byte leaves open whether it fits. (The search asks
+    /// that the bytes are those of the pages, which this type knows.)
     pub fn page_with_room(&self, size: usize) -> Option<u32>
         ensures { FindsFirstPage self.now.pages (HasRoom size) result }
     {

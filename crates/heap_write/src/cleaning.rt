@@ -19,7 +19,8 @@ use space_maps::Mark;
 use xid_circle::{Tid, Xid};
 
 impl HeapState {
-    /// The mark of the page of this number, if it is in use: whether each of its versions is visible to all, and frozen.
+    /// The mark of the page of this number, if it is in use: whether each of its versions is visible to all, and frozen. (The
+    /// pages are private.)
     pub fn mark(&self, number: u32) -> Option<Mark>
         ensures { result ≡ slice_get self.now.pages.marks number }
     {

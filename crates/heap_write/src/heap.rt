@@ -1,4 +1,4 @@
-//! The pages, the ids and the indexes of a table.
+//! The pages, the ids and the indexes of a table. These are private, so what asks only one of them is here.
 
 ghost use Rattle.std.specs.Prelude.{◌≡◌, ◌≤◌, ◌<◌, ℕ, [], IfOk, Some, None, length, slice_get, option_copied, Contains};
 ghost use Rattle.std.specs.Arc.{arc_value};
@@ -125,8 +125,7 @@ impl HeapState {
         self.pages.page(number)
     }
 
-    /// The page of this number, which is in use, as it is now, for readers to keep whatever is written later. Memory is asked for where
-    /// the page was changed since it was last shared, or never was.
+    /// The page of this number as it is now, for readers to keep: as [`Pages::share`], since the pages are private.
     pub fn share(&mut self, number: u32, alloc: Global) -> Result<Arc<Box<Page>>, AllocError>
         requires { number < length self.old.pages.pages }
         ensures same { self.new ≡ self.old }

@@ -104,7 +104,7 @@ impl HeapState {
         }
     }
 
-    /// How many pages are in use, at most 65536.
+    /// How many pages are in use, at most 65536. (The pages are private.)
     pub fn page_count(&self) -> u32
         ensures count { result ≡ length self.now.pages.pages }
         ensures limit { result ≤ MOST_PAGES }

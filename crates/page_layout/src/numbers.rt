@@ -1,4 +1,4 @@
-//! Numbers among the bytes of a page.
+//! Numbers among the bytes of a page. They are byteorder's, which speaks of the front of a slice: here a number is at a place.
 
 ghost use Rattle.std.specs.Prelude.{◌≡◌, ◌≤◌, ◌+◌, length};
 ghost use Rattle.tuple_header.specs.Layout.{number_at, with_number};

@@ -57,7 +57,7 @@ impl Model for Sheet {
     ghost invariant = { λ s. IsSound s.bytes s.count × IsLying s.bytes s.count s.lying };
 }
 
-/// Writes a header over that of the version in these bytes.
+/// Writes a header over that of the version in these bytes. Its contract speaks of all bytes, that of [`put_header`] of the version's.
 fn write_header(bytes: &mut [u8], extent: Extent, header: Header)
     requires within { extent.from + extent.len ≤ length bytes.old }
     requires least { 66 ≤ extent.len }
@@ -70,7 +70,7 @@ fn write_header(bytes: &mut [u8], extent: Extent, header: Header)
     put_header(&header, &mut bytes[from..from + usize::from(extent.len)]);
 }
 
-/// Writes the bytes of a version from a place on.
+/// Writes the bytes of a version from a place on. Its contract speaks of all bytes, that of [`put_version`] of those from the place on.
 fn put_encoding(bytes: &mut [u8], from: usize, header: &Header, row: &Row)
     requires room { from + size_of row.now ≤ length bytes.old }
     requires faultless { header_fault header.now ≡ None }
@@ -194,7 +194,7 @@ impl Sheet {
         &self.bytes
     }
 
-    /// The pointer of the slot at an index.
+    /// The pointer of the slot at an index. It asks for the index alone: that the bytes reach so far, the sheet knows.
     #[inline(always)]
     pub fn pointer(&self, index: usize) -> Pointer
         requires { index < self.now.count }

@@ -1,4 +1,4 @@
-//! Pages.
+//! Pages. What only asks or changes the sheet is here since that is private: callers see a page as its slots.
 
 ghost use Rattle.std.specs.Prelude.{◌≡◌, ◌⊎◌, ◌≤◌, ◌<◌, ◌+◌, ◌*◌, ℕ, sum_by, [], true, false, length, IfSome, IsSome, IsTrue, ◌↔◌, Some, None, MatchOption, Err, OnOk, OnErr, IfOk};
 ghost use Rattle.tuple_header.specs.Faults.{header_fault};

@@ -44,7 +44,7 @@ pub fn apply_actions(page: &mut Page, actions: &[(u16, Action)])
     }
 }
 
-/// Does what a plan names, as [`apply_actions`] does.
+/// Does what a plan names, as [`apply_actions`] does, for who has a whole plan.
 pub fn apply(page: &mut Page, plan: &PrunePlan)
     requires { CanApply (length page.old.slots) plan.now.actions.items }
     ensures { page.new ≡ applied plan.now.actions.items page.old }

@@ -58,8 +58,9 @@ impl Engine {
     }
 
     /// The page of this number with what a statement of the session sees of it, for [`table_scans::resolve`] to give the rows at
-    /// any time. It is no step, and changes nothing; whatever is written later, the ticket stays as it was. Refusals in order:
-    /// NoSuchSession, NotOpen, Failed, NoSuchPage, NoMemory.
+    /// any time. It is no step, and changes nothing; whatever is written later, the ticket stays as it was. (The
+    /// engine of the sessions is private. No step comes, so no wait ends and no vacuum is disturbed.) Refusals in order: NoSuchSession,
+    /// NotOpen, Failed, NoSuchPage, NoMemory.
     pub fn take_page(&mut self, session: u8, page: u32) -> Result<Ticket, Refusal>
         ensures same { self.new ≡ self.old }
         ensures taken { MatchResult result (TakesTicket self.old.engine.core session page)

@@ -79,7 +79,7 @@ impl SessionEngine {
         }
     }
 
-    /// Where the entry by key of the next new root is looked for first: a hint.
+    /// Where the entry by key of the next new root is looked for first: a hint, so nothing changes that anybody sees of the engine.
     pub(crate) fn expect_entry(&mut self, near: Option<PositionHint>)
         ensures { self.new ≡ self.old }
     {

@@ -14,8 +14,8 @@ use std::sync::Arc;
 use table_scans::Ticket;
 
 impl SessionEngine {
-    /// The page of this number, which is in use, as it is now, for readers to keep whatever is written later. Memory is asked for where
-    /// the page was changed since it was last shared, or never was.
+    /// The page of this number as it is now, for readers to keep: as [`heap_write::HeapState::share`], since the heap is private and the
+    /// memory is the engine's.
     pub fn share(&mut self, number: u32) -> Result<Arc<Box<Page>>, AllocError>
         requires { number < length self.old.heap.pages.pages }
         ensures same { self.new ≡ self.old }

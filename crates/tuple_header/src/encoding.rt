@@ -1,4 +1,4 @@
-//! The bytes of a version.
+//! The bytes of a version. The numbers are byteorder's, which speaks of the front of a slice: here a number is at a place.
 
 ghost use Rattle.std.specs.Prelude.{◌≡◌, ◌≤◌, ◌+◌, ◌++◌, [], ◌∷◌, map, drop, length, None};
 ghost use Rattle.std.specs.Int.{w64, cast_unsigned};
@@ -70,7 +70,7 @@ fn put_fields(header: &Header, out: &mut [u8])
     put_u8(out, 23, 0);
 }
 
-/// Writes a header over the first 24 of these bytes. What follows stays.
+/// Writes a header over the first 24 of these bytes. What follows stays. Its contract names the bytes, that of `put_fields` the fields.
 pub fn put_header(header: &Header, out: &mut [u8])
     requires { 24 ≤ length out.old }
     ensures bytes { out.new ≡ header_bytes header.now ++ drop 24 out.old }

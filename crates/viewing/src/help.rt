@@ -2,7 +2,7 @@
 
 use script_text::{RefusedGrowth, cut, extend, push};
 
-// All lines, as docs/script.md and docs/view.md have them: how each is spelled, and an example.
+// All lines, as docs/script.md and docs/looks.md have them: how each is spelled, and an example.
 static SPELLINGS: [(&str, &str); 36] = [
     (
         "heap PAGES STOP MIN FIRST DEAD COLS",
