@@ -1,8 +1,9 @@
 """Figures of the documents that the repository can be asked for. tools/check_docs.py compares them; each says where it is wrong.
 
 The places: docs/trust.md (lines of definitions), README.md (the bands of the picture, the star), bench/gate.md (edits of each crate, and
-the most that there may be), docs/callers.md (the calls of the header), docs/DECISIONS.md (how large a crate may be, and those that
-may be larger until they are cut), docs/postgresql.md (what docs/rules.md calls ours), and docs/invariants.md (the types that have one).
+the most that there may be), docs/callers.md (the calls of the header), docs/DECISIONS.md (how large a crate may be, those that
+may be larger until they are cut, and which crates lead there), docs/postgresql.md (what docs/rules.md calls ours), and
+docs/invariants.md (the types that have one).
 """
 import glob
 import re
@@ -119,6 +120,16 @@ def sizes():
             yield line_of(page, rule.start()), f"`{crate}` has {lines} lines of code, and is no longer to be named"
 
 
+def heads():
+    """docs/DECISIONS.md: the head of a crate leads there where, and only where, something stands under its name."""
+    page = text_of("docs/DECISIONS.md")
+    named = {crate for heading in re.findall(r"^### (.*)", page, re.M) for crate in re.findall(r"`(\w+)`", heading)}
+    for path in sorted(glob.glob("crates/*/src/lib.rt") + glob.glob("crates/*/src/main.rt")):
+        leads = "docs/DECISIONS.md, under its name" in text_of(path).partition("\n#![")[0]
+        if leads != (path.split("/")[1] in named):
+            yield 1, f"{path} " + ("leads here, and nothing stands under its name" if leads else "does not lead here, where something does")
+
+
 def edits():
     """bench/gate.md: the edits of each crate; none has more, nor have all, than docs/gate.md says."""
     page, left = text_of("bench/gate.md"), set(affected.crates())
@@ -173,7 +184,7 @@ def invariants():
 
 def wrong():
     """Each figure that is wrong: the page, the line, and what to say."""
-    places = {"docs/trust.md": trust, "README.md": layers, "docs/DECISIONS.md": sizes, "bench/gate.md": edits, "docs/callers.md": calls}
-    places.update({"docs/postgresql.md": differences, "docs/invariants.md": invariants})
-    for page, asked in places.items():
+    places = [("docs/trust.md", trust), ("README.md", layers), ("docs/DECISIONS.md", sizes), ("docs/DECISIONS.md", heads)]
+    places += [("bench/gate.md", edits), ("docs/callers.md", calls), ("docs/postgresql.md", differences)]
+    for page, asked in [*places, ("docs/invariants.md", invariants)]:
         yield from ((page, *found) for found in asked())

@@ -2,6 +2,8 @@
 //!
 //! C keeps a [`Sandpiper`], whose pointer owns an engine that C never sees, or a [`SandpiperTicket`], whose pointer owns a ticket. All
 //! zeros is none. What a call answers is a [`CallStatus`], of which C has the number.
+//!
+//! Why it is built so: docs/DECISIONS.md, under its name.
 #![tactic(auto)]
 
 mod block;

@@ -3,6 +3,8 @@
 //! [`Settings`] make an engine, a [`Step`] is one call, a [`Reply`] its answer. `specs/` has what is said of them alone:
 //! which settings are in range (`Words`), whose a step is (`Steps`), which steps write a key (`Writes`), what bars a
 //! session from a step (`Bars`). Which reply is allowed to a step is `refinement`'s to say.
+//!
+//! Why it is built so: docs/DECISIONS.md, under its name.
 #![tactic(auto)]
 
 mod checked;

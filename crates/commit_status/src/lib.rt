@@ -4,6 +4,8 @@
 //! (`specs/Changes.antt`): ids are given one after another, none of them as far from the oldest as the table's stop age; a
 //! change of status, of several ids at once, changes no other id; and only the ids before the one named are forgotten. One
 //! that is not remembered counts as in progress.
+//!
+//! Why it is built so: docs/DECISIONS.md, under its name.
 #![tactic(auto)]
 
 pub mod laws;

@@ -3,6 +3,8 @@
 //! Callers see a [`DeadSet`] as the list of its places in ascending order, by page, then slot (`specs/Places.antt`). Whoever goes
 //! through an index asks of each leaf which of them lie on the pages that its entries lead to ([`PageBounds`], `specs/Bounds.antt`).
 //! Most leaves have none, which two compares tell; else they are found by halving.
+//!
+//! Why it is built so: docs/DECISIONS.md, under its name.
 #![tactic(auto)]
 
 mod dead_set;

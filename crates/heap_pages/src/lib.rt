@@ -4,6 +4,8 @@
 //! page is read by [`Pages::page`] and changed through [`Pages::edit`] alone, which leaves all others as they were and keeps the
 //! free space map: after every call each byte there is that of its page. Which page takes a new version is defined in
 //! `specs/Choice.antt`. Each page is in memory of its own, so none is copied where the table grows.
+//!
+//! Why it is built so: docs/DECISIONS.md, under its name.
 #![tactic(auto)]
 
 mod choice;

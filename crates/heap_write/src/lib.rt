@@ -18,6 +18,8 @@
 //!
 //! An index by a column can be made while the table is in use (`specs/Making.antt`). It has the current rows alone, and is exact from
 //! the next id on.
+//!
+//! Why it is built so: docs/DECISIONS.md, under its name.
 #![tactic(auto)]
 
 mod applying;

@@ -1,4 +1,6 @@
 //! Judges a transcript on standard input: is each answer in it allowed?
+//!
+//! Why it is built so: docs/DECISIONS.md, under its name.
 #![tactic(auto)]
 
 use clap::{Arg, ArgAction, ArgMatches, Command, Error};

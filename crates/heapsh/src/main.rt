@@ -1,4 +1,6 @@
 //! The command-line shell of the heap.
+//!
+//! Why it is built so: docs/DECISIONS.md, under its name.
 #![tactic(auto)]
 
 use script::{Command, ShellFault, USAGE, command_of, inspect_script, run_script, threads_script};

@@ -1,4 +1,6 @@
 //! A heap that can be looked into: scripts with looks, as a run, as a journal, as a talk, as a picture, or as a story.
+//!
+//! Why it is built so: docs/DECISIONS.md, under its name.
 #![tactic(auto)]
 
 use clap::error::ErrorKind as Mistake;

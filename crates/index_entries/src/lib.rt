@@ -7,6 +7,8 @@
 //!
 //! A [`Node`] is a leaf or a branch, whatever they are made of. For the crates above, `proofs/LookUpLemmas.antt` says what
 //! look-ups find one after another.
+//!
+//! Why it is built so: docs/DECISIONS.md, under its name.
 #![tactic(auto)]
 
 mod entry;

@@ -2,6 +2,8 @@
 //!
 //! A [`Leaf`] is a [`Node`](index_entries::Node). It keeps bounds of the pages that its entries lead to, so that a sweep passes over
 //! one that leads to none of the dead places' pages.
+//!
+//! Why it is built so: docs/DECISIONS.md, under its name.
 #![tactic(auto)]
 
 mod leaf;

@@ -6,6 +6,8 @@
 //! alone (`specs/Looking.antt`, `specs/Walking.antt`), on any pages and any index, sound or not; the laws of `sound_entries`
 //! tie them to the heap. [`next_key`] goes along an index for keys alone, and trusts the visibility map (`specs/Keys.antt`).
 //! [`row_by_place`] looks for a key at a place that may be wrong, and needs no entry (`specs/ByPlace.antt`).
+//!
+//! Why it is built so: docs/DECISIONS.md, under its name.
 #![tactic(auto)]
 
 mod by_place;

@@ -2,6 +2,8 @@
 //!
 //! A [`Branch`] has at most 128 nodes, and is one itself ([`Node`](index_entries::Node)). So look-ups, inserts and sweeps are
 //! written and proved once for all (`nodes.rt`, `specs/Nodes.antt`). An insert moves no more than a node's parts.
+//!
+//! Why it is built so: docs/DECISIONS.md, under its name.
 #![tactic(auto)]
 
 mod branch;

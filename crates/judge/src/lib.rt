@@ -1,4 +1,6 @@
 //! A judge of answers: is what an engine answered to a step allowed by the history?
+//!
+//! Why it is built so: docs/DECISIONS.md, under its name.
 #![tactic(auto)]
 
 mod all;

@@ -5,6 +5,8 @@
 //! where each part stands, `specs/Sound.antt` what the bytes of a page keep, `specs/Faults.antt` which fault of the header, of a
 //! pointer or of a version's bytes is named, and `specs/Raising.antt` how pointers follow versions that are moved up at once.
 //! `proofs/Frames.antt` says, for the crate above, what a write leaves of the other parts.
+//!
+//! Why it is built so: docs/DECISIONS.md, under its name.
 #![tactic(auto)]
 
 mod check;

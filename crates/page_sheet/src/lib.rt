@@ -10,6 +10,8 @@
 //! `specs/Packing.antt`, `specs/Placing.antt`). A `Sheet` keeps how they lie, as far as that is known (`lying.rt`,
 //! `specs/Lying.antt`), so most often none is looked at for it. It asks for no memory, and refuses nothing: what it is handed has to
 //! be in range.
+//!
+//! Why it is built so: docs/DECISIONS.md, under its name.
 #![tactic(auto)]
 
 mod lying;

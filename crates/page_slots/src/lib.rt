@@ -13,6 +13,8 @@
 //! There are two layers. A [`Sheet`](page_sheet::Sheet) knows bytes. A [`Page`] knows slots: it keeps how many bytes versions take and
 //! which slot is the first unused one (`AreTallied`), so it goes through no slots for either. A version is looked at where it stands
 //! ([`Page::row`]); [`Page::slot`] makes a copy. [`Page::bytes`] hands the bytes out, and [`check_page`] reads them.
+//!
+//! Why it is built so: docs/DECISIONS.md, under its name.
 #![tactic(auto)]
 
 mod check;

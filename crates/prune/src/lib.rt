@@ -15,6 +15,8 @@
 //! `Sound` and `Readers` of `sound_page`, on which pages no reader misses anything. Those who see a page as a list of slots use
 //! `Removes` (what goes would be cut), `IsPruned` (the outcome slot by slot) and the laws, which are contracts of functions that do
 //! nothing.
+//!
+//! Why it is built so: docs/DECISIONS.md, under its name.
 #![tactic(auto)]
 
 mod action;

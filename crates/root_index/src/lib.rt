@@ -9,6 +9,8 @@
 //! Entries to dead places go piece by piece ([`RootIndex::remove_where`], `specs/Pieces.antt`): a piece goes from an entry on as far
 //! as its leaf, and says where it ended, so that entries may come and go between two pieces. The dead places are a `DeadSet` of
 //! `dead_places`.
+//!
+//! Why it is built so: docs/DECISIONS.md, under its name.
 #![tactic(auto)]
 
 mod index;

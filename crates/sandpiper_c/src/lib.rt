@@ -4,6 +4,8 @@
 //! and says again what [`session_core::Engine::step`] says of it (`specs/Calls.antt`), or asks it a look (`specs/Looks.antt`). No export
 //! requires anything: a handle without an engine refuses each step. What a call answers is a [`c_handles::CallStatus`], of which C has the
 //! number.
+//!
+//! Why it is built so: docs/DECISIONS.md, under its name.
 #![tactic(auto)]
 
 mod bytes;

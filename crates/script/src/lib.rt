@@ -6,6 +6,8 @@
 //! holds, and that the [`IoLog`] had noted what was refused (`specs/Refusals.antt`). [`command_of`] of `script_text` says what the
 //! program's words ask for. [`inspect_script`] reads a page and writes what its bytes say (`specs/Inspected.antt`, `specs/PageText.antt`). The parts of a run,
 //! from [`next_line`] on, are public for a run of a further language.
+//!
+//! Why it is built so: docs/DECISIONS.md, under its name.
 #![tactic(auto)]
 
 mod fault;

@@ -5,6 +5,8 @@
 //! (`specs/Answers.antt`). Each of them gives up only with a [`RefusedGrowth`], which only the refusal of a growth makes.
 //! [`command_of`] says which words of the command line ask for a script. The readers of words and the functions that add parts of
 //! a line are public for further languages, which share their growths.
+//!
+//! Why it is built so: docs/DECISIONS.md, under its name.
 #![tactic(auto)]
 
 mod answer;

@@ -8,6 +8,8 @@
 //!
 //! The engine below knows no waits, and agrees with worlds in which any do. So what it answers is right here too, but for Busy. That
 //! begins a wait, or is a Deadlock where the wait would close a ring.
+//!
+//! Why it is built so: docs/DECISIONS.md, under its name.
 #![tactic(auto)]
 
 mod counts;

@@ -8,6 +8,8 @@
 //! [`SessionEngine::read`] reads outside of a step. [`SessionEngine::new_vacuum`], [`SessionEngine::vacuum_step`] and
 //! [`SessionEngine::forget`] are what a vacuum asks of it (`specs/Vacuums.antt`). [`laws::views_by_index`] says what an index leads to,
 //! and [`laws::horizon_is_earliest`] what the horizon is.
+//!
+//! Why it is built so: docs/DECISIONS.md, under its name.
 #![tactic(auto)]
 
 mod begin;

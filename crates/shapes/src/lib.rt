@@ -7,6 +7,8 @@
 //!
 //! [`draw_asked`] adds to a text the picture of the pages that were asked for, or of all where none was: these shapes, as `svg_text` spells
 //! them (`specs/Pictures.antt`). Programs draw by it, and so does the library for C.
+//!
+//! Why it is built so: docs/DECISIONS.md, under its name.
 #![tactic(auto)]
 
 mod dots;

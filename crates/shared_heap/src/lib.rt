@@ -4,6 +4,8 @@
 //! (`specs/Books.antt`). A [`Shared`] is a book under a latch, for threads that call as they like. [`run_threads`] has workers do lists
 //! of steps, each in a thread, and its book's journal is a merge of the lists (`specs/Merge.antt`). That threads run, and that a wait
 //! ends, is promised by no contract.
+//!
+//! Why it is built so: docs/DECISIONS.md, under its name.
 #![tactic(auto)]
 
 mod book;

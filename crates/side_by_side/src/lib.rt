@@ -4,6 +4,8 @@
 //! (`judge`). Here the judge is told what the compiled engine replies to each step, and what its sessions read. What the history
 //! leaves to an engine is compared with the engine's pages and ids, and of a vacuum, of which the history knows nothing, with
 //! whether one runs. So is every id that is given. What is noted of pages and in indexes is looked at after each step of a vacuum.
+//!
+//! Why it is built so: docs/DECISIONS.md, under its name.
 #![tactic(auto)]
 
 mod cuts;

@@ -4,6 +4,8 @@
 //! and that [`OwnIds`] keep the ids of an open transaction, and what was there at each savepoint, as `specs/Own.antt` says.
 //! The laws (`specs/Laws.antt`) say what this means in time: what was in progress when a snapshot was taken, or was given
 //! later, is unseen by it as long as its topmost parent stays the same, and what had finished with its topmost parent is seen.
+//!
+//! Why it is built so: docs/DECISIONS.md, under its name.
 #![tactic(auto)]
 
 mod horizon;

@@ -4,6 +4,8 @@
 //! and its status, the last asked for first. While it agrees with a table (`specs/Held.antt`), [`StatusCache::status`] answers as
 //! the table does, and [`visible_cached`] as the reader does without a cache. The laws say that it goes on to agree when an id is
 //! given, when ids finish, and when old ids are forgotten and the cache is truncated with the table (`specs/Laws.antt`).
+//!
+//! Why it is built so: docs/DECISIONS.md, under its name.
 #![tactic(auto)]
 
 mod cache;

@@ -7,6 +7,8 @@
 //! [`tell_story`] writes a page of HTML: the lines with their answers, and for each what a read of it finds, in sentences, and the picture
 //! of the table behind it. Its contract says besides that each explanation is that of the line's session and key before the line, and
 //! that all this was written, or nothing (`specs/Outcomes.antt`, `specs/Telling.antt`).
+//!
+//! Why it is built so: docs/DECISIONS.md, under its name.
 #![tactic(auto)]
 
 mod beginning;

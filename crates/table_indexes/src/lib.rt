@@ -2,6 +2,8 @@
 //!
 //! There is one entry for a chain, in each index (README.HOT). `specs/Indexes.antt` says what a new version does to them, and
 //! what room in memory that takes.
+//!
+//! Why it is built so: docs/DECISIONS.md, under its name.
 #![tactic(auto)]
 
 mod indexes;

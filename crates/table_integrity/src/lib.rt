@@ -4,6 +4,8 @@
 //! of a sound table stay sound, and the entries of each of its indexes go on to lead to the roots of chains of their values
 //! (`specs/Table.antt`, `specs/Laws.antt`); nobody else can tell that a transaction wrote, and it finds what it wrote itself
 //! (`specs/Readers.antt`, `specs/ByKey.antt`). Each law is the contract of a function that does nothing.
+//!
+//! Why it is built so: docs/DECISIONS.md, under its name.
 #![tactic(auto)]
 
 pub mod laws;

@@ -9,6 +9,8 @@
 //! A [`Ticket`] is made where nothing is written meanwhile. It holds the page as it is then, and which of its versions a reader sees.
 //! [`resolve`] gives their rows at any time after that. It is handed no table, so nothing that was done since can matter
 //! (`specs/Tickets.antt`). [`read_rows`] gives those of a page at once, where it stands.
+//!
+//! Why it is built so: docs/DECISIONS.md, under its name.
 #![tactic(auto)]
 
 mod keys;

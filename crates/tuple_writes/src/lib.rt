@@ -7,6 +7,8 @@
 //!
 //! The laws say that a sound page, as pruning asks for, stays sound, and index entries stay right, under each write by an
 //! id in progress, and when ids are given or finish (`specs/Laws.antt`).
+//!
+//! Why it is built so: docs/DECISIONS.md, under its name.
 #![tactic(auto)]
 
 mod headers;

@@ -6,6 +6,8 @@
 //!
 //! The functions of [`laws`] do nothing; their contracts say what each step keeps ([`laws::steps_keep_vacuum`]) and how many steps there
 //! are while no others come between ([`laws::steps_stay_within`]).
+//!
+//! Why it is built so: docs/DECISIONS.md, under its name.
 #![tactic(auto)]
 
 mod freeing;

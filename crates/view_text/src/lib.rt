@@ -3,6 +3,8 @@
 //! [`look_at`] reads a line exactly as `specs/Looks.antt` spells it: what is read is spelled so, and what is spelled so is read. The
 //! functions `tell_..` add the lines of an answer to a text (`specs/Answers.antt`), from what an engine has told. All other lines are
 //! those of `script_text`, whose readers of words and whose growths this crate uses.
+//!
+//! Why it is built so: docs/DECISIONS.md, under its name.
 #![tactic(auto)]
 
 mod cleaning;

@@ -6,6 +6,8 @@
 //! each look's answer is what the engine holds then (`specs/Showing.antt`); and that exactly the text of all this was written, as a
 //! journal or not (`specs/Viewing.antt`). A line is bad exactly where neither language has it. [`talk`] reads from somebody who
 //! types: it asks for each line, and goes on after a wrong one.
+//!
+//! Why it is built so: docs/DECISIONS.md, under its name.
 #![tactic(auto)]
 
 mod explaining;

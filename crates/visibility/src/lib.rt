@@ -4,6 +4,8 @@
 //! [`Reader::sees`] and [`fate`] answer exactly what `specs/Visible.antt` defines, which reads no hint, and that [`set_hints`]
 //! notes only what is true (`specs/Hints.antt`). The laws say that no reader from the horizon on sees a dead version, and that no
 //! verdict changes by hints, when an id is given, or when ids finish that the reader neither owns nor sees (`specs/Laws.antt`).
+//!
+//! Why it is built so: docs/DECISIONS.md, under its name.
 #![tactic(auto)]
 
 mod fates;

@@ -5,6 +5,8 @@
 //! Transaction ID Wraparound Failures"). The contract promises that [`precedes`], [`next`] and [`distance`] are what
 //! `specs/Circle.antt` defines, and by [`order_of_giving`] that within less than half of the circle the order of ids is
 //! that in which they were given. Whoever compares ids keeps those that are in use within such a window.
+//!
+//! Why it is built so: docs/DECISIONS.md, under its name.
 #![tactic(auto)]
 
 ghost use Rattle.std.specs.Prelude.{◌≡◌, IsTrue, ◌↔◌};
