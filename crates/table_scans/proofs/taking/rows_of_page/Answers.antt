@@ -4,7 +4,7 @@ use Rattle.table_scans.specs.Scans.{sight_of}
 use Rattle.table_scans.specs.Takes.{ComesTo}
 use Rattle.table_scans.proofs.Outcomes.{on-err}
 use Rattle.table_scans.proofs.TakeLemmas.{none-passed, one-passed, taken-here, meets-later, all-passed}
-use Rattle.table_scans.proofs.taking.take_page.Goals as goal
+use Rattle.table_scans.proofs.taking.rows_of_page.Goals as goal
 
 pub loop-page-init : goal.loop-page-init
 loop-page-init c = none-passed (sight_of c.args.heap.now c.args.reader.now) c.args.from

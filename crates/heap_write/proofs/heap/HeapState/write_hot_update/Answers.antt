@@ -12,7 +12,7 @@ use Rattle.heap_write.proofs.Writing.{replaces-here}
 use Rattle.heap_write.specs.Refusals.{VersionIsThere}
 use Rattle.heap_write.proofs.PageLemmas.{page-at, there-at}
 use Rattle.heap_write.proofs.HintLemmas.{hints-taken, hints-replaced}
-use Rattle.heap_write.proofs.heap.HeapState.hot_update.Goals as goal
+use Rattle.heap_write.proofs.heap.HeapState.write_hot_update.Goals as goal
 
 pub write-slot-requires-clause-ready : goal.write-slot-requires-clause-ready
 write-slot-requires-clause-ready c =
