@@ -104,9 +104,9 @@ module _ (old new : State) where
     change-stays (Changes.opens s o) = same-state (ap (λ (st : State). st.heap) o.is)
     change-stays (Changes.opens_by_statement s o) = same-state (ap (λ (st : State). st.heap) o.is)
     change-stays (Changes.closes s status c) = close-stays s status c (session_at old s) refl
-    change-stays (Changes.rolls_back s r) = stays-finishes old.heap.statuses new.heap.statuses r.back.since Aborted
-        (λ x since. own.active s r.session x r.at (subst (λ (ids : List ℕ). Contains ids x) (sym r.back.ids) (Contains-append_right r.now.own.ids r.back.since x since)))
-        r.back.finishes
+    change-stays (Changes.rolls_back s r) = stays-finishes old.heap.statuses new.heap.statuses r.since Aborted
+        (λ x since. own.active s r.session x r.at (subst (λ (ids : List ℕ). Contains ids x) (sym r.were) (Contains-append_right r.own.ids r.since x since)))
+        r.finishes
     change-stays (Changes.becomes s before now at goes is) = same-state (ap (λ (st : State). st.heap) is)
     change-stays (Changes.becomes_any s f goes is) = same-state (ap (λ (st : State). st.heap) is)
     change-stays (Changes.writes s write outcome t) = write-stays s write outcome t

@@ -76,13 +76,6 @@ kept-at st snap (s, r, at, kept) =
 
 -- What a session keeps.
 
--- a session that reads so, with the same cursor, keeps one only for it
-abbrev pub KeepsForCursor : Session → Type 0
-KeepsForCursor e = IsByStatement e.isolation → IsSome (kept_by e.isolation) → IsSome e.cursor
-
-pub for-same : (e now : Session) → now.isolation ≡ e.isolation → now.cursor ≡ e.cursor → KeepsForCursor e → KeepsForCursor now
-for-same e now reads cursor h by kept = subst (λ o. IsSome o) (sym cursor) (h (subst (λ i. IsByStatement i) reads by) (subst (λ i. IsSome (kept_by i)) reads kept))
-
 -- by statement nothing is kept where nothing is taken
 pub kept-after : (i : SessionIsolation) (taken : Option Snap) (snap : Snap) → kept_by (keeping taken i) ≡ Some snap → (kept_by i ≡ Some snap) ⊎ (taken ≡ Some snap)
 kept-after (BySnapshot s) taken snap is = inl is

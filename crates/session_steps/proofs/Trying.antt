@@ -26,7 +26,8 @@ use Rattle.session_steps.specs.Keeps.{EngineKeeps}
 use Rattle.session_steps.specs.Tests.{MayAct, FindsPlace, MayChangeKey, MayTry}
 use Rattle.session_steps.specs.Writes.{FailsWrite, TriesWrite, outcome_of, reply_for}
 use Rattle.session_steps.specs.Exact.{WriteTried, ExactWrite, AnswersStep}
-use Rattle.session_steps.proofs.Giving.{with_write, with_own, keeps-wrote, keeps-kept}
+use Rattle.session_steps.proofs.StateLemmas.{with_own}
+use Rattle.session_steps.proofs.Giving.{with_write, keeps-wrote, keeps-kept}
 use Rattle.session_steps.proofs.Writing.{Fits, fails-so, takes-ids, answers-write, Follows-tried}
 
 -- the id of a level, whose ids are in progress, is in the window

@@ -175,9 +175,10 @@ some-named (x ∷ ids) some = refl
 
 pub someone-written : (st : State) (w : World) → SomeoneHasId st → Agrees st w → SomeoneHasWritten w
 someone-written st w someone agrees =
-    let e = someone.session in
-    let m = agrees.found.opened someone.number (reader_of e) (reader-is st someone.number e someone.at) in
-    (someone.number, m.0, m.1, sym (agrees.written someone.number e m.0 someone.at m.1).0 ∙ some-named e.own.ids someone.wrote)
+    let s = someone.0 in
+    let e = someone.1 in
+    let m = agrees.found.opened s (reader_of e) (reader-is st s e someone.2) in
+    (s, m.0, m.1, sym (agrees.written s e m.0 someone.2 m.1).0 ∙ some-named e.own.ids someone.3)
 
 pub nobody-written : (st : State) (w : World) → NobodyHasId st → Agrees st w → NobodyHasWritten w
 nobody-written st w none agrees s m there = of (session_at st s) refl

@@ -10,7 +10,8 @@ use Rattle.session_steps.specs.State.{State, horizon_of}
 use Rattle.session_steps.specs.Writes.{outcome_of, worded}
 use Rattle.session_steps.specs.Replies.{reply_to}
 use Rattle.session_steps.specs.Exact.{AnswersStep}
-use Rattle.session_steps.proofs.Giving.{with_write, with_own}
+use Rattle.session_steps.proofs.StateLemmas.{with_own}
+use Rattle.session_steps.proofs.Giving.{with_write}
 use Rattle.session_steps.proofs.Trying.{MayTryAt, newest-given, change-there, tries-update, keeps-tried, answers-tried}
 use Rattle.session_steps.proofs.engine.SessionEngine.update_on_full_page.Goals as goal
 
