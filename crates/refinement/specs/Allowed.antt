@@ -131,17 +131,18 @@ Allows w (step.CreateIndex c) (reply.Refused refusal.IndexBusy) = LacksIndex w c
 Allows w (step.CreateIndex c) (reply.Refused refusal.NoMemory) = LacksIndex w c × (w.has_vacuum ≡ false) × NobodyHasWritten w
 Allows w step reply = ⊥
 
--- a step that reads or is refused only ends the session's own wait
-abbrev pub passed : World → Option ℕ → World
-passed w None = w
-passed w (Some s) = stepped w s
+-- what a step of a session makes of the world; one that is no session's leaves it as it is
+abbrev pub by_its_session : World → (ℕ → World) → Option ℕ → World
+by_its_session w made None = w
+by_its_session w made (Some s) = made s
 
 -- after a refused write: a conflict makes the session fail
 abbrev pub after_refused_write : World → ℕ → Refusal → World
 after_refused_write w s refusal.Conflict = change w s as_failed
 after_refused_write w s refusal = stepped w s
 
--- the world after the reply. Cleaning leaves it as it is, but for whether a vacuum runs
+-- the world after the reply. A step that reads or is refused only ends its session's own wait. Cleaning leaves the world as it is, but
+-- for whether a vacuum runs
 abbrev pub next : World → Step → Reply → World
 next w (step.Begin s) reply.Done = begun w s
 next w (step.BeginReadCommitted s) reply.Done = begun_by_statement w s
@@ -167,7 +168,7 @@ next w (step.VacuumBegin mode) reply.Done = with_vacuum true w
 next w step.VacuumStep (reply.Ended first) = with_vacuum false w
 next w step.VacuumCancel reply.Done = with_vacuum false w
 next w (step.CreateIndex c) reply.Done = with_index_on w c
-next w step reply = passed w (session_of step)
+next w step reply = by_its_session w (stepped w) (session_of step)
 
 -- Who waits for whom. All that is said above is so whoever waits. Where another open session holds the key, the session waits for
 -- it, unless that wait would close a ring: then the answer is Deadlock, and the session has failed
@@ -178,20 +179,10 @@ AllowsReply w step (reply.Refused refusal.Deadlock) = (s o : ℕ) × (session_of
     × Allows w step (reply.Refused (refusal.Busy o)) × ClosesRing w.waits_for s o
 AllowsReply w step reply = Allows w step reply
 
--- the session of the step waits for o
-abbrev pub waiting : World → Option ℕ → (o : ℕ) → World
-waiting w None o = w
-waiting w (Some s) o = blocked_by w s o
-
--- the session of the step has failed
-abbrev pub failing : World → Option ℕ → World
-failing w None = w
-failing w (Some s) = change w s as_failed
-
--- the world after the reply, and who waits then
+-- the world after the reply, and who waits then: the session waits for o, or it has failed by a deadlock
 abbrev pub after_reply : World → Step → Reply → World
-after_reply w step (reply.Refused (refusal.Busy o)) = waiting w (session_of step) o
-after_reply w step (reply.Refused refusal.Deadlock) = failing w (session_of step)
+after_reply w step (reply.Refused (refusal.Busy o)) = by_its_session w (λ s. blocked_by w s o) (session_of step)
+after_reply w step (reply.Refused refusal.Deadlock) = by_its_session w (λ s. change w s as_failed) (session_of step)
 after_reply w step reply = next w step reply
 
 -- the history allows the replies to the steps, one after another
