@@ -11,8 +11,8 @@ use Rattle.tuple_header.specs.declared.version.Header.{Header}
 use Rattle.tuple_header.specs.Marks.{is_frozen, is_heap_only}
 use Rattle.page_slots.specs.View.{PageView}
 use Rattle.page_sheet.specs.declared.slot.Slot.{Slot}
-use Rattle.page_sheet.specs.Slots.{slot_at, version_of, header_at, row_at, version_at, IsNormalAt, SlotIsThere, with_slot, room_of}
-use Rattle.page_sheet.proofs.SlotLemmas.{normal_at, there-from_slot_at}
+use Rattle.page_sheet.specs.Slots.{slot_at, version_of, header_at, row_at, version_at, IsNormalAt, with_slot, room_of}
+use Rattle.page_sheet.proofs.SlotLemmas.{there-from_normal}
 use Rattle.commit_status.specs.Window.{Window}
 use Rattle.heap_pages.specs.View.{PagesView}
 use Rattle.hot_chain.specs.Chain.{has_aborted}
@@ -32,6 +32,7 @@ use Rattle.table_indexes.specs.Indexes.{NeedsEntry}
 use Rattle.heap_write.specs.Heap.{HeapView, unused_page, page_on, Keeps}
 use Rattle.write_ids.specs.Ids.{SameIds}
 use Rattle.snapshot.specs.Own.{Own}
+use Rattle.write_ids.proofs.IdLemmas.{same-back}
 use Rattle.heap_write.specs.Writes.{KeepsValues, Prunes, PrunesIfFull, WouldGo}
 use Rattle.heap_write.specs.Writes.PrunesIfFull.{is_pruned, is_left}
 use Rattle.heap_write.specs.Steps.{HasNoneDead, IsChosen, IsPlanOn, IsPlanAround, IsLeftAlone, with_applied}
@@ -44,9 +45,6 @@ use Rattle.heap_write.proofs.Reserving.{chosen-set, ready-set}
 use Rattle.heap_write.proofs.Updating.{kept-slots, kept-full, no-room, on_page-needs}
 
 -- More memory for ids changes no plan.
-
-same-back : (w v : Window) → SameIds w v → SameIds v w
-same-back w v same = record { first = sym same.first; stop_age = sym same.stop_age; entries = sym same.entries }
 
 aborted-same : (w v : Window) → SameIds w v → has_aborted v ≡ has_aborted w
 aborted-same w v same = rw (same.first, same.entries) refl
@@ -205,9 +203,6 @@ left-needs h own place row horizon size there full left is needs =
 
 -- What a plan does to the slot of a version.
 
-normal-there : (slots : List Slot) (n : ℕ) → IsNormalAt slots n → SlotIsThere slots n
-normal-there slots n there = let t = normal_at slots n there in there-from_slot_at slots n _ t.1
-
 some-of : {A : Type 0} (o : Option A) → IsSome o → (a : A) × (o ≡ Some a)
 some-of (Some a) some = (a, refl)
 some-of None some = absurd (true≢false (sym some))
@@ -225,7 +220,7 @@ pub named-goes : (h : HeapView) (place : Tid) (horizon : ℕ) (actions : List (�
 named-goes h place horizon actions there plan named =
     let slots = (page_on h place.page).slots in
     let some = some-of (action_of actions place.slot) named in
-    record { action = some.0; does = subst (λ o. PrunesSlot h.statuses horizon slots place.slot o) some.1 (plan.exact place.slot (normal-there slots place.slot there)) }
+    record { action = some.0; does = subst (λ o. PrunesSlot h.statuses horizon slots place.slot o) some.1 (plan.exact place.slot (there-from_normal slots place.slot there)) }
 
 -- or leaves it there
 pub unnamed-stays : (w : Window) (horizon : ℕ) (page : PageView) (actions : List (ℕ × Action)) (n : ℕ) → IsPlan w horizon page.slots actions → action_of actions n ≡ None

@@ -22,10 +22,10 @@ use Rattle.refinement.specs.Agrees.{Traced, LevelTraces, IsSameIsolation, Sessio
 use Rattle.refinement.proofs.ShowsLemmas.{Shows-same, Shows-add_unseen}
 use Rattle.refinement.proofs.Statuses.{keeps-give, none_given, some_of, IsCommitted-give, IsActive-give_cases, IsCommitted-finish_old, IsCommitted-abort, IsActive-finish, given-finish, given-give, Finishes-none}
 use Rattle.visibility.proofs.Verdicts.{VisibleBy-same}
-use Rattle.refinement.proofs.Versions.{Adds-cases, active_not_committed}
+use Rattle.refinement.proofs.Versions.{Adds-cases}
 use Rattle.refinement.proofs.Readers.{IsNew, touches_new, wrote_before}
 use Rattle.refinement.proofs.LevelTraces.{Traced-join, Nested, nested_of}
-use Rattle.refinement.proofs.Isolations.{SameSights, IsUnseen, statement_same, cursor_same, statement_unseen, cursor_unseen, committed-fresh, committed_sight-give, committed_sight-abort}
+use Rattle.refinement.proofs.Isolations.{SameSights, IsUnseen, statement_same, cursor_same, statement_unseen, cursor_unseen, committed-fresh, committed_sight-give, committed_sight-abort, running_uncommitted}
 use Rattle.refinement.proofs.Others.{SessionAgrees-add_other, SessionAgrees-give_other, SessionAgrees-abort_other}
 use Rattle.refinement.proofs.Itself.{IsCurrent, new_session, SessionAgrees-begin, SessionAgrees-fail, SessionAgrees-insert, SessionAgrees-give}
 use Rattle.refinement.proofs.SessionsLemmas.{at_value, Matches, opened-change, idle-change, owned-change, apart-change, alone-change}
@@ -258,7 +258,7 @@ Agrees-insert h w s e m x place new store' adds is_new at current there bare non
       subst (λ e. Matches h' w' s e) is
       (with_row w.history new.row m, at_same s (Some (with_row w.history new.row m)) (w.session s), SessionAgrees-insert x place new adds is_new current bare none in_time mine));
   idle = idle-change h h' w w' s agrees (λ o ne. refl) models (λ at'. absurd (none-some e (sym at' ∙ at)));
-  current = Shows-add_unseen adds (λ p v bt seen. seen) (λ p v bt seen. seen) (λ seen. active_not_committed h.status x active (seen.made x is_new.made)) agrees.current;
+  current = Shows-add_unseen adds (λ p v bt seen. seen) (λ p v bt seen. seen) (λ seen. running_uncommitted h.status x active (seen.made x is_new.made)) agrees.current;
   made = λ p y u at' is done. elim (Adds-cases adds p u at') [
     | inl old ↦ agrees.made p y u old is done
     | inr now ↦ absurd (none-some y (sym is_new.kept ∙ (ap (λ (u : Version). deleter u.header) (sym now.1) ∙ is)))

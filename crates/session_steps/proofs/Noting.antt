@@ -1,8 +1,8 @@
 -- A session in its place becomes another, when it sets a savepoint, returns to one, or releases it.
-use Rattle.std.proofs.Common.{◌≡◌, ◌≢◌, ℕ, ◌<◌, List, [], ◌∷◌, ◌++◌, length, set, Option, Some, None, false, refl, sym, ap, ◌∙◌, subst}
+use Rattle.std.proofs.Common.{◌≡◌, ◌≢◌, ℕ, ◌<◌, List, [], ◌∷◌, ◌++◌, length, set, Option, Some, None, refl, sym, ap, ◌∙◌, subst}
 use Rattle.std.proofs.Math.ListN.{length-set}
 use Rattle.std.proofs.lemmas.Option.{same_Some}
-use Rattle.commit_status.specs.declared.status.Status.TheVariants.{InProgress, Aborted}
+use Rattle.commit_status.specs.declared.status.Status.TheVariants.{Aborted}
 use Rattle.commit_status.specs.Changes.{Finishes}
 use Rattle.snapshot.specs.Own.{Own}
 use Rattle.calls.specs.declared.step.Step.TheVariants as step
@@ -10,6 +10,7 @@ use Rattle.calls.specs.declared.reply.Reply.TheVariants as reply
 use Rattle.heap_pages.specs.View.{PagesView}
 use Rattle.table_indexes.specs.Indexes.{IndexesView}
 use Rattle.heap_write.specs.Heap.{HeapView}
+use Rattle.table_integrity.proofs.Forgetting.{aborted-ended}
 use Rattle.sessions.specs.declared.session.Session.{Session}
 use Rattle.session_steps.specs.State.{State, session_at, put_session}
 use Rattle.session_steps.specs.Keeps.{EngineKeeps}
@@ -22,14 +23,11 @@ use Rattle.session_steps.proofs.StateLemmas.{with_own}
 use Rattle.sessions.proofs.Idle.{open-put}
 use Rattle.session_steps.proofs.Savepoints.{Follows-savepoint, Follows-release, Follows-roll_back_to}
 
-unfinished : Aborted ≢ InProgress
-unfinished is = cc
-
 pub keeps-returned : (xs : List (Option Session)) (h h' : HeapView) (s : ℕ) (e e' : Session) (since : List ℕ) → open_at xs s ≡ Some e → e.own.ids ≡ e'.own.ids ++ since → Finishes h.statuses h'.statuses since Aborted → EngineKeeps xs h.statuses
     → EngineKeeps (set xs s (Some e')) h'.statuses
 keeps-returned xs h h' s e e' since at were finishes k = record {
   count = length-set xs s (Some e') ∙ k.count;
-  own = keep-dropped xs h.statuses h'.statuses s e e' since Aborted at were unfinished finishes k.own;
+  own = keep-dropped xs h.statuses h'.statuses s e e' since Aborted at were aborted-ended finishes k.own;
 }
 
 -- only the statuses of the heap change

@@ -1,6 +1,6 @@
 -- By which snapshot a statement of a session reads, and its cursor: what these count is what the relation has them count.
-use Rattle.std.proofs.Common.{◌≡◌, ℕ, List, Option, Some, None, refl, sym, ap, ◌∙◌, subst, ◌⊎◌, inl, inr}
-use Rattle.std.specs.Prelude.{◌↔◌, IsSome}
+use Rattle.std.proofs.Common.{◌≡◌, ℕ, List, Option, Some, None, refl, sym, ap, ◌∙◌, ◌⊎◌, inl, inr}
+use Rattle.std.specs.Prelude.{◌↔◌}
 use Rattle.std.proofs.lemmas.Option.{same_Some, none-some}
 use Rattle.tuple_header.specs.declared.version.Header.{Header}
 use Rattle.tuple_header.specs.Version.{Version}
@@ -17,7 +17,7 @@ use Rattle.sessions.specs.declared.session.Session.{Session}
 use Rattle.sessions.specs.declared.session.SessionIsolation.{SessionIsolation}
 use Rattle.sessions.specs.declared.session.SessionIsolation.TheVariants.{BySnapshot, ByStatement}
 use Rattle.session_steps.specs.State.{State, session_at, seen, isolation_seen}
-use Rattle.sessions.specs.Session.{kept_by, statement_snapshot, cursor_snapshot, keeping, IsByStatement}
+use Rattle.sessions.specs.Session.{kept_by, statement_snapshot, cursor_snapshot, keeping}
 use Rattle.session_steps.proofs.Owns.{reader-at}
 
 -- what a statement of the session sees of the ids, and what its cursor does

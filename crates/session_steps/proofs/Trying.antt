@@ -19,6 +19,7 @@ use Rattle.table_integrity.proofs.Places.{version-on}
 use Rattle.calls.specs.Words.{RowToWrite, row_of}
 use Rattle.calls.specs.Writes.{WriteStep, inserts, updates, deletes, step_of}
 use Rattle.calls.specs.declared.reply.Reply.{Reply}
+use Rattle.write_ids.proofs.IdLemmas.{same-then}
 use Rattle.sessions.specs.declared.session.Session.{Session}
 use Rattle.sessions.specs.Places.{open_at}
 use Rattle.session_steps.specs.State.{State, session_at, horizon_of}
@@ -36,9 +37,6 @@ pub newest-given : (w : Window) (ids : List ℕ) (saved : List (List ℕ)) → A
 newest-given w ids saved prefixes active x is = (active x (level-among ids saved x prefixes is)).is_given
 
 -- The engine keeps what its type keeps, whatever became of a write.
-
-same-then : (u v w : Window) → SameIds u v → SameIds v w → SameIds u w
-same-then u v w a b = record { first = b.first ∙ a.first; stop_age = b.stop_age ∙ a.stop_age; entries = b.entries ∙ a.entries }
 
 ready-ids : (h ready h' : HeapView) (place : Tid) (horizon size : ℕ) → PrunesIfFull h ready place horizon size → Keeps ready h' → SameIds h.statuses h'.statuses
 ready-ids h ready h' place horizon size (PrunesIfFull.has_room room is) keeps = subst (λ (g : HeapView). SameIds g.statuses h'.statuses) is keeps.statuses

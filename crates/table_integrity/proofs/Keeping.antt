@@ -31,6 +31,7 @@ use Rattle.table_indexes.specs.Indexes.{entries_in, since_at, IsInUse, SameEntri
 use Rattle.table_indexes.proofs.IndexLemmas.{same-entries, entries-kept}
 use Rattle.heap_write.specs.Heap.{HeapView, Keeps, slots_of}
 use Rattle.write_ids.specs.Ids.{SameIds, TakesIds}
+use Rattle.write_ids.proofs.IdLemmas.{same-back}
 use Rattle.heap_write.specs.Writes.{PrunesIfFull, Prunes, Applies}
 use Rattle.heap_write.specs.Refusals.{FailsUpdate}
 use Rattle.heap_write.specs.declared.heap.WriteFault.{WriteFault}
@@ -105,9 +106,6 @@ kept-stays h h' s k = slots-stay h h' (slots-kept h h' k) k.entries still
     still n = same-sound h.statuses h'.statuses k.statuses (slots_on (slots_of h) n) (s.heap n)
 
 -- A page is made ready, with the ids as they were.
-
-same-back : (w v : Window) → SameIds w v → SameIds v w
-same-back w v ids = record { first = sym ids.first; stop_age = sym ids.stop_age; entries = sym ids.entries }
 
 abbrev pub with_table : HeapView → Window → HeapView
 with_table h w = record h { statuses = w }
