@@ -23,7 +23,6 @@ use Rattle.prune.specs.Actions.{CanApply, made_by, acted, action_of, after_actio
 use Rattle.prune.specs.Cutting.{IsCutCount, RemovesVersions}
 use Rattle.prune.specs.Pruning.{loose_in, IsInChainOf, IsLoose, PrunesSlot, by_root, by_none, IsPlan, IsPruned}
 use Rattle.prune.specs.Room.{IsPlanOf}
-use Rattle.prune.specs.Laws.{IsPrunedPage}
 use Rattle.prune.proofs.Idle.{idle-plan}
 use Rattle.prune.proofs.Listing.{applied-slot, applied-flag}
 use Rattle.prune.proofs.Planned.{plan-pruned}
@@ -86,18 +85,25 @@ pub applied-prunes : (h h' : HeapView) (n horizon : ℕ) (actions : List (ℕ ×
     → Prunes h h' n horizon
 applied-prunes h h' n horizon actions within plan is =
     let page = page_on h n in
-    let after = applied actions page in
-    let p : IsPrunedPage h.statuses horizon page after = record { actions = actions; plan = plan; is = refl } in
     record {
       before = page;
-      after = after;
+      after = applied actions page;
       at = slice_get-get_or h.pages.pages n unused_page within;
       is = is;
-      flag = applied-flag actions page;
-      change = (actions, plan, refl);
-      pruned = plan-pruned h.statuses horizon page after p;
-      removes = pruned-removes h.statuses horizon page.slots after.slots (plan-pruned h.statuses horizon page after p);
+      pruned = record { actions = actions; plan = plan; is = refl };
     }
+
+-- Its slots are what pruning makes of them, what goes from it is cut, and its flag stays.
+
+module _ (h h' : HeapView) (n horizon : ℕ) (p : Prunes h h' n horizon) where
+  pub pruned-page : IsPruned h.statuses horizon p.before.slots p.after.slots
+  pruned-page = plan-pruned h.statuses horizon p.before p.after p.pruned
+
+  pub pruned-cut : RemovesVersions h.statuses horizon p.before.slots p.after.slots
+  pruned-cut = pruned-removes h.statuses horizon p.before.slots p.after.slots pruned-page
+
+  pub pruned-flag : p.after.flag ≡ p.before.flag
+  pruned-flag = ap (λ (q : PageView). q.flag) p.pruned.is ∙ applied-flag p.pruned.actions p.before
 
 applied-page : (h h' : HeapView) (n : ℕ) (actions : List (ℕ × Action)) → n < length h.pages.pages → h' ≡ with_applied h n actions → page_on h' n ≡ applied actions (page_on h n)
 applied-page h h' n actions within is = ap (λ (v : HeapView). page_on v n) is ∙ page-set h.pages.pages n (applied actions (page_on h n)) within

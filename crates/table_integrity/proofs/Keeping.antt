@@ -37,6 +37,7 @@ use Rattle.heap_write.specs.Refusals.{FailsUpdate}
 use Rattle.heap_write.specs.declared.heap.WriteFault.{WriteFault}
 use Rattle.heap_write.specs.declared.heap.WriteFault.TheVariants as fault
 use Rattle.heap_write.proofs.PageLemmas.{slots-kept}
+use Rattle.heap_write.proofs.Plans.{pruned-page}
 use Rattle.table_integrity.specs.Table.{SoundTable, StaysSoundTable}
 use Rattle.table_integrity.specs.Laws.{FinishesInTable}
 use Rattle.table_integrity.proofs.Memory.{same-status, same-sound}
@@ -63,7 +64,7 @@ thinned-stays h h' number horizon before page s b thinned = subst (λ (g : HeapV
 pub pruned-stays : (h h' : HeapView) (number horizon : ℕ) → SoundTable h → Prunes h h' number horizon → StaysSoundTable h h'
 pruned-stays h h' number horizon s p = thinned-stays h h' number horizon p.before p.after s (prunes-becomes h h' number horizon p)
     (pruned-thins h.statuses horizon (slots_on (slots_of h) number) p.after.slots
-    (subst (λ slots. IsPruned h.statuses horizon slots p.after.slots) (sym (prunes-on h h' number horizon p)) p.pruned) (s.heap number))
+    (subst (λ slots. IsPruned h.statuses horizon slots p.after.slots) (sym (prunes-on h h' number horizon p)) (pruned-page h h' number horizon p)) (s.heap number))
 
 pub applied-stays : (h h' : HeapView) (number horizon change : ℕ) (actions : List (ℕ × Action)) → SoundTable h → Applies h h' number horizon change actions → StaysSoundTable h h'
 applied-stays h h' number horizon change actions s a =
