@@ -12,7 +12,7 @@ use Rattle.commit_status.specs.declared.status.Status.TheVariants.{InProgress, C
 use Rattle.snapshot.specs.Snap.{Snap}
 use Rattle.history.specs.History.{Write, Transaction, written, reading, IsLate}
 use Rattle.history.specs.World.{World, Isolation, by_snapshot, by_statement, OpenSession, joined, own_write, Holds, beginning, start_by, start_now}
-use Rattle.history.specs.Moves.{put, free_to_scan, new_session as new_model, begun, begun_by_statement, with_vacuum, with_row, as_failed, aborted}
+use Rattle.history.specs.Moves.{put, free_to_scan, new_session as new_model, begun, with_vacuum, with_row, as_failed, aborted}
 use Rattle.history.proofs.HistoryLemmas.{at_same, at_other, joined-add_write}
 use Rattle.refinement.specs.Heap.{SeenIsolation, seen_by_snapshot, seen_by_statement, SeenSession, Heap, SightOfStatement, SightOfCursor, StatementSees, CursorSees}
 use Rattle.visibility.specs.Seeing.{HasCommitted, IsRunning, Touches, deleter}
@@ -135,13 +135,13 @@ Agrees-opens h w s isolation model session' only idle same start fresh agrees = 
 
 pub Agrees-begin : (h : Heap) (w : World) (s : ℕ) (snapshot : Snap) (session' : ℕ → Option SeenSession)
     → OnlyIs h.session session' s (Some (new_session (seen_by_snapshot snapshot))) → h.session s ≡ None → IsFreshSnapshot h.status (h.sees snapshot)
-    → HeapAgrees h w → HeapAgrees (record h { session = session' }) (begun w s)
+    → HeapAgrees h w → HeapAgrees (record h { session = session' }) (begun (by_snapshot (length w.history)) w s)
 Agrees-begin h w s snapshot session' only idle fresh agrees = Agrees-indexes (record h { session = session' }) (put w s (Some (new_model (by_snapshot (length w.history))))) w.has_index (free_to_scan w s).too_new
     (Agrees-opens h w s (seen_by_snapshot snapshot) (by_snapshot (length w.history)) session' only idle tt refl fresh agrees)
 
 pub Agrees-begin_by_statement : (h : Heap) (w : World) (s : ℕ) (session' : ℕ → Option SeenSession)
     → OnlyIs h.session session' s (Some (new_session (seen_by_statement None))) → h.session s ≡ None
-    → HeapAgrees h w → HeapAgrees (record h { session = session' }) (begun_by_statement w s)
+    → HeapAgrees h w → HeapAgrees (record h { session = session' }) (begun by_statement w s)
 Agrees-begin_by_statement h w s session' only idle agrees = Agrees-indexes (record h { session = session' }) (put w s (Some (new_model by_statement))) w.has_index (free_to_scan w s).too_new
     (Agrees-opens h w s (seen_by_statement None) by_statement session' only idle tt refl (committed-fresh h.status) agrees)
 

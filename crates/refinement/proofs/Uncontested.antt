@@ -6,8 +6,7 @@ use Rattle.xid_circle.specs.declared.Tid.{Tid}
 use Rattle.tuple_header.specs.Version.{Version}
 use Rattle.commit_status.specs.declared.status.Status.{Status}
 use Rattle.history.specs.History.{Transaction}
-use Rattle.history.specs.World.{World, OpenSession, own_write, Holds, start_now}
-use Rattle.history.specs.Moves.{transaction_of}
+use Rattle.history.specs.World.{World, OpenSession, own_write, Holds, start_now, joined}
 use Rattle.refinement.specs.Heap.{SeenSession, Heap, StatementSees, CursorSees}
 use Rattle.visibility.specs.Seeing.{HasCommitted, IsRunning, Reads, by_itself, by_others, VisibleBy, Touches, made_by, deleted_by, inserter, deleter}
 use Rattle.refinement.specs.Visible.{ReaderSees, At}
@@ -21,7 +20,7 @@ use Rattle.refinement.proofs.Isolations.{running_uncommitted}
 -- A session has not written the key of a current version that none of its ids touched. Did it see who made it, it would see the
 -- version, and it sees none but its own of a key that it has written. Did it not, the key would be late
 pub spares_current : {status : ℕ → Option Status} {store : Tid → Option Version} {history : List Transaction} {sees cursor_sees : ℕ → Type 0} {start : ℕ} {e : SeenSession} {m : OpenSession}
-    → SessionAgrees status store history sees start cursor_sees e m → SparesCurrent status store e.own (transaction_of m)
+    → SessionAgrees status store history sees start cursor_sees e m → SparesCurrent status store e.own (joined m.levels)
 spares_current {status} {store} {history} {sees} {cursor_sees} {start} {e} {m} mine p v at current untouched wrote = of (inserter v.header) refl
   where
     unread : (y : ℕ) → deleter v.header ≡ Some y → ¬ Reads status sees e.own y

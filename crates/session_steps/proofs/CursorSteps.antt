@@ -9,7 +9,7 @@ use Rattle.std.proofs.Math.ListN.{length-set}
 use Rattle.std.proofs.lemmas.Option.{same_Some, none-some}
 use Rattle.std.specs.Option.{option_map}
 use Rattle.snapshot.specs.Snap.{Snap}
-use Rattle.history.specs.World.{World, MayScan}
+use Rattle.history.specs.World.{World, MayScan, by_index, by_heap}
 use Rattle.root_index.specs.View.{IndexView}
 use Rattle.table_indexes.specs.Indexes.{IndexesView, IsInUse, index_at, since_at}
 use Rattle.calls.specs.declared.step.Step.TheVariants as step
@@ -32,12 +32,13 @@ use Rattle.table_scans.specs.declared.progress.CursorScan.TheVariants.{Rows}
 use Rattle.table_scans.specs.declared.progress.Scan.TheVariants.{Index, Heap}
 use Rattle.index_lookup.specs.declared.index_scan.IndexRange.{IndexRange}
 use Rattle.session_steps.specs.State.{State, session_at, put_session, with_cursor, with_kept, isolation_seen, seen, position_of, reader_of, engine_sessions}
-use Rattle.history.specs.Moves.{with_index_cursor, with_heap_cursor, without_cursor}
+use Rattle.history.specs.Moves.{without_cursor, opened}
 use Rattle.sessions.specs.Session.{keeping, kept_by, IsByStatement, is_too_new}
 use Rattle.session_steps.specs.Agrees.{Agrees, Sound, SessionKeeps, Follows, KeepsAllTargets}
 use Rattle.session_steps.proofs.InUse.{GoesAlong, used-still, marks-put, no-cursor, scans-put, agree}
 use Rattle.session_steps.proofs.Scanning.{opened-scans}
 use Rattle.sound_entries.specs.Since.{MayScanSince}
+use Rattle.history.specs.Cursors.{rows_within}
 use Rattle.session_steps.proofs.OwnIdsLemmas.{open-within, open-set_cases}
 use Rattle.session_steps.proofs.StateLemmas.{only-set}
 use Rattle.session_steps.proofs.Owns.{reader-is, now_taken, taken-fresh, taken-within}
@@ -216,7 +217,7 @@ Follows-opened_index st st' s e span at sound bare order none used may is w agre
     (sym (put-both st st' s e (Some (Rows (Index span))) (Some (now_taken st)) at is)) (
       f.0,
       agree agrees (used-still st.heap.indexes) (marks-put st.sessions s e (with_both (Some (Rows (Index span))) (Some (now_taken st)) e) at refl) (unmade refl refl)
-          (written-put st w s e (with_both (Some (Rows (Index span))) (Some (now_taken st)) e) (with_index_cursor w.history span.index span.low span.high) at agrees (λ m there. agrees.written s e m at there)) f.1
+          (written-put st w s e (with_both (Some (Rows (Index span))) (Some (now_taken st)) e) (opened w.history (by_index span.index) (rows_within span.index span.low span.high)) at agrees (λ m there. agrees.written s e m at there)) f.1
           (sound-both st w s e (Some (Rows (Index span))) (Some (now_taken st)) at agrees (taken-alone st) (λ some. refl) (along-span st w s e span agrees at used may)),
       led-same st w agrees,
     )
@@ -229,7 +230,7 @@ Follows-opened_heap st st' s e at sound bare is w agrees =
     subst (λ st'. Allows w (step.OpenHeap s) reply.Done × Agrees st' (next w (step.OpenHeap s) reply.Done) × KeepsAllTargets st st') (sym (put-both st st' s e (Some (Rows (Heap heap_start))) (Some (now_taken st)) at is)) (
       f.0,
       agree agrees (used-still st.heap.indexes) (marks-put st.sessions s e (with_both (Some (Rows (Heap heap_start))) (Some (now_taken st)) e) at refl) (unmade refl refl)
-          (written-put st w s e (with_both (Some (Rows (Heap heap_start))) (Some (now_taken st)) e) (with_heap_cursor w.history) at agrees (λ m there. agrees.written s e m at there)) f.1
+          (written-put st w s e (with_both (Some (Rows (Heap heap_start))) (Some (now_taken st)) e) (opened w.history by_heap (λ rows. rows)) at agrees (λ m there. agrees.written s e m at there)) f.1
           (sound-both st w s e (Some (Rows (Heap heap_start))) (Some (now_taken st)) at agrees (taken-alone st) (λ some. refl) (λ span here. absurd (cc))),
       led-same st w agrees,
     )
