@@ -39,6 +39,8 @@ impl<N: Node> Node for Branch<N> {
 
     ghost nodes = { λ b. suc (sum_by N.nodes b) };
 
+    ghost Fits = { N.Fits };
+
     ghost IsNeat = { λ b. AreNeat N.IsNeat N.size b };
 
     ghost IsPosition = { λ b position. IsPositionIn N.IsPosition b position };

@@ -314,7 +314,8 @@ fn insert_first<N: Node>(
     spares: &mut Spares<N, N::Spares>,
     entry: Entry,
 ) -> Result<(), AllocError>
-    requires { nodes.old.items ≡ [] }
+    requires none { nodes.old.items ≡ [] }
+    requires fits { N.Fits entry }
     ensures entries { OnOk result (all N.entries nodes.new.items ≡ insert [] 0 entry) }
     ensures neat { AreNeat N.IsNeat N.size nodes.new.items }
     ensures room { (vec_capacity nodes.old - vec_len nodes.old)
@@ -351,6 +352,7 @@ pub fn insert<N: Node>(
 ) -> Result<(), AllocError>
     requires neat { AreNeat N.IsNeat N.size nodes.old.items }
     requires position { IsPositionIn N.IsPosition nodes.old.items position }
+    requires fits { N.Fits entry }
     ensures entries { OnOk result
         (all N.entries nodes.new.items
         ≡ insert (all N.entries nodes.old.items)

@@ -14,7 +14,9 @@
 mod index;
 mod look_ups;
 mod progress;
+mod root;
 
-pub use index::{LookUp, PositionHint, RootIndex};
+pub use index::{LookUp, PositionHint};
 pub use index_entries::{Entry, members_determine};
 pub use progress::Progress;
+pub use root::RootIndex;
