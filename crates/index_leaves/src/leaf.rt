@@ -105,6 +105,7 @@ impl<L: Label> Node for Leaf<L> {
         search(&self.entries, sought, guess)
     }
 
+    #[inline(always)]
     fn stands_at(&self, sought: &Entry, position: usize) -> bool {
         stands_in(&self.entries, &self.last, sought, position)
     }
@@ -118,6 +119,7 @@ impl<L: Label> Node for Leaf<L> {
         position.saturating_add(1)
     }
 
+    #[inline(always)]
     fn entry_at(&self, position: usize) -> Option<Entry> {
         self.entries.get(position)
     }

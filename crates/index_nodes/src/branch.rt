@@ -77,6 +77,7 @@ impl<N: Node> Node for Branch<N> {
         nodes::search(&self.nodes, sought)
     }
 
+    #[inline(always)]
     fn stands_at(&self, sought: &Entry, position: TreePosition<N::Position>) -> bool {
         nodes::stands_at(&self.nodes, sought, position)
     }
@@ -89,6 +90,7 @@ impl<N: Node> Node for Branch<N> {
         nodes::behind::<N>(position)
     }
 
+    #[inline(always)]
     fn entry_at(&self, position: TreePosition<N::Position>) -> Option<Entry> {
         nodes::entry_at(&self.nodes, position)
     }

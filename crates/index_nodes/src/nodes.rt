@@ -110,6 +110,7 @@ pub fn search<N: Node>(
 }
 
 /// Whether this entry stands at this position.
+#[inline(always)]
 pub fn stands_at<N: Node>(nodes: &[N], sought: &Entry, position: TreePosition<N::Position>) -> bool
     ensures entry { OnTrue result (IsEntryIn N.IsEntry nodes.now position) }
     ensures found { OnTrue result
@@ -125,6 +126,7 @@ pub fn stands_at<N: Node>(nodes: &[N], sought: &Entry, position: TreePosition<N:
 }
 
 /// The entry at this position; behind a node's last, the first of the next node.
+#[inline(always)]
 pub fn entry_at<N: Node>(nodes: &[N], position: TreePosition<N::Position>) -> Option<Entry>
     requires neat { AreNeat N.IsNeat N.size nodes.now }
     requires position { IsPositionIn N.IsPosition nodes.now position }
