@@ -11,6 +11,10 @@ insert_each-requires-clause-fits c =
     subst AllFitColumn (sym c.deref.ensures.value)
     (All-permutation (Fits false) c.args.batch.now.items c.sort_unstable_by_key.new.self.items c.sort_unstable_by_key.ensures.permutation c.requires.fits)
 
+pub returns-in_err-insert_each-clause-fits : goal.returns-in_err-insert_each-clause-fits
+returns-in_err-insert_each-clause-fits c =
+    All-permutation (Fits false) c.args.batch.now.items c.sort_unstable_by_key.new.self.items c.sort_unstable_by_key.ensures.permutation c.requires.fits
+
 pub returns-clause-inserts : goal.returns-clause-inserts
 returns-clause-inserts c =
     unsorted c.args.batch.now.items c.sort_unstable_by_key.new.self.items c.args.index.now.entries c.insert_each.new.index.entries c.sort_unstable_by_key.ensures.permutation

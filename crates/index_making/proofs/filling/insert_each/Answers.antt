@@ -1,14 +1,11 @@
-use Rattle.std.proofs.Common.{◌∙◌, get_or, false, sym, subst, arith}
+use Rattle.std.proofs.Common.{◌∙◌, arith}
 use Rattle.std.proofs.lemmas.Option.{slice_get-get_or}
-use Rattle.std.proofs.lemmas.List.Elements.{All-get_or}
-use Rattle.entry_columns.specs.Fits.{Fits}
-use Rattle.index_making.proofs.FillingLemmas.{one-inserted, all-inserted}
+use Rattle.index_making.proofs.FillingLemmas.{each-fits, one-inserted, all-inserted}
 use Rattle.index_making.proofs.filling.insert_each.Goals as goal
 
 pub insert-requires : goal.insert-requires
 insert-requires c =
-    subst (λ kind. Fits kind (get_or c.args.batch.now c.loop-i.i _)) (sym c.loop-i.invariant.kind)
-    (All-get_or (Fits false) c.args.batch.now c.loop-i.i _ (omega (arith, c.loop-i-test.true)) c.requires.fits)
+    each-fits c.args.batch.now c.loop-i.i _ c.loop-i.index.is_by_key c.requires.fits (omega (arith, c.loop-i-test.true)) c.loop-i.invariant.kind
 
 pub loop-i-preserved : goal.loop-i-preserved
 loop-i-preserved c = record {

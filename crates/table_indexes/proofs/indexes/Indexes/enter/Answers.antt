@@ -1,4 +1,4 @@
-use Rattle.std.proofs.Common.{◌+◌, ◌∷◌, ℤ, arith, ap, Some, sym, refl, subst, true}
+use Rattle.std.proofs.Common.{◌+◌, ◌∷◌, ℤ, to_z, of_z, arith, ap, Some, sym, refl, subst, true}
 use Rattle.std.specs.Prelude.{FitsSigned}
 use Rattle.std.specs.Int.{w64, w128}
 use Rattle.std.proofs.lemmas.Int.{to_z-of_z}
@@ -15,8 +15,9 @@ add_entry-requires-clause-room c = subst (λ (v : IndexesView). HasEntry (index_
 
 pub add_entry-requires-clause-fits : goal.add_entry-requires-clause-fits
 add_entry-requires-clause-fits c =
-    let label : FitsLabel true _ c.args.key = subst (λ (z : ℤ). FitsLabel true z c.args.key) (sym (to_z-of_z w128 c.value_in.result c.value_in.ensures.fits)) (c.value_in.ensures.key refl) in
-    subst (λ kind. Fits kind (record { value = _; key = c.args.key; tid = c.args.place })) (sym c.self.invariant.key) (label, c.requires.page)
+    let value = to_z w128 (of_z w128 c.value_in.result) in
+    let label : FitsLabel true value c.args.key = subst (λ (z : ℤ). FitsLabel true z c.args.key) (sym (to_z-of_z w128 c.value_in.result c.value_in.ensures.fits)) (c.value_in.ensures.key refl) in
+    subst (λ kind. Fits kind (record { value = value; key = c.args.key; tid = c.args.place })) (sym c.self.invariant.key) (label, c.requires.page)
 
 pub loop-c-init : goal.loop-c-init
 loop-c-init c = record {

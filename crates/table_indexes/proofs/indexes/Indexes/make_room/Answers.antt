@@ -1,6 +1,7 @@
 use Rattle.std.proofs.Common.{ap, ◌∷◌, Some}
-use Rattle.table_indexes.specs.Indexes.{IndexesView}
-use Rattle.table_indexes.proofs.Columns.{reserved-key, reserved-column, reserved-all, reserved-column-all, key-changed, column-changed}
+use Rattle.index_entries.proofs.SetLemmas.{on_err}
+use Rattle.table_indexes.specs.Indexes.{IndexesView, NeedsEntry}
+use Rattle.table_indexes.proofs.Columns.{reserved-key, reserved-column, reserved-all, reserved-column-all, reserved-lacks, key-changed, column-changed}
 use Rattle.table_indexes.proofs.IndexLemmas.{same-since}
 use Rattle.table_indexes.proofs.indexes.Indexes.make_room.Goals as goal
 
@@ -22,6 +23,12 @@ loop-c-preserved c =
       since = c.loop-c.invariant.since;
       kinds = column-changed c.loop-c.self-inside.by_key c.loop-c.self-inside.by_column c.loop-c.c _ c.reserve_entry.new.index c.loop-c.invariant.kinds c.loop-c-test.true made.kind;
     }
+
+pub returns-in_err-reserve_entry-clause-refused : goal.returns-in_err-reserve_entry-clause-refused
+returns-in_err-reserve_entry-clause-refused c =
+    on_err c.from_residual-in_err-reserve_entry.result (NeedsEntry c.args.self.now)
+    (reserved-lacks c.args.self.now.indexes c.loop-c.self-inside.by_column (Some c.loop-c.self-inside.by_key) c.index-self-c.result c.loop-c.c c.loop-c-test.true
+    c.loop-c.invariant.reserved c.in_err-reserve_entry.ensures.refused)
 
 pub returns-in_err-reserve_entry-clause-same : goal.returns-in_err-reserve_entry-clause-same
 returns-in_err-reserve_entry-clause-same c = record {

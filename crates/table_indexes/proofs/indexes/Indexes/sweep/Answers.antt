@@ -8,8 +8,8 @@ use Rattle.table_indexes.proofs.indexes.Indexes.sweep.Goals as goal
 pub invariant_of-self : goal.invariant_of-self
 invariant_of-self c = key-changed c.self.inside.by_key c.remove_where.new.self c.self.inside.by_column c.self.invariant c.remove_where.ensures.kind
 
-pub invariant_of-self-2 : goal.invariant_of-self-2
-invariant_of-self-2 c =
+pub invariant_of-self-else-number-eq0 : goal.invariant_of-self-else-number-eq0
+invariant_of-self-else-number-eq0 c =
     let below = few-in_use c.args.self.now.indexes c.self.inside.by_column _ c.args.number (ap (λ (v : IndexesView). v.indexes) c.self.view_is) c.self.invariant.size c.requires in
     column-changed c.self.inside.by_key c.self.inside.by_column (c.args.number - 1) c.index-self-number.result c.sweep_column.new.index c.self.invariant
     (omega (arith, c.if-number-eq0.false, below)) c.sweep_column.ensures.kind
