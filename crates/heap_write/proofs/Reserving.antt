@@ -21,7 +21,7 @@ use Rattle.heap_write.specs.declared.heap.WriteFault.TheVariants.{NoMemory}
 use Rattle.heap_write.specs.Writes.{TableIsFull}
 use Rattle.write_ids.specs.Ids.{NeedsFreeze}
 use Rattle.heap_write.specs.Refusals.{NeedsIds, RootNeedsMemory, LacksForInsert}
-use Rattle.heap_write.specs.Growth.{page_in, SamePages, target_number, place_of_target, IsReserved}
+use Rattle.heap_write.specs.Growth.{page_in, SamePages, place_of_target, IsReserved}
 use Rattle.heap_write.specs.Steps.{IsChosen}
 use Rattle.heap_write.proofs.PageLemmas.{page-set_other}
 use Rattle.heap_write.proofs.PlaceLemmas.{alike-full, place-set, page-place, new-place}
@@ -33,11 +33,6 @@ needs-memory h own size chosen = (
   λ full. let few = new-place h.pages.pages h.max_pages size chosen in let over = full.all_used in let no : 1 ≤ 0 = omega (arith, few, over) in omega (arith, no),
   RootNeedsMemory.for_page chosen,
 )
-
--- an entry can lead to the page where a root goes
-pub target-few : (pages : PagesView) (size : ℕ) (target : Target) → IsReserved pages size target → length pages.pages ≤ 65536 → target_number pages.pages target < 65536
-target-few pages size (Page n) ready few = omega (arith, ready.0, few)
-target-few pages size (New page) ready few = omega (arith, ready.3)
 
 pub room-left : (h : HeapView) (size : ℕ) (target : Target) → IsChosen h size (Some target) → ¬ TableIsFull h size
 room-left h size (Page n) chosen full =
