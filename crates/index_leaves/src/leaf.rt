@@ -322,7 +322,12 @@ fn is_at<L: Label>(entries: &EntryColumns<L>, sought: &Entry, place: usize) -> b
 
 /// Whether this entry stands at this place, where the last one is known.
 #[inline(always)]
-fn stands_in<L: Label>(entries: &EntryColumns<L>, last: &Entry, sought: &Entry, place: usize) -> bool
+fn stands_in<L: Label>(
+    entries: &EntryColumns<L>,
+    last: &Entry,
+    sought: &Entry,
+    place: usize,
+) -> bool
     requires { IsLast last.now entries.now }
     ensures there { IsTrue result ↔ IsAt entries.now sought.now place }
     ensures few { IsTrue result → place < MOST_PARTS }
@@ -375,7 +380,12 @@ fn is_end<L: Label>(entries: &EntryColumns<L>, entry: Entry, place: usize) -> bo
 
 /// Where the entry goes, if that is right before or right behind this place, and between two of these entries; or at the end of the
 /// last leaf.
-fn gap_near<L: Label>(entries: &EntryColumns<L>, sought: &Entry, near: usize, is_last: bool) -> Option<usize>
+fn gap_near<L: Label>(
+    entries: &EntryColumns<L>,
+    sought: &Entry,
+    near: usize,
+    is_last: bool,
+) -> Option<usize>
     requires { IsAscending entries.now }
     ensures in_range { IfSome result (λ place. place ≤ length entries.now) }
     ensures behind { IfSome result (GoesBehind entries.now sought.now) }
@@ -412,7 +422,12 @@ fn goes_behind<L: Label>(entries: &EntryColumns<L>, sought: &Entry, place: usize
 }
 
 /// Whether the sought entry comes before the one at this place; or whether the leaf is the last, where none is there.
-fn goes_before<L: Label>(entries: &EntryColumns<L>, sought: &Entry, place: usize, is_last: bool) -> bool
+fn goes_before<L: Label>(
+    entries: &EntryColumns<L>,
+    sought: &Entry,
+    place: usize,
+    is_last: bool,
+) -> bool
     requires { IsAscending entries.now }
     ensures { IsTrue result → GoesBefore entries.now sought.now is_last place }
 {

@@ -181,7 +181,10 @@ static VALUES: [IndexStep; 10] = [
     IndexStep::NotFor((-9223372036854775809, 3, 1, 1)),
     IndexStep::Next(None, Some((-9223372036854775808, 4, 0, 9))),
     IndexStep::Next(Some((-2, 0, 0, 0)), Some((-1, 5, 2, 7))),
-    IndexStep::Next(Some((-1, 5, 2, 7)), Some((-1, 18446744073709551615, 65535, 65535))),
+    IndexStep::Next(
+        Some((-1, 5, 2, 7)),
+        Some((-1, 18446744073709551615, 65535, 65535)),
+    ),
     IndexStep::Next(
         Some((-1, 18446744073709551615, 65535, 65535)),
         Some((9223372036854775807, 3, 1, 1)),
