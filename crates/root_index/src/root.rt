@@ -143,6 +143,7 @@ impl RootIndex {
 
     /// The first entry after this one, and where it stood. Where the other still stands at the place that is given, that is
     /// found without a search.
+    #[inline(always)]
     pub fn next_near(&self, from: Entry, near: PositionHint) -> Option<(Entry, PositionHint)>
         ensures { IsLeast self.now.entries (IsAfter (Some from))
             (option_map (λ found. found.0) result) }
