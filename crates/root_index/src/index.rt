@@ -134,7 +134,8 @@ impl<L: Label> Index<L> {
         self.set_aside(count)
     }
 
-    /// Sets nodes aside for `count` more entries. Each may split a node of each kind, so these are as many of 4, 10 and 3 KiB.
+    /// Sets nodes aside for `count` more entries. Each may split a node of each kind, so these are as many leaves, of 1.5 or 2.5 KiB, and
+    /// as many branches of them, of 16 KiB, and trees, of 3.
     fn set_aside(&mut self, count: usize) -> Result<(), AllocError>
         ensures room { OnOk result (count ≤ self.new.spare) }
         ensures refused { OnErr result (self.old.spare < count) }
