@@ -1,5 +1,5 @@
 -- The plan of a page's pruning: it stays one when there is more memory, and the page is pruned once it is applied.
-use Rattle.std.proofs.Common.{◌≡◌, ◌⊎◌, inl, inr, ℕ, ◌<◌, ◌≤◌, ◌&&◌, ◌==◌, not, Bool, true, if◌then◌else◌, List, [], ◌∷◌, length, Option, Some, None, slice_get, sym, ap, subst, refl, ◌∙◌, arith}
+use Rattle.std.proofs.Common.{◌≡◌, ◌⊎◌, inl, inr, ℕ, ◌<◌, ◌≤◌, ◌&&◌, ◌==◌, not, Bool, true, false, if◌then◌else◌, List, [], ◌∷◌, length, Option, Some, None, slice_get, sym, ap, subst, refl, ◌∙◌, arith}
 use Rattle.std.proofs.lemmas.Option.{slice_get-get_or}
 use Rattle.std.proofs.lemmas.Bool.{true≢false, eqb-true}
 use Rattle.std.specs.Prelude.{IsSome, IsFalse, IsTrue, ◌↔◌}
@@ -104,9 +104,14 @@ applied-prunes h h' n horizon actions within plan is =
 applied-page : (h h' : HeapView) (n : ℕ) (actions : List (ℕ × Action)) → n < length h.pages.pages → h' ≡ with_applied h n actions → page_on h' n ≡ applied actions (page_on h n)
 applied-page h h' n actions within is = ap (λ (v : HeapView). page_on v n) is ∙ page-set h.pages.pages n (applied actions (page_on h n)) within
 
-applied-slots : (actions : List (ℕ × Action)) (p q : PageView) → p.slots ≡ q.slots → (applied actions p).slots ≡ (applied actions q).slots
+pub applied-slots : (actions : List (ℕ × Action)) (p q : PageView) → p.slots ≡ q.slots → (applied actions p).slots ≡ (applied actions q).slots
 applied-slots [] p q same = same
 applied-slots (a ∷ rest) p q same = applied-slots rest (after_action p a.0 a.1) (after_action q a.0 a.1) (ap (λ slots. with_slot slots a.0 (made_by a.1)) same)
+
+-- the page's flag may be cleared before or after
+pub applied-unflagged : (actions : List (ℕ × Action)) (p : PageView) → applied actions (record p { flag = false }) ≡ record (applied actions p) { flag = false }
+applied-unflagged [] p = refl
+applied-unflagged (a ∷ rest) p = applied-unflagged rest (after_action p a.0 a.1)
 
 -- what it holds then was known before there was more memory
 pub planned-slots : (h h1 h' : HeapView) (n : ℕ) (actions : List (ℕ × Action)) → n < length h1.pages.pages → Keeps h h1 → h' ≡ with_applied h1 n actions

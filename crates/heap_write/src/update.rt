@@ -114,13 +114,7 @@ impl HeapState {
     }
 
     /// Replaces a version by one on its page, which has room for it: a heap-only one, or a root.
-    pub(crate) fn replace_on_page(
-        &mut self,
-        own: &mut OwnIds,
-        place: Tid,
-        row: &Row,
-        heap_only: bool,
-    ) -> Xid
+    fn replace_on_page(&mut self, own: &mut OwnIds, place: Tid, row: &Row, heap_only: bool) -> Xid
         requires may { IsReplaceable self.old own.old place }
         requires has_ids { HasIds self.old.statuses own.old }
         requires room { rounded_size_of row.now ≤ room_of (page_on self.old place.page).slots }
