@@ -156,7 +156,6 @@ impl HeapState {
             apply_actions(page, actions);
             hot_update(page, place.page, place.slot, x, row)
         });
-        self.hints.end_turn(place.page);
         expect_write(&mut self.hints, &self.statuses, place, x);
         x
     }

@@ -110,6 +110,5 @@ impl HeapState {
         ensures { self.new ≡ with_applied self.old number actions.now }
     {
         self.pages.edit(number, |page| apply_actions(page, actions));
-        self.hints.end_turn(number);
     }
 }

@@ -16,8 +16,7 @@ use Rattle.heap_write.proofs.PageLemmas.{page-at}
 use Rattle.heap_write.proofs.PlaceLemmas.{at-set}
 use Rattle.heap_write.proofs.Replacing.{UpdatesHere, replaces-pruned}
 use Rattle.heap_write.proofs.Plans.{applied-slots, applied-unflagged}
-use Rattle.heap_write.proofs.DoubtLemmas.{doubts-applied}
-use Rattle.heap_write.proofs.HintLemmas.{hints-taken, hints-turn_ended, hints-replaced}
+use Rattle.heap_write.proofs.HintLemmas.{hints-taken, hints-applied, hints-replaced}
 use Rattle.heap_write.proofs.heap.HeapState.hot_update_on_pruned.Goals as goal
 
 pub write-slot-requires-clause-ready : goal.write-slot-requires-clause-ready
@@ -74,10 +73,9 @@ invariant_of-self c =
     let can : CanApply (length e.0.slots) actions = subst (λ (p : PageView). CanApply (length p.slots) actions) is around.can_apply in
     let there : IsNormalAt pruned.slots place.slot = subst (λ (p : PageView). IsNormalAt (applied actions p).slots place.slot) is around.stays in
     let given = hints-taken c.self.inside.statuses w c.args.own.now taken.new.own x pages c.self.inside.hints.pages taken.ensures.takes taken.ensures.window c.self.invariant.1 in
-    let ended = hints-turn_ended w pages (set pages n pruned) c.self.inside.hints.pages c.end_turn.new.self.pages n e.0 pruned e.2 refl c.end_turn.ensures.pages
-    (λ doubts true. doubts-applied w actions e.0 doubts can true) given in
+    let done = hints-applied w pages (set pages n pruned) c.self.inside.hints.pages n actions e.0 e.2 refl can given in
     let slots : e.1.slots ≡ with_updated pruned.slots place.slot x n row = subst (λ (p : PageView). e.1.slots ≡ with_updated p.slots place.slot x n row) (applied-unflagged actions e.0) adds.slots in (
       c.self.invariant.0,
-      hints-replaced w x place row (set pages n pruned) c.write-slot.new.self.pages pruned e.1 c.end_turn.new.self.pages c.expect_write.new.hints.pages
-          (at-set pages n pruned (slice_get_within pages n e.0 e.2)) (ap (λ (p : PagesView). p.pages) e.4 ∙ sym (set-set pages n pruned e.1)) slots there c.expect_write.ensures ended,
+      hints-replaced w x place row (set pages n pruned) c.write-slot.new.self.pages pruned e.1 c.self.inside.hints.pages c.expect_write.new.hints.pages
+          (at-set pages n pruned (slice_get_within pages n e.0 e.2)) (ap (λ (p : PagesView). p.pages) e.4 ∙ sym (set-set pages n pruned e.1)) slots there c.expect_write.ensures done,
     )
