@@ -1,1 +1,2 @@
 pub mod BarsLemmas
+pub mod SettingsLemmas

@@ -1,5 +1,5 @@
 -- What the words of a step mean.
-use Rattle.std.specs.Prelude.{ℕ, ℤ, ◌<◌, ◌≤◌, ◌⊎◌, List, length}
+use Rattle.std.specs.Prelude.{◌≡◌, ℕ, ℤ, ◌≤◌, ◌||◌, nat_lt, Bool, if◌then◌else◌, Option, Some, None, List, length}
 use Rattle.tuple_header.specs.declared.version.Row.{Row}
 use Rattle.prune_actions.specs.declared.Action.{Action}
 use Rattle.calls.specs.declared.settings.Settings.{Settings}
@@ -34,28 +34,19 @@ pub record AreSettings (s : Settings) : Type 0 where
   pub first_xid : (3 ≤ s.first_xid) × (s.first_xid ≤ 4294967295)
   pub dead_limit : (1 ≤ s.dead_limit) × (s.dead_limit ≤ 4096)
 
--- the fault names a setting that is out of its range
-abbrev pub IsOut : Settings → SettingsFault → Type 0
-IsOut s MaxPages = (s.max_pages < 1) ⊎ (65536 < s.max_pages)
-IsOut s StopAge = (s.stop_age < 1) ⊎ (2144483648 < s.stop_age)
-IsOut s FreezeMinAge = 1000000000 < s.freeze_min_age
-IsOut s FirstXid = s.first_xid < 3
-IsOut s DeadLimit = (s.dead_limit < 1) ⊎ (4096 < s.dead_limit)
-IsOut s NoMemory = ⊥
+-- the first setting that is out of its range, if one is
+abbrev pub is_outside : ℕ → ℕ → ℕ → Bool
+is_outside low high n = nat_lt n low || nat_lt high n
 
--- and those named before it are in theirs
-abbrev pub AreInBefore : Settings → SettingsFault → Type 0
-AreInBefore s MaxPages = Unit {0}
-AreInBefore s StopAge = ¬ IsOut s MaxPages
-AreInBefore s FreezeMinAge = (¬ IsOut s MaxPages) × (¬ IsOut s StopAge)
-AreInBefore s FirstXid = (¬ IsOut s MaxPages) × (¬ IsOut s StopAge) × (¬ IsOut s FreezeMinAge)
-AreInBefore s DeadLimit = (¬ IsOut s MaxPages) × (¬ IsOut s StopAge) × (¬ IsOut s FreezeMinAge) × (¬ IsOut s FirstXid)
-AreInBefore s NoMemory = Unit {0}
+abbrev pub fault_in : Settings → Option SettingsFault
+fault_in s =
+    if is_outside 1 65536 s.max_pages then Some MaxPages
+    else if is_outside 1 2144483648 s.stop_age then Some StopAge
+    else if is_outside 0 1000000000 s.freeze_min_age then Some FreezeMinAge
+    else if is_outside 3 4294967295 s.first_xid then Some FirstXid
+    else if is_outside 1 4096 s.dead_limit then Some DeadLimit else None
 
-abbrev pub IsFirstFault : Settings → SettingsFault → Type 0
-IsFirstFault s fault = IsOut s fault × AreInBefore s fault
-
--- the first setting that is out of its range, or memory where there is none
+-- that, or memory where none is
 abbrev pub FirstFault : Settings → SettingsFault → Type 0
 FirstFault s NoMemory = AreSettings s
-FirstFault s fault = IsFirstFault s fault
+FirstFault s fault = fault_in s ≡ Some fault

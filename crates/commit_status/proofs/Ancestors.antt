@@ -128,7 +128,7 @@ top-same (suc n) v w x h =
     parent-cases w x (λ e. ancestor-none (suc n) v x (h x ∙ e) ∙ sym (ancestor-none (suc n) w x e))
     (λ p e. ancestor-some n v x p (h x ∙ e) ∙ top-same n v w p h ∙ sym (ancestor-some n w x p e))
 
-unplaced-parent : (w : Window) (x : ℕ) → place w x ≡ None → parent_of w x ≡ None
+pub unplaced-parent : (w : Window) (x : ℕ) → place w x ≡ None → parent_of w x ≡ None
 unplaced-parent w x e = ap (λ q. parent_in (option_and_then (slice_get w.entries) q)) e
 
 ancestor-before : (n : ℕ) (w : Window) (x i j : ℕ) → IsWindow w → place w x ≡ Some i → place w (ancestor_in n w x) ≡ Some j → j ≤ i

@@ -1,8 +1,9 @@
 -- What the steps of a table do to each id.
-use Rattle.std.proofs.Common.{◌≡◌, ◌≢◌, ℕ, zero, suc, ◌+◌, ◌<◌, List, [], ◌∷◌, ◌++◌, length, set, take, get_or, Option, Some, None, IsSome, arith, inl, inr, ⊎_elim, refl, sym, ap, ◌∙◌, subst, slice_get, length-set}
+use Rattle.std.proofs.Common.{◌≡◌, ◌≢◌, ℕ, zero, suc, ◌+◌, ◌<◌, List, [], ◌∷◌, ◌++◌, length, set, take, get_or, Option, Some, None, IsSome, arith, inl, inr, ⊎_elim, refl, sym, ap, ◌∙◌, subst, slice_get, length-set, drop}
 use Rattle.std.specs.Option.{option_and_then}
 use Rattle.std.specs.List.{Contains}
 use Rattle.std.proofs.lemmas.Bool.{cases_eq}
+use Rattle.std.proofs.lemmas.Option.{slice_get_past}
 use Rattle.std.proofs.lemmas.List.Elements.{Contains-append_left, Contains-append_right, Contains-append_cases, Contains-get_or}
 use Rattle.std.proofs.lemmas.List.{map_more, get_or-map, length-map}
 use Rattle.xid_circle.specs.declared.Xid.{Xid}
@@ -24,6 +25,12 @@ slice_get-set_other (x ∷ xs) zero zero y ne = absurd (ne refl)
 slice_get-set_other (x ∷ xs) zero (suc j) y ne = refl
 slice_get-set_other (x ∷ xs) (suc i) zero y ne = refl
 slice_get-set_other (x ∷ xs) (suc i) (suc j) y ne = slice_get-set_other xs i j y (λ e. ne (ap suc e))
+
+-- what is behind the first entries
+pub drop-at : (k j : ℕ) (es : List IdEntry) → slice_get (drop k es) j ≡ slice_get es (k + j)
+drop-at zero j es = let e : j ≡ 0 + j = omega arith in ap (slice_get es) e
+drop-at (suc k) j [] = slice_get_past {X = IdEntry} [] j (omega arith) ∙ sym (slice_get_past {X = IdEntry} [] (suc k + j) (omega arith))
+drop-at (suc k) j (e ∷ es) = drop-at k j es ∙ (let same : suc (k + j) ≡ suc k + j = omega arith in ap (slice_get (e ∷ es)) same)
 
 -- an id whose entry is another
 pub entry-at : (w : Window) (x i : ℕ) → place w x ≡ Some i → entry_of w x ≡ slice_get w.entries i

@@ -9,7 +9,7 @@ use Rattle.commit_status.proofs.Places.{IsAt, at-from_place, place-from_at, give
 use Rattle.commit_status.proofs.Ancestors.{parent-place, parent-not_next, height-le, ancestor-none, ancestor-some, ancestor-enough, parent-cases}
 use Rattle.commit_status.proofs.ChangesLemmas.{entry-at, entry-none}
 
-slice_get-push_old : (xs : List IdEntry) (y : IdEntry) (i : ℕ) → i < length xs → slice_get (xs ++ y ∷ []) i ≡ slice_get xs i
+pub slice_get-push_old : (xs : List IdEntry) (y : IdEntry) (i : ℕ) → i < length xs → slice_get (xs ++ y ∷ []) i ≡ slice_get xs i
 slice_get-push_old [] y i h = absurd (omega arith)
 slice_get-push_old (x ∷ xs) y zero h = refl
 slice_get-push_old (x ∷ xs) y (suc i) h = slice_get-push_old xs y i (omega arith)

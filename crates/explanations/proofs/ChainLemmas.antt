@@ -1,5 +1,5 @@
 -- Each slot of a chain holds a version; and where no slots are, a chain is empty.
-use Rattle.std.proofs.Common.{◌≡◌, ℕ, zero, suc, ◌<◌, ◌≤◌, Bool, nat_eq, List, [], length, get_or, Option, Some, None, arith, refl, sym, ap, ◌∙◌, subst, slice_get}
+use Rattle.std.proofs.Common.{◌≡◌, ℕ, ◌<◌, ◌≤◌, Bool, nat_eq, List, [], length, get_or, Option, Some, None, arith, sym, ap, ◌∙◌, subst, slice_get}
 use Rattle.std.specs.List.{IsDistinct}
 use Rattle.std.specs.Option.{option_map}
 use Rattle.std.proofs.lemmas.Option.{none-some, slice_get_within, get_or_from_slice_get}
@@ -10,10 +10,11 @@ use Rattle.page_sheet.proofs.SlotLemmas.{version-from_header}
 use Rattle.tuple_header.specs.declared.version.Header.{Header}
 use Rattle.commit_status.specs.Window.{Window}
 use Rattle.snapshot.specs.Snap.{Snap}
-use Rattle.hot_chain.specs.Chain.{first_of, IsChain}
+use Rattle.hot_chain.specs.Chain.{IsChain}
 use Rattle.sound_page.proofs.Links.{member-version}
 use Rattle.reasons.specs.declared.reason.Verdict.{Verdict}
 use Rattle.reasons.specs.Reasons.{IsVerdictIn}
+use Rattle.index_lookup.proofs.Fetching.{none-first}
 use Rattle.explanations.specs.declared.versions.ShownVersion.{ShownVersion}
 use Rattle.explanations.specs.Shown.{IsShown}
 
@@ -30,13 +31,9 @@ distinct-none : IsDistinct nat_eq []
 unfolding IsDistinct
 distinct-none = tt
 
-first-nowhere : (n : ℕ) → first_of [] n ≡ None
-first-nowhere zero = refl
-first-nowhere (suc n) = refl
-
 pub chain-nowhere : (aborted : ℕ → Bool) (n : ℕ) → IsChain aborted [] n []
 chain-nowhere aborted n = record {
-  start = sym (first-nowhere n);
+  start = sym (none-first n);
   linked = λ i more. absurd (omega arith);
   distinct = distinct-none;
   end = λ some. absurd (omega arith);

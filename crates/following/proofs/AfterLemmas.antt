@@ -5,11 +5,12 @@ use Rattle.std.specs.Prelude.{ℤ, Result, OnOk}
 use Rattle.std.proofs.lemmas.Result.{on_ok_weaker}
 use Rattle.std.proofs.lemmas.Bool.{cases_eq}
 use Rattle.history.proofs.HistoryLemmas.{at_same, at_other}
-use Rattle.history.specs.World.{World}
-use Rattle.history.specs.Moves.{stepped, change, with_index_cursor, with_keys_cursor}
+use Rattle.history.specs.World.{World, by_index, by_keys}
+use Rattle.history.specs.Moves.{stepped, change, opened}
 use Rattle.calls.specs.declared.step.Step.TheVariants as step
 use Rattle.calls.specs.declared.reply.Reply.{Reply}
 use Rattle.calls.specs.declared.reply.Reply.TheVariants as reply
+use Rattle.history.specs.Cursors.{rows_within}
 use Rattle.refinement.specs.Allowed.{after_reply}
 use Rattle.following.specs.Following.{with_wait}
 
@@ -28,13 +29,13 @@ restored w mid after s wait was ended back =
 -- a cursor is opened within bounds, as they are passed on
 
 pub open_index_after : {A E : Type 0} (r : Result A E) (w new : World) (s index : ℕ) (low high low' high' : ℤ) (a : Reply) → a ≡ reply.Done → low' ≡ low → high' ≡ high
-    → OnOk r (new ≡ change w s (with_index_cursor w.history index low' high')) → OnOk r (new ≡ after_reply w (step.OpenIndex s index low high) a)
+    → OnOk r (new ≡ change w s (opened w.history (by_index index) (rows_within index low' high'))) → OnOk r (new ≡ after_reply w (step.OpenIndex s index low high) a)
 open_index_after r w new s index low high low' high' a is same same' ok = on_ok_weaker r (λ e. e
-    ∙ (ap (λ l. change w s (with_index_cursor w.history index l high')) same ∙ (ap (λ h. change w s (with_index_cursor w.history index low h)) same'
+    ∙ (ap (λ l. change w s (opened w.history (by_index index) (rows_within index l high'))) same ∙ (ap (λ h. change w s (opened w.history (by_index index) (rows_within index low h))) same'
     ∙ sym (ap (λ (a : Reply). after_reply w (step.OpenIndex s index low high) a) is)))) ok
 
 pub open_keys_after : {A E : Type 0} (r : Result A E) (w new : World) (s : ℕ) (low high low' high' : ℤ) (a : Reply) → a ≡ reply.Done → low' ≡ low → high' ≡ high
-    → OnOk r (new ≡ change w s (with_keys_cursor w.history low' high')) → OnOk r (new ≡ after_reply w (step.OpenKeys s low high) a)
+    → OnOk r (new ≡ change w s (opened w.history by_keys (rows_within 0 low' high'))) → OnOk r (new ≡ after_reply w (step.OpenKeys s low high) a)
 open_keys_after r w new s low high low' high' a is same same' ok = on_ok_weaker r (λ e. e
-    ∙ (ap (λ l. change w s (with_keys_cursor w.history l high')) same ∙ (ap (λ h. change w s (with_keys_cursor w.history low h)) same'
+    ∙ (ap (λ l. change w s (opened w.history by_keys (rows_within 0 l high'))) same ∙ (ap (λ h. change w s (opened w.history by_keys (rows_within 0 low h))) same'
     ∙ sym (ap (λ (a : Reply). after_reply w (step.OpenKeys s low high) a) is)))) ok

@@ -117,10 +117,10 @@ made-before slots n m a t there at = ⊎_elim
     no-version action.Kill = refl
     no-version (action.Redirect k) = refl
 
-pub doubts-applied : (w : Window) (actions : List (ℕ × Action)) (page : PageView) (doubts : Option (List ℕ)) → CanApply (length page.slots) actions → AreDoubts w page.slots doubts
-    → AreDoubts w (applied actions page).slots doubts
-doubts-applied w [] page doubts can are = are
-doubts-applied w (a ∷ rest) page doubts can are =
-    let after = after_action page a.0 a.1 in
-    doubts-applied w rest after doubts (subst (λ count. CanApply count rest) (sym (length-with_slot page.slots a.0 (made_by a.1))) can.1)
-    (doubts-on w w page.slots after.slots doubts (λ x undone. undone) (λ n t at. made-before page.slots a.0 n a.1 t (can.0.there, can.0.within) at) are)
+-- nor do several
+pub applied-version : (actions : List (ℕ × Action)) (page : PageView) (n : ℕ) (t : Version) → CanApply (length page.slots) actions → version_at (applied actions page).slots n ≡ Some t
+    → version_at page.slots n ≡ Some t
+applied-version [] page n t can at = at
+applied-version (a ∷ rest) page n t can at =
+    let can_rest = subst (λ count. CanApply count rest) (sym (length-with_slot page.slots a.0 (made_by a.1))) can.1 in
+    made-before page.slots a.0 n a.1 t (can.0.there, can.0.within) (applied-version rest (after_action page a.0 a.1) n t can_rest at)

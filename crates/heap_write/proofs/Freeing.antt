@@ -23,13 +23,6 @@ only n k (suc i, lt, e) = absurd (omega (arith, lt))
 itself : (n k : ℕ) → n ≡ k → Contains (n ∷ []) k
 itself n k e = (0, omega arith, e)
 
-pub free-none : (slots : List Slot) (n : ℕ) → slot_at slots n ≢ Some Dead → FreesSlots slots slots (n ∷ [])
-free-none slots n alive = record {
-  count = refl;
-  freed = λ k c was. absurd (alive (ap (slot_at slots) (only n k c) ∙ was));
-  others = λ k spared. refl;
-}
-
 -- One more.
 
 unused-alive : (o : Option Slot) → o ≡ Some Unused → o ≢ Some Dead

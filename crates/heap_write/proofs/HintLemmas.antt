@@ -18,6 +18,8 @@ use Rattle.commit_status.specs.Changes.{Finishes}
 use Rattle.snapshot.specs.Own.{Own, current_xid}
 use Rattle.space_maps.specs.Hints.{PageHint, nothing_known, hint_on, lowered}
 use Rattle.heap_pages.specs.View.{PagesView}
+use Rattle.prune_actions.specs.declared.Action.{Action}
+use Rattle.prune.specs.Actions.{CanApply, applied}
 use Rattle.prune.specs.Deaths.{NothingDiesBefore}
 use Rattle.prune.specs.Glances.{AreDoubts}
 use Rattle.heap_write.specs.Heap.{HeapView, unused_page, PutsPage}
@@ -27,7 +29,7 @@ use Rattle.heap_write.specs.Growth.{page_in, SamePages, PutsVersion}
 use Rattle.heap_write.specs.Steps.{HasNoneDead}
 use Rattle.heap_write.specs.Hints.{AreTrueHints, IsLowered, AreDoubtedBy, AreStillDoubts, ExpectsRoot, ExpectsWrite}
 use Rattle.heap_write.proofs.Dying.{AgesOn, dies-on, ages-given, ages-finished, ages-same, none-dead, dies-earlier, dies-root, dies-replaced, dies-updated}
-use Rattle.heap_write.proofs.DoubtLemmas.{doubts-on, doubts-root, doubts-replaced, doubts-updated}
+use Rattle.heap_write.proofs.DoubtLemmas.{applied-version, doubts-on, doubts-root, doubts-replaced, doubts-updated}
 use Rattle.heap_write.proofs.PageLemmas.{page-at}
 use Rattle.heap_write.proofs.Writing.{WritesXmax}
 use Rattle.heap_write.proofs.IdlePages.{idle-at}
@@ -93,6 +95,14 @@ hints-kept w pages pages' hints n page page' at is keeps keeps_doubts are = reco
     same : (m : ℕ) → m ≢ n → page_in pages' m ≡ page_in pages m
     same m other = ap (λ ps. page_in ps m) is ∙ get_or-set_other pages n m page' unused_page other
 
+-- actions are done on a page: no version comes
+pub hints-applied : (w : Window) (pages pages' : List PageView) (hints : List PageHint) (n : ℕ) (actions : List (ℕ × Action)) (page : PageView) → slice_get pages n ≡ Some page
+    → pages' ≡ set pages n (applied actions page) → CanApply (length page.slots) actions → AreTrueHints w pages hints → AreTrueHints w pages' hints
+hints-applied w pages pages' hints n actions page at is can =
+    hints-kept w pages pages' hints n page (applied actions page) at is
+    (λ turn dies. record { reached = dies.reached; each = λ m t there. dies.each m t (applied-version actions page m t can there) })
+    (λ doubts. doubts-on w w page.slots (applied actions page).slots doubts (λ x undone. undone) (λ m t. applied-version actions page m t can))
+
 -- Nothing is known.
 
 pub hints-none : (w : Window) (pages : List PageView) (hints : List PageHint) → ((n : ℕ) → hint_on hints n ≡ nothing_known) → AreTrueHints w pages hints
@@ -149,17 +159,6 @@ pub hints-ended : (w : Window) (pages pages' : List PageView) (hints hints' : Li
     → AreTrueHints w pages hints → AreTrueHints w pages' hints'
 hints-ended w pages pages' hints hints' n page is end =
     hints-put w pages pages' hints hints' n nothing_known end (λ m. set-other pages pages' n m page is) (λ turn known. absurd (none-some turn known)) tt
-
--- or no turn, while nothing else may be dead
-pub hints-turn_ended : (w : Window) (pages pages' : List PageView) (hints hints' : List PageHint) (n : ℕ) (page page' : PageView) → slice_get pages n ≡ Some page → pages' ≡ set pages n page'
-    → hints' ≡ set hints n (record (hint_on hints n) { turn = None }) → ((doubts : Option (List ℕ)) → AreDoubts w page.slots doubts → AreDoubts w page'.slots doubts)
-    → AreTrueHints w pages hints → AreTrueHints w pages' hints'
-hints-turn_ended w pages pages' hints hints' n page page' at is end keeps are =
-    let doubts = (hint_on hints n).doubts in
-    let was : AreDoubts w page.slots doubts = subst (λ (p : PageView). AreDoubts w p.slots doubts) (page-at pages n page at) (are.doubts n) in
-    let now : page_in pages' n ≡ page' = ap (λ ps. page_in ps n) is ∙ get_or-set_same pages n page' unused_page (slice_get_within pages n page at) in
-    hints-put w pages pages' hints hints' n (record (hint_on hints n) { turn = None }) end (λ m. set-other pages pages' n m page' is) (λ turn known. absurd (none-some turn known))
-    (subst (λ (p : PageView). AreDoubts w p.slots doubts) (sym now) (keeps doubts was)) are
 
 -- a turn is noted of a page
 pub hints-noted : (w : Window) (pages : List PageView) (hints hints' : List PageHint) (n noted : ℕ) (page : PageView) → slice_get pages n ≡ Some page → NothingDiesBefore w noted page.slots

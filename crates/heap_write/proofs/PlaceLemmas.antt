@@ -40,7 +40,7 @@ alike-full size p q no_before no_after = record {
 abbrev viewed : List PageView → PagesView
 viewed pages = record { pages = pages; marks = []; spare = 0 }
 
-at-set : (pages : List PageView) (m : ℕ) (q : PageView) → m < length pages → slice_get (set pages m q) m ≡ Some q
+pub at-set : (pages : List PageView) (m : ℕ) (q : PageView) → m < length pages → slice_get (set pages m q) m ≡ Some q
 at-set pages m q within = page-with_page (viewed pages) m q within
 
 at-set_other : (pages : List PageView) (m k : ℕ) (q : PageView) → k ≢ m → slice_get (set pages m q) k ≡ slice_get pages k

@@ -1,5 +1,5 @@
 -- The plan of a page's pruning: it stays one when there is more memory, and the page is pruned once it is applied.
-use Rattle.std.proofs.Common.{◌≡◌, ◌⊎◌, inl, inr, ℕ, ◌<◌, ◌≤◌, ◌&&◌, ◌==◌, not, Bool, true, if◌then◌else◌, List, [], ◌∷◌, length, Option, Some, None, slice_get, sym, ap, subst, refl, ◌∙◌, arith}
+use Rattle.std.proofs.Common.{◌≡◌, ◌⊎◌, inl, inr, ℕ, ◌<◌, ◌≤◌, ◌&&◌, ◌==◌, not, Bool, true, false, if◌then◌else◌, List, [], ◌∷◌, length, Option, Some, None, slice_get, sym, ap, subst, refl, ◌∙◌, arith}
 use Rattle.std.proofs.lemmas.Option.{slice_get-get_or}
 use Rattle.std.proofs.lemmas.Bool.{true≢false, eqb-true}
 use Rattle.std.specs.Prelude.{IsSome, IsFalse, IsTrue, ◌↔◌}
@@ -11,8 +11,8 @@ use Rattle.tuple_header.specs.declared.version.Header.{Header}
 use Rattle.tuple_header.specs.Marks.{is_frozen, is_heap_only}
 use Rattle.page_slots.specs.View.{PageView}
 use Rattle.page_sheet.specs.declared.slot.Slot.{Slot}
-use Rattle.page_sheet.specs.Slots.{slot_at, version_of, header_at, row_at, version_at, IsNormalAt, SlotIsThere, with_slot, room_of}
-use Rattle.page_sheet.proofs.SlotLemmas.{normal_at, there-from_slot_at}
+use Rattle.page_sheet.specs.Slots.{slot_at, version_of, header_at, row_at, version_at, IsNormalAt, with_slot, room_of}
+use Rattle.page_sheet.proofs.SlotLemmas.{there-from_normal}
 use Rattle.commit_status.specs.Window.{Window}
 use Rattle.heap_pages.specs.View.{PagesView}
 use Rattle.hot_chain.specs.Chain.{has_aborted}
@@ -23,7 +23,6 @@ use Rattle.prune.specs.Actions.{CanApply, made_by, acted, action_of, after_actio
 use Rattle.prune.specs.Cutting.{IsCutCount, RemovesVersions}
 use Rattle.prune.specs.Pruning.{loose_in, IsInChainOf, IsLoose, PrunesSlot, by_root, by_none, IsPlan, IsPruned}
 use Rattle.prune.specs.Room.{IsPlanOf}
-use Rattle.prune.specs.Laws.{IsPrunedPage}
 use Rattle.prune.proofs.Idle.{idle-plan}
 use Rattle.prune.proofs.Listing.{applied-slot, applied-flag}
 use Rattle.prune.proofs.Planned.{plan-pruned}
@@ -32,6 +31,7 @@ use Rattle.table_indexes.specs.Indexes.{NeedsEntry}
 use Rattle.heap_write.specs.Heap.{HeapView, unused_page, page_on, Keeps}
 use Rattle.write_ids.specs.Ids.{SameIds}
 use Rattle.snapshot.specs.Own.{Own}
+use Rattle.write_ids.proofs.IdLemmas.{same-back}
 use Rattle.heap_write.specs.Writes.{KeepsValues, Prunes, PrunesIfFull, WouldGo}
 use Rattle.heap_write.specs.Writes.PrunesIfFull.{is_pruned, is_left}
 use Rattle.heap_write.specs.Steps.{HasNoneDead, IsChosen, IsPlanOn, IsPlanAround, IsLeftAlone, with_applied}
@@ -44,9 +44,6 @@ use Rattle.heap_write.proofs.Reserving.{chosen-set, ready-set}
 use Rattle.heap_write.proofs.Updating.{kept-slots, kept-full, no-room, on_page-needs}
 
 -- More memory for ids changes no plan.
-
-same-back : (w v : Window) → SameIds w v → SameIds v w
-same-back w v same = record { first = sym same.first; stop_age = sym same.stop_age; entries = sym same.entries }
 
 aborted-same : (w v : Window) → SameIds w v → has_aborted v ≡ has_aborted w
 aborted-same w v same = rw (same.first, same.entries) refl
@@ -88,25 +85,37 @@ pub applied-prunes : (h h' : HeapView) (n horizon : ℕ) (actions : List (ℕ ×
     → Prunes h h' n horizon
 applied-prunes h h' n horizon actions within plan is =
     let page = page_on h n in
-    let after = applied actions page in
-    let p : IsPrunedPage h.statuses horizon page after = record { actions = actions; plan = plan; is = refl } in
     record {
       before = page;
-      after = after;
+      after = applied actions page;
       at = slice_get-get_or h.pages.pages n unused_page within;
       is = is;
-      flag = applied-flag actions page;
-      change = (actions, plan, refl);
-      pruned = plan-pruned h.statuses horizon page after p;
-      removes = pruned-removes h.statuses horizon page.slots after.slots (plan-pruned h.statuses horizon page after p);
+      pruned = record { actions = actions; plan = plan; is = refl };
     }
+
+-- Its slots are what pruning makes of them, what goes from it is cut, and its flag stays.
+
+module _ (h h' : HeapView) (n horizon : ℕ) (p : Prunes h h' n horizon) where
+  pub pruned-page : IsPruned h.statuses horizon p.before.slots p.after.slots
+  pruned-page = plan-pruned h.statuses horizon p.before p.after p.pruned
+
+  pub pruned-cut : RemovesVersions h.statuses horizon p.before.slots p.after.slots
+  pruned-cut = pruned-removes h.statuses horizon p.before.slots p.after.slots pruned-page
+
+  pub pruned-flag : p.after.flag ≡ p.before.flag
+  pruned-flag = ap (λ (q : PageView). q.flag) p.pruned.is ∙ applied-flag p.pruned.actions p.before
 
 applied-page : (h h' : HeapView) (n : ℕ) (actions : List (ℕ × Action)) → n < length h.pages.pages → h' ≡ with_applied h n actions → page_on h' n ≡ applied actions (page_on h n)
 applied-page h h' n actions within is = ap (λ (v : HeapView). page_on v n) is ∙ page-set h.pages.pages n (applied actions (page_on h n)) within
 
-applied-slots : (actions : List (ℕ × Action)) (p q : PageView) → p.slots ≡ q.slots → (applied actions p).slots ≡ (applied actions q).slots
+pub applied-slots : (actions : List (ℕ × Action)) (p q : PageView) → p.slots ≡ q.slots → (applied actions p).slots ≡ (applied actions q).slots
 applied-slots [] p q same = same
 applied-slots (a ∷ rest) p q same = applied-slots rest (after_action p a.0 a.1) (after_action q a.0 a.1) (ap (λ slots. with_slot slots a.0 (made_by a.1)) same)
+
+-- the page's flag may be cleared before or after
+pub applied-unflagged : (actions : List (ℕ × Action)) (p : PageView) → applied actions (record p { flag = false }) ≡ record (applied actions p) { flag = false }
+applied-unflagged [] p = refl
+applied-unflagged (a ∷ rest) p = applied-unflagged rest (after_action p a.0 a.1)
 
 -- what it holds then was known before there was more memory
 pub planned-slots : (h h1 h' : HeapView) (n : ℕ) (actions : List (ℕ × Action)) → n < length h1.pages.pages → Keeps h h1 → h' ≡ with_applied h1 n actions
@@ -205,9 +214,6 @@ left-needs h own place row horizon size there full left is needs =
 
 -- What a plan does to the slot of a version.
 
-normal-there : (slots : List Slot) (n : ℕ) → IsNormalAt slots n → SlotIsThere slots n
-normal-there slots n there = let t = normal_at slots n there in there-from_slot_at slots n _ t.1
-
 some-of : {A : Type 0} (o : Option A) → IsSome o → (a : A) × (o ≡ Some a)
 some-of (Some a) some = (a, refl)
 some-of None some = absurd (true≢false (sym some))
@@ -225,7 +231,7 @@ pub named-goes : (h : HeapView) (place : Tid) (horizon : ℕ) (actions : List (�
 named-goes h place horizon actions there plan named =
     let slots = (page_on h place.page).slots in
     let some = some-of (action_of actions place.slot) named in
-    record { action = some.0; does = subst (λ o. PrunesSlot h.statuses horizon slots place.slot o) some.1 (plan.exact place.slot (normal-there slots place.slot there)) }
+    record { action = some.0; does = subst (λ o. PrunesSlot h.statuses horizon slots place.slot o) some.1 (plan.exact place.slot (there-from_normal slots place.slot there)) }
 
 -- or leaves it there
 pub unnamed-stays : (w : Window) (horizon : ℕ) (page : PageView) (actions : List (ℕ × Action)) (n : ℕ) → IsPlan w horizon page.slots actions → action_of actions n ≡ None

@@ -12,8 +12,8 @@ use Rattle.snapshot.specs.Own.{Own}
 use Rattle.prune_actions.specs.declared.Action.{Action}
 use Rattle.prune.specs.Actions.{applied}
 use Rattle.prune.specs.Checks.{Checks}
-use Rattle.prune.specs.Cutting.{RemovesVersions}
-use Rattle.prune.specs.Pruning.{PrunesSlot, IsPruned, IsPlan}
+use Rattle.prune.specs.Pruning.{PrunesSlot}
+use Rattle.prune.specs.Laws.{IsPrunedPage}
 use Rattle.tuple_writes.specs.Writes.{with_root, with_replaced, with_updated, replaced_change}
 use Rattle.heap_pages.specs.Choice.{IsPlaceFor, HasRoom, NoPage}
 use Rattle.heap_pages.specs.declared.pages.Placement.{Placement}
@@ -78,16 +78,13 @@ pub record ColdUpdates (h h' : HeapView) (place : Tid) (x : ℕ) (row : Row) (n 
   pub root : PutsRoot h middle true x row n
   pub away : SetsXmax middle h' place x (record { page = n; slot = free_number (page_on h n).slots })
 
--- one page is pruned at a horizon: what goes from it is cut, and its slots are what pruning makes of them
+-- one page is pruned at a horizon, and nothing else changes
 pub record Prunes (h h' : HeapView) (number horizon : ℕ) : Type 0 where
   pub before : PageView
   pub after : PageView
   pub at : slice_get h.pages.pages number ≡ Some before
   pub is : h' ≡ record h { pages = record h.pages { pages = slice_set h.pages.pages number after } }
-  pub flag : after.flag ≡ before.flag
-  pub change : (actions : _) × IsPlan h.statuses horizon before.slots actions × (after.change ≡ (applied actions before).change)
-  pub pruned : IsPruned h.statuses horizon before.slots after.slots
-  pub removes : RemovesVersions h.statuses horizon before.slots after.slots
+  pub pruned : IsPrunedPage h.statuses horizon before after
 
 -- What a plan names is done to one page, where it checks at the horizon, and nothing else changes: nothing is noted anew, and no entry
 -- goes or comes.

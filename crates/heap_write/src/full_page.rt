@@ -11,19 +11,21 @@ ghost use Rattle.tuple_header.specs.Version.{rounded_size_of};
 ghost use Rattle.prune.specs.Actions.{applied};
 ghost use Rattle.table_indexes.specs.Indexes.{HasEntries};
 ghost use Rattle.heap_write.specs.Heap.{page_on, Keeps};
-ghost use Rattle.heap_write.specs.Writes.{Replaces, TableIsFull};
+ghost use Rattle.heap_write.specs.Writes.{HotUpdates, Replaces, TableIsFull};
 ghost use Rattle.write_ids.specs.Ids.{NewestIsGiven, SameOwn, HasIds};
 ghost use Rattle.heap_write.specs.Refusals.{RootNeedsMemory, VersionIsThere, AnswersUpdate};
 ghost use Rattle.heap_write.specs.Growth.{IsReserved};
-ghost use Rattle.heap_write.specs.Steps.{IsChosen, IsPlanOn, IsPlanAround, IsLeftAlone, IsReplaceable, IsDoneUnder};
+ghost use Rattle.heap_write.specs.Steps.{IsChosen, IsPlanOn, IsPlanAround, IsLeftAlone, IsReplaceable, IsDoneUnder, with_applied};
 
 use crate::heap::{Answer, HeapState, WriteFault};
+use crate::hints::expect_write;
 use crate::target::{Target, reserve_place};
-use prune::{PrunePlan, room_after};
+use prune::{Action, PrunePlan, apply_actions, room_after};
 use snapshot::OwnIds;
 use std::alloc::AllocError;
 use tuple_header::{Row, row_size};
-use write_ids::{needs_freeze, reserve_ids};
+use tuple_writes::hot_update;
+use write_ids::{needs_freeze, reserve_ids, take_ids};
 use xid_circle::{Tid, Xid};
 
 impl HeapState {
@@ -79,10 +81,11 @@ impl HeapState {
             Some(page) => page,
             None => unreachable!(),
         };
+        let actions = plan.actions.as_slice();
         if row_size(row) <= room_after(page, &plan) {
-            self.update_on_pruned(own, place, row, &plan)
+            self.update_on_pruned(own, place, row, actions)
         } else {
-            self.update_off_pruned(own, place, row, &plan)
+            self.update_off_pruned(own, place, row, actions)
         }
     }
 
@@ -101,58 +104,84 @@ impl HeapState {
         }
     }
 
-    /// Updates a version whose page has room for the row once this plan is applied, which leaves the version there.
+    /// Updates a version whose page has room for the row once these actions are done, which leave the version there.
     fn update_on_pruned(
         &mut self,
         own: &mut OwnIds,
         place: Tid,
         row: &Row,
-        plan: &PrunePlan,
+        actions: &[(u16, Action)],
     ) -> Answer
         requires may { IsReplaceable self.old own.old place }
         requires room { room_of (page_on self.old place.page).slots < rounded_size_of row.now }
-        requires around { IsPlanAround self.old place plan.now.actions.items }
+        requires around { IsPlanAround self.old place actions.now }
         requires fits { rounded_size_of row.now
-            ≤ room_of (applied plan.now.actions.items (page_on self.old place.page)).slots }
-        ensures { (horizon : ℕ)
-            → IsPlanOn self.old place.page horizon plan.now.actions.items
+            ≤ room_of (applied actions.now (page_on self.old place.page)).slots }
+        ensures { (horizon : ℕ) → IsPlanOn self.old place.page horizon actions.now
             → AnswersUpdate self.old self.new own.old own.new place row.now horizon result }
     {
         let heap_only = self.keeps_values(place, row);
         let reserved = self.reserve_ids_for(own, heap_only);
         self.statuses.fact_window();
         match reserved {
+            Ok(()) if heap_only => Ok(self.hot_update_on_pruned(own, place, row, actions)),
             Ok(()) => {
-                self.apply_plan(place.page, plan);
-                Ok(self.replace_on_page(own, place, row, heap_only))
+                self.do_actions(place.page, actions);
+                Ok(self.cold_update(own, place, row, Target::Page(place.page)))
             }
             Err(_) => Err(WriteFault::NoMemory),
         }
     }
 
-    /// Updates a version whose page has no room for the row even once this plan is applied, which leaves the version there: a
+    /// Does these actions on the page of a version, which leave it there, and replaces it by a heap-only one on that page, which has
+    /// room for it then. The page is changed once, so its room and its marks are noted once.
+    fn hot_update_on_pruned(
+        &mut self,
+        own: &mut OwnIds,
+        place: Tid,
+        row: &Row,
+        actions: &[(u16, Action)],
+    ) -> Xid
+        requires may { IsReplaceable self.old own.old place }
+        requires has_ids { HasIds self.old.statuses own.old }
+        requires around { IsPlanAround self.old place actions.now }
+        requires fits { rounded_size_of row.now
+            ≤ room_of (applied actions.now (page_on self.old place.page)).slots }
+        ensures under { IsDoneUnder self.old self.new own.old own.new result.0 }
+        ensures replaces { HotUpdates (with_applied self.old place.page actions.now) self.new place
+            result.0 row.now }
+    {
+        let x = take_ids(&mut self.statuses, own);
+        let _slot = self.pages.write(place.page, |page| {
+            apply_actions(page, actions);
+            hot_update(page, place.page, place.slot, x, row)
+        });
+        expect_write(&mut self.hints, &self.statuses, place, x);
+        x
+    }
+
+    /// Updates a version whose page has no room for the row even once these actions are done, which leave the version there: a
     /// new root goes elsewhere.
     fn update_off_pruned(
         &mut self,
         own: &mut OwnIds,
         place: Tid,
         row: &Row,
-        plan: &PrunePlan,
+        actions: &[(u16, Action)],
     ) -> Answer
         requires may { IsReplaceable self.old own.old place }
         requires room { room_of (page_on self.old place.page).slots < rounded_size_of row.now }
-        requires around { IsPlanAround self.old place plan.now.actions.items }
-        requires full { room_of (applied plan.now.actions.items (page_on self.old place.page)).slots
+        requires around { IsPlanAround self.old place actions.now }
+        requires full { room_of (applied actions.now (page_on self.old place.page)).slots
             < rounded_size_of row.now }
-        ensures { (horizon : ℕ)
-            → IsPlanOn self.old place.page horizon plan.now.actions.items
+        ensures { (horizon : ℕ) → IsPlanOn self.old place.page horizon actions.now
             → AnswersUpdate self.old self.new own.old own.new place row.now horizon result }
     {
         let reserved = self.reserve_root(own, row_size(row));
         self.statuses.fact_window();
         match reserved {
             Ok(target) => {
-                self.apply_plan(place.page, plan);
+                self.do_actions(place.page, actions);
                 self.update_elsewhere(own, place, row, target)
             }
             Err(_) => Err(WriteFault::NoMemory),

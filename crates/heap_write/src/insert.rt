@@ -94,6 +94,8 @@ impl HeapState {
         ensures max_pages { self.new.max_pages ≡ self.old.max_pages }
     {
         let (key, cols) = (row.key, row.cols);
+        // there are no more pages than entries can lead to
+        let _count = self.pages.len();
         let tid = put_version(&mut self.pages, target, updated, x, row);
         self.indexes.enter(key, &cols, tid);
         let page = self.pages.page(tid.page);

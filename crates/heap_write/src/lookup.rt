@@ -72,15 +72,9 @@ impl HeapState {
         ensures { NextRow reader.now.statuses.now (IsSeenBy reader.now)
             (slots_of self.now) (entries_in self.now.indexes span.now.index) span.now result }
     {
+        let pages = &self.pages;
         match self.indexes.get(span.index) {
-            Some(index) => next_row(
-                &TableView {
-                    pages: &self.pages,
-                    index,
-                },
-                span,
-                reader,
-            ),
+            Some(index) => next_row(&TableView { pages, index }, span, reader),
             None => None,
         }
     }
@@ -91,15 +85,9 @@ impl HeapState {
         ensures { NextKey reader.now.statuses.now (IsSeenBy reader.now) self.now.pages
             (entries_in self.now.indexes span.now.index) span.now result }
     {
+        let pages = &self.pages;
         match self.indexes.get(span.index) {
-            Some(index) => next_key(
-                &TableView {
-                    pages: &self.pages,
-                    index,
-                },
-                span,
-                reader,
-            ),
+            Some(index) => next_key(&TableView { pages, index }, span, reader),
             None => None,
         }
     }

@@ -81,7 +81,7 @@ impl HeapState {
             self.note_first_death(number, horizon);
             return;
         }
-        self.apply_plan(number, &plan);
+        self.do_actions(number, plan.actions.as_slice());
     }
 
     /// Makes the plan of pruning the page of this number, which is in use, in the place of an earlier one. It notes what it finds
@@ -103,16 +103,6 @@ impl HeapState {
         self.hints.note_doubts(number, doubts);
     }
 
-    /// Does what a plan names on the page of this number, which is in use.
-    pub(crate) fn apply_plan(&mut self, number: u32, plan: &PrunePlan)
-        requires within { number < length self.old.pages.pages }
-        requires can_apply { CanApply (length (page_on self.old number).slots)
-            plan.now.actions.items }
-        ensures { self.new ≡ with_applied self.old number plan.now.actions.items }
-    {
-        self.do_actions(number, plan.actions.as_slice());
-    }
-
     /// Does these actions on the page of this number, which is in use.
     pub(crate) fn do_actions(&mut self, number: u32, actions: &[(u16, Action)])
         requires within { number < length self.old.pages.pages }
@@ -120,6 +110,5 @@ impl HeapState {
         ensures { self.new ≡ with_applied self.old number actions.now }
     {
         self.pages.edit(number, |page| apply_actions(page, actions));
-        self.hints.end_turn(number);
     }
 }

@@ -25,13 +25,6 @@ pub(crate) enum Target {
     New(Box<Page>),
 }
 
-/// A page that was never used.
-fn fresh_page(alloc: Global) -> Result<Box<Page>, AllocError>
-    ensures { IfOk result (λ page. IsFreshPage page.value) }
-{
-    Ok(Box::new(alloc, Page::new())?)
-}
-
 /// Makes room in memory for one more page and the hint on it, and answers the page.
 fn reserve_page(
     alloc: Global,
@@ -46,7 +39,7 @@ fn reserve_page(
 {
     pages.make_room(1)?;
     hints.make_room(1)?;
-    fresh_page(alloc)
+    Ok(Box::new(alloc, Page::new())?)
 }
 
 /// Makes room in memory for the page that a new root of this size takes, if it takes a new one while at most `limit` pages may be in
@@ -70,10 +63,7 @@ pub(crate) fn reserve_place(
 {
     match pages.place_for(size, limit) {
         Placement::Page(number) => Ok(Some(Target::Page(number))),
-        Placement::NewPage => match reserve_page(alloc, pages, hints) {
-            Ok(page) => Ok(Some(Target::New(page))),
-            Err(fault) => Err(fault),
-        },
+        Placement::NewPage => Ok(Some(Target::New(reserve_page(alloc, pages, hints)?))),
         Placement::Nowhere => Ok(None),
     }
 }

@@ -114,13 +114,7 @@ impl HeapState {
     }
 
     /// Replaces a version by one on its page, which has room for it: a heap-only one, or a root.
-    pub(crate) fn replace_on_page(
-        &mut self,
-        own: &mut OwnIds,
-        place: Tid,
-        row: &Row,
-        heap_only: bool,
-    ) -> Xid
+    fn replace_on_page(&mut self, own: &mut OwnIds, place: Tid, row: &Row, heap_only: bool) -> Xid
         requires may { IsReplaceable self.old own.old place }
         requires has_ids { HasIds self.old.statuses own.old }
         requires room { rounded_size_of row.now ≤ room_of (page_on self.old place.page).slots }
@@ -130,14 +124,14 @@ impl HeapState {
         ensures replaces { UpdatesOnPage self.old self.new place result.0 row.now }
     {
         if heap_only {
-            self.hot_update(own, place, row)
+            self.write_hot_update(own, place, row)
         } else {
             self.cold_update(own, place, row, Target::Page(place.page))
         }
     }
 
     /// Replaces a version by a heap-only one on its page, which has room for it.
-    fn hot_update(&mut self, own: &mut OwnIds, place: Tid, row: &Row) -> Xid
+    fn write_hot_update(&mut self, own: &mut OwnIds, place: Tid, row: &Row) -> Xid
         requires may { IsReplaceable self.old own.old place }
         requires has_ids { HasIds self.old.statuses own.old }
         requires room { rounded_size_of row.now ≤ room_of (page_on self.old place.page).slots }

@@ -9,7 +9,7 @@ use Rattle.std.proofs.lemmas.List.Elements.{Contains-push_cases, Contains-append
 use Rattle.tuple_header.specs.declared.version.Row.{Row}
 use Rattle.history.specs.History.{Write, Transaction, written, reading, IsLate}
 use Rattle.history.specs.World.{World, Isolation, by_snapshot, by_statement, OpenSession, beginning, joined, own_write, start_by, start_now, view, Holds, MayIndex, MayWrite}
-use Rattle.history.specs.Moves.{put, change, free_to_scan, new_session, is_repeatable_read, is_open_by_snapshot, with_made_index, with_index_on, with_vacuum, add_write, with_write, as_failed, with_savepoint, empty_newest, to_savepoint, without_savepoint, without_cursor, aborted, transaction_of, appended, committed_by}
+use Rattle.history.specs.Moves.{put, change, free_to_scan, new_session, is_repeatable_read, is_open_by_snapshot, with_made_index, with_index_on, with_vacuum, add_write, with_write, as_failed, with_savepoint, empty_newest, to_savepoint, without_savepoint, without_cursor, aborted, appended, committed_by}
 use Rattle.history.specs.Events.{Happens, passes, begins, begins_by_statement, inserts, updates, deletes, conflicts, waits, deadlocks, saves, rolls_back_to, releases, commits, aborts, opens_index, opens_heap, opens_keys, takes, takes_keys, closes, StepsReach, stays, goes_on, makes_index, begins_vacuum, ends_vacuum}
 use Rattle.history.specs.Laws.{FirstCommitterWins, HeldInTime, HeldOnce, Grows, IsBySnapshot, KeepsView, NeverLate, NeverTooNew, KeepsIndexes}
 use Rattle.history.proofs.Places.{slice_get-push_cases}
@@ -151,8 +151,8 @@ start_by-longer history more by_statement le = omega arith
 -- the session's transaction joins the history
 pub Lawful-commit : (w : World) (s : ℕ) (m : OpenSession) → Lawful w → w.session s ≡ Some m → Lawful (committed_by w s)
 Lawful-commit w s m h at = subst (λ n. Lawful (record (aborted w s) { history = appended w.history n })) (sym at) (record {
-  began = λ t n there. start_by-longer w.history (transaction_of m ∷ []) n.isolation (ended.began t n there);
-  in_time = λ t n write there among late. elim (IsLate-push_cases w.history (transaction_of m) write.start write.key late) [
+  began = λ t n there. start_by-longer w.history (joined m.levels ∷ []) n.isolation (ended.began t n there);
+  in_time = λ t n write there among late. elim (IsLate-push_cases w.history (joined m.levels) write.start write.key late) [
     | inl old ↦ ended.in_time t n write there among old
     | inr new ↦ (session-ended w s t n there).0
         (h.once t s write.key (n, (session-ended w s t n there).1, among-written (joined n.levels) write among) (m, at, new))
@@ -165,13 +165,13 @@ Lawful-commit w s m h at = subst (λ n. Lawful (record (aborted w s) { history =
     ended : Lawful (aborted w s)
     ended = Lawful-aborted w s h
 
-    first : FirstCommitterWins (w.history ++ transaction_of m ∷ [])
-    first m' n a b at_a at_b same lt = elim (slice_get-push_cases w.history (transaction_of m) m' at_a.0 at_a.1) [
-      | inl old_a ↦ elim (slice_get-push_cases w.history (transaction_of m) n at_b.0 at_b.1) [
+    first : FirstCommitterWins (w.history ++ joined m.levels ∷ [])
+    first m' n a b at_a at_b same lt = elim (slice_get-push_cases w.history (joined m.levels) m' at_a.0 at_a.1) [
+      | inl old_a ↦ elim (slice_get-push_cases w.history (joined m.levels) n at_b.0 at_b.1) [
         | inl old_b ↦ h.first m' n a b (at_a.0, old_a, at_a.2) (at_b.0, old_b, at_b.2) same lt
         | inr new_b ↦ absurd (let in_list : m' < length w.history = slice_get_within w.history m' at_a.0 old_a in let last : n ≡ length w.history = new_b.0 in omega arith)
       ]
-      | inr new_a ↦ elim (slice_get-push_cases w.history (transaction_of m) n at_b.0 at_b.1) [
+      | inr new_a ↦ elim (slice_get-push_cases w.history (joined m.levels) n at_b.0 at_b.1) [
         | inl old_b ↦ elim (cases_lt n a.start) [
           | inl early ↦ early
           | inr late ↦ absurd (h.in_time s m a at (subst (λ (t : Transaction). Contains t a) new_a.1 at_a.2)
@@ -302,7 +302,7 @@ makes_on from w c run may = by (w.has_index (suc c)) refl
 
 -- each step leaves what has committed as it is
 pub Grows-step : {w : World} {s : ℕ} {after : World} → Happens w s after → Grows w after
-Grows-step {w} (commits m ready) = (transaction_of m ∷ [], ap (appended w.history) ready.there)
+Grows-step {w} (commits m ready) = (joined m.levels ∷ [], ap (appended w.history) ready.there)
 Grows-step {w} _ = ([], sym (append-nil w.history))
 
 pub Grows-run : {from after : World} → StepsReach from after → Grows from after

@@ -5,8 +5,8 @@ use Rattle.std.specs.Prelude.{ℕ, suc, ◌==◌, not, if◌then◌else◌, List
 use Rattle.std.specs.Option.{option_map}
 use Rattle.tuple_header.specs.declared.version.Row.{Row}
 use Rattle.history.specs.History.{Write, Transaction}
-use Rattle.history.specs.World.{World, Isolation, by_snapshot, by_statement, OpenSession, Cursor, Order, by_index, by_heap, by_keys, joined, start_now, view}
-use Rattle.history.specs.Cursors.{kept_where, rows_within, without}
+use Rattle.history.specs.World.{World, Isolation, by_snapshot, by_statement, OpenSession, Cursor, Order, joined, start_now, view}
+use Rattle.history.specs.Cursors.{kept_where, without}
 
 -- the session has done a step, which ends its own wait
 abbrev pub stepped : World → ℕ → World
@@ -33,13 +33,9 @@ new_session isolation = record { isolation = isolation; levels = [] ∷ []; fail
 abbrev pub free_to_scan : World → ℕ → World
 free_to_scan w s = record w { too_new = λ t index. if t == s then false else w.too_new t index }
 
--- a session begins, and reads what has committed until now
-abbrev pub begun : World → ℕ → World
-begun w s = free_to_scan (put w s (Some (new_session (by_snapshot (length w.history))))) s
-
--- a session begins, each of whose statements reads what has committed until then
-abbrev pub begun_by_statement : World → ℕ → World
-begun_by_statement w s = free_to_scan (put w s (Some (new_session by_statement))) s
+-- a session begins
+abbrev pub begun : Isolation → World → ℕ → World
+begun isolation w s = free_to_scan (put w s (Some (new_session isolation))) s
 
 -- Repeatable Read, and not Read Committed
 abbrev pub is_repeatable_read : Isolation → Bool
@@ -116,29 +112,17 @@ without_savepoint m = record m { levels = join_newest m.levels }
 abbrev pub aborted : World → ℕ → World
 aborted w s = awaited_no_more (put w s None) s
 
-abbrev pub transaction_of : OpenSession → Transaction
-transaction_of m = joined m.levels
-
 abbrev pub appended : List Transaction → Option OpenSession → List Transaction
 appended history None = history
-appended history (Some m) = history ++ transaction_of m ∷ []
+appended history (Some m) = history ++ joined m.levels ∷ []
 
 -- all that the session wrote joins the history as one transaction
 abbrev pub committed_by : World → ℕ → World
 committed_by w s = record (aborted w s) { history = appended w.history (w.session s) }
 
--- a cursor over the rows that the session reads as it is opened
-abbrev pub opened : Order → (ℕ → Option Row) → OpenSession → OpenSession
-opened order rest m = record m { cursor = Some (record { order = order; rest = rest }) }
-
-abbrev pub with_index_cursor : List Transaction → ℕ → ℤ → ℤ → OpenSession → OpenSession
-with_index_cursor history index low high m = opened (by_index index) (rows_within index low high (view history m)) m
-
-abbrev pub with_heap_cursor : List Transaction → OpenSession → OpenSession
-with_heap_cursor history m = opened by_heap (view history m) m
-
-abbrev pub with_keys_cursor : List Transaction → ℤ → ℤ → OpenSession → OpenSession
-with_keys_cursor history low high m = opened by_keys (rows_within 0 low high (view history m)) m
+-- a cursor over the rows that the session reads as it is opened, or over those within bounds
+abbrev pub opened : List Transaction → Order → ((ℕ → Option Row) → ℕ → Option Row) → OpenSession → OpenSession
+opened history order within m = record m { cursor = Some (record { order = order; rest = within (view history m) }) }
 
 -- the cursor has handed out the rows of these keys
 abbrev pub past : List ℕ → Cursor → Cursor

@@ -15,7 +15,7 @@ not-replaced aborted h off = rw off refl
 pub leads-nowhere : (aborted : ℕ → Bool) (slots : List Slot) (h : Header) → is_replaced aborted h ≡ false → successor aborted slots h ≡ None
 leads-nowhere aborted slots h off = rw off refl
 
-distinct-alone : (n : ℕ) → IsDistinct nat_eq (n ∷ [])
+pub distinct-alone : (n : ℕ) → IsDistinct nat_eq (n ∷ [])
 unfolding IsDistinct
 distinct-alone n = (tt, tt)
 

@@ -29,7 +29,7 @@ made-there : (x : ℕ) (o : Option Header) → is_made_by x o ≡ true → (h : 
 made-there x None e = absurd (cc)
 made-there x (Some h) e = (h, refl)
 
-version-there : (o : Option Version) → is_some o ≡ true → (t : Version) × (o ≡ Some t)
+pub version-there : (o : Option Version) → is_some o ≡ true → (t : Version) × (o ≡ Some t)
 version-there None e = absurd (cc)
 version-there (Some t) e = (t, refl)
 
@@ -93,11 +93,11 @@ pub record Unseen (seen : Header → Type 0) (slots : List Slot) (chain : List �
   pub along : k < length chain → at ≡ Some (get_or chain k 0)
   pub past : length chain ≤ k → (m : ℕ) → at ≡ Some m → IsOn chain m
 
-header-of : (o : Option Version) (h : Header) (t : Version) → option_map (λ (t : Version). t.header) o ≡ Some h → o ≡ Some t → h ≡ t.header
+pub header-of : (o : Option Version) (h : Header) (t : Version) → option_map (λ (t : Version). t.header) o ≡ Some h → o ≡ Some t → h ≡ t.header
 header-of None h t e is = absurd (cc)
 header-of (Some u) h t e is = sym (same_Some u.header h e) ∙ ap (λ (v : Version). v.header) (same_Some u t is)
 
-headless : (o : Option Version) (t : Version) → option_map (λ (t : Version). t.header) o ≡ None → o ≡ Some t → ⊥
+pub headless : (o : Option Version) (t : Version) → option_map (λ (t : Version). t.header) o ≡ None → o ≡ Some t → ⊥
 headless None t e is = absurd (cc)
 headless (Some u) t e is = absurd (cc)
 

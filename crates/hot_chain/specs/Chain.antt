@@ -4,29 +4,27 @@ use Rattle.std.specs.Prelude.{◌≡◌, ℕ, ◌+◌, ◌-◌, ◌<◌, ◌==�
 use Rattle.std.specs.Option.{option_and_then}
 use Rattle.std.specs.List.{IsDistinct, list_any}
 use Rattle.page_sheet.specs.declared.slot.Slot.{Slot}
-use Rattle.page_sheet.specs.declared.slot.Slot.TheVariants.{Unused, Normal, Redirect, Dead}
+use Rattle.page_sheet.specs.declared.slot.Slot.TheVariants.{Normal, Redirect}
 use Rattle.page_sheet.specs.Slots.{slot_at, version_at, header_at}
 use Rattle.tuple_header.specs.Version.{Version}
 use Rattle.tuple_header.specs.Marks.{is_hot_updated, is_heap_only}
 use Rattle.tuple_header.specs.declared.version.Header.{Header}
 use Rattle.commit_status.specs.declared.status.Status.{Status}
-use Rattle.commit_status.specs.declared.status.Status.TheVariants.{InProgress, Committed, Aborted}
+use Rattle.commit_status.specs.declared.status.Status.TheVariants.{Aborted}
 use Rattle.commit_status.specs.Window.{Window, status_of}
 
 abbrev pub is_aborted : Status → Bool
 is_aborted Aborted = true
-is_aborted Committed = false
-is_aborted InProgress = false
+is_aborted status = false
 
 abbrev pub has_aborted : Window → ℕ → Bool
 has_aborted w x = is_aborted (status_of w x)
 
 -- a redirect is followed first
 abbrev pub start_in : List Slot → ℕ → Slot → Option ℕ
-start_in slots n Unused = None
 start_in slots n (Normal t) = Some n
 start_in slots n (Redirect target) = if is_some (version_at slots target) then Some target else None
-start_in slots n Dead = None
+start_in slots n slot = None
 
 abbrev pub first_of : List Slot → ℕ → Option ℕ
 first_of slots n = option_and_then (start_in slots n) (slot_at slots n)
@@ -94,10 +92,9 @@ Fetched aborted seen slots n answer = (chain : List ℕ) × IsChain aborted slot
 
 -- where an index entry may lead: a version that isn't heap-only, or a redirect
 abbrev pub is_root_slot : Slot → Bool
-is_root_slot Unused = false
 is_root_slot (Normal t) = not (is_heap_only t.header)
 is_root_slot (Redirect target) = true
-is_root_slot Dead = false
+is_root_slot slot = false
 
 abbrev pub is_root_in : Option Slot → Bool
 is_root_in None = false

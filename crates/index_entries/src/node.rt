@@ -58,6 +58,9 @@ pub trait Node: Drop {
     // the number of nodes that it is made of, itself among them
     ghost nodes: { Self → ℕ };
 
+    // which entries it may have
+    ghost Fits: { Seen → Type 0 };
+
     // no part is empty
     ghost IsNeat: { Self → Type 0 };
 
@@ -185,6 +188,7 @@ pub trait Node: Drop {
         requires room { size self.old < MOST_PARTS }
         requires neat { IsNeat self.old }
         requires position { IsPosition self.old position }
+        requires fits { Fits entry }
         ensures entries { OnOk result
             (entries self.new ≡ insert (entries self.old) (rank self.old position) entry) }
         ensures some { OnOk result (0 < size self.new) }

@@ -1,9 +1,10 @@
 -- The entries of a leaf and the bounds of the pages that they lead to: what stays between them, and who goes.
-use Rattle.std.proofs.Common.{◌≡◌, ◌∙◌, ℕ, ◌+◌, ◌<◌, ◌≤◌, List, [], ◌∷◌, length, get_or, take, drop, ◌++◌, cond, sym, ap, refl, arith, Bool}
+use Rattle.std.proofs.Common.{◌≡◌, ◌∙◌, ℕ, ◌+◌, ◌<◌, ◌≤◌, List, [], ◌∷◌, length, take, drop, ◌++◌, cond, Some, slice_get, sym, ap, refl, subst, arith, Bool}
 use Rattle.std.specs.List.{insert, filter}
 use Rattle.std.proofs.lemmas.List.{take-append-drop, take_all, drop_all, append-nil}
 use Rattle.std.proofs.lemmas.List.Elements.{All-cons, All-head, All-tail, All-weaker, All-more, All-drop}
 use Rattle.std.proofs.lemmas.List.Sorted.{IsPermutation-insert, All-permutation}
+use Rattle.std.proofs.lemmas.Option.{get_or_from_slice_get}
 use Rattle.xid_circle.specs.declared.Tid.{Tid}
 use Rattle.dead_places.specs.declared.page_bounds.PageBounds.{PageBounds}
 use Rattle.dead_places.specs.Bounds.{IsOn, IsPartOn}
@@ -19,10 +20,11 @@ on_inserted b b' xs i y on wider here =
     All-permutation (λ e. IsOn b' e.tid) (y ∷ xs) (insert xs i y) (IsPermutation-insert xs i y)
     (All-cons (λ e. IsOn b' e.tid) y xs here (All-weaker (λ e. IsOn b e.tid) (λ e. IsOn b' e.tid) (λ e. wider e.tid) xs on))
 
-pub on_more : (b b' : PageBounds) (xs : List Entry) (i : ℕ) (y : Entry) → i < length xs → AreOn b (take i xs) → ((t : Tid) → IsOn b t → IsOn b' t) → IsOn b' (get_or xs i y).tid
+pub on_more : (b b' : PageBounds) (xs : List Entry) (i : ℕ) (y : Entry) → i < length xs → AreOn b (take i xs) → ((t : Tid) → IsOn b t → IsOn b' t) → slice_get xs i ≡ Some y → IsOn b' y.tid
     → AreOn b' (take (i + 1) xs)
-on_more b b' xs i y within on wider here =
-    All-more (λ e. IsOn b' e.tid) xs i y within (All-weaker (λ e. IsOn b e.tid) (λ e. IsOn b' e.tid) (λ e. wider e.tid) (take i xs) on) here
+on_more b b' xs i y within on wider at here =
+    All-more (λ e. IsOn b' e.tid) xs i y within (All-weaker (λ e. IsOn b e.tid) (λ e. IsOn b' e.tid) (λ e. wider e.tid) (take i xs) on)
+    (subst (λ e. IsOn b' e.tid) (sym (get_or_from_slice_get xs i y y at)) here)
 
 -- at the end all stay
 pub at_end : (test : Entry → Bool) (xs : List Entry) (n : ℕ) → length xs ≤ n → take n xs ++ filter test (drop n xs) ≡ xs

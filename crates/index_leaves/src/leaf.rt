@@ -7,44 +7,45 @@ ghost use Rattle.std.specs.Option.{option_map};
 ghost use Rattle.index_entries.specs.Order.{IsAscending};
 ghost use Rattle.index_entries.specs.Sets.{IsAt, IsEndAt, IsGapFor, GoesBehind, GoesBefore};
 ghost use Rattle.index_entries.specs.Lists.{IsFirst, IsLast, stays};
+ghost use Rattle.entry_columns.specs.Fits.{Fits};
 ghost use Rattle.index_leaves.specs.Bounds.{AreOn};
 ghost use Rattle.dead_places.specs.Places.{AreAscending};
 
-use dead_places::{DeadSet, NO_PAGES, PageBounds, is_among, widen};
+use dead_places::{DeadSet, NO_PAGES, PageBounds, widen};
+use entry_columns::{EntryColumns, Label};
 use index_entries::{Entry, HALF, Half, MOST_PARTS, Node, Swept, compare, is_before, is_same};
 use std::alloc::{AllocError, Global};
 use std::marker::Model;
 use xid_circle::Tid;
 
-/// At most 128 entries, 4 KiB of them. There is always room for all of them in memory.
+/// At most 128 entries. There is always room for all of them in memory: 1.5 KiB in an index by key, 2.5 KiB in another.
 #[derive(Debug, Drop)]
-pub struct Leaf {
+pub struct Leaf<L: Label> {
     /// The first entry, if there is one. A search that passes this leaf looks at nothing else of it, and the leaves of a branch
     /// stand together in memory, where their entries don't.
     first: Entry,
     /// The last entry, if there is one. So a sweep passes a leaf without a look at its entries, where they lead to other pages.
     last: Entry,
-    entries: Vec<Entry>,
+    entries: EntryColumns<L>,
     /// The entries lead to these pages.
     pages: PageBounds,
     /// How far the last value was behind the first when one of them was put there: a hint where to look.
     spread: u64,
 }
 
-impl Model for Leaf {
-    ghost use Rattle.std.specs.Prelude.{List, vec_capacity};
+impl<L: Label> Model for Leaf<L> {
+    ghost use Rattle.std.specs.Prelude.{List};
     ghost use Rattle.index_entries.specs.declared.entry.Entry.{Entry as Seen};
     ghost use Rattle.index_leaves.specs.Keeps.{IsLeaf};
 
     ghost Value = { List Seen };
 
-    ghost view = { λ l. l.entries.items };
+    ghost view = { λ l. l.entries };
 
-    ghost invariant = { λ l.
-        IsLeaf l.first l.last l.entries.items (vec_capacity l.entries) l.pages };
+    ghost invariant = { λ l. IsLeaf l.first l.last l.entries l.pages };
 }
 
-impl Node for Leaf {
+impl<L: Label> Node for Leaf<L> {
     type Position = usize;
 
     type Spares = ();
@@ -54,6 +55,8 @@ impl Node for Leaf {
     ghost size = { λ l. length l };
 
     ghost nodes = { λ l. 1 };
+
+    ghost Fits = { Fits L.is_by_key };
 
     ghost IsNeat = { λ l. Unit {0} };
 
@@ -68,7 +71,7 @@ impl Node for Leaf {
     ghost HasPlaces = { λ spares. Unit {0} };
 
     fn new(alloc: Global) -> Result<Self, AllocError> {
-        let entries = Vec::with_capacity(alloc, MOST_PARTS)?;
+        let entries = EntryColumns::new(alloc)?;
         let tid = Tid { page: 0, slot: 0 };
         let none = Entry {
             value: 0,
@@ -102,6 +105,7 @@ impl Node for Leaf {
         search(&self.entries, sought, guess)
     }
 
+    #[inline(always)]
     fn stands_at(&self, sought: &Entry, position: usize) -> bool {
         stands_in(&self.entries, &self.last, sought, position)
     }
@@ -115,8 +119,9 @@ impl Node for Leaf {
         position.saturating_add(1)
     }
 
+    #[inline(always)]
     fn entry_at(&self, position: usize) -> Option<Entry> {
-        entry_in(&self.entries, position)
+        self.entries.get(position)
     }
 
     #[inline(always)]
@@ -130,8 +135,7 @@ impl Node for Leaf {
 
     fn split(&mut self, upper: &mut Self, position: usize) -> Half<usize> {
         let kept = kept_with(position);
-        refill(&mut upper.entries, &self.entries[kept..]);
-        self.entries.truncate(kept);
+        self.entries.move_from(kept, &mut upper.entries);
         upper.first = first_or(&upper.entries, self.first);
         self.first = first_or(&self.entries, self.first);
         upper.last = last_or(&upper.entries, self.last);
@@ -154,7 +158,7 @@ impl Node for Leaf {
         entry: Entry,
     ) -> Result<(), AllocError> {
         let count = self.entries.len();
-        put(&mut self.entries, position, entry);
+        self.entries.insert(position, entry);
         self.first = first_with(self.first, position, entry);
         self.last = last_with(self.last, count, position, entry);
         self.pages = widen(self.pages, entry.tid);
@@ -184,7 +188,7 @@ impl Node for Leaf {
                 more: false,
             });
         }
-        remove_from(&mut self.entries, goes, near);
+        self.entries.remove_dead(goes, near);
         self.first = first_or(&self.entries, self.first);
         self.last = last_or(&self.entries, last);
         self.pages = bounds_of(&self.entries);
@@ -235,29 +239,6 @@ fn kept_with(position: usize) -> usize
     if position < HALF { HALF - 1 } else { HALF }
 }
 
-/// Puts these entries in the place of all others. There is room for them in memory.
-fn refill(entries: &mut Vec<Entry>, with: &[Entry])
-    requires { length with.now ≤ vec_capacity entries.old }
-    ensures items { entries.new.items ≡ with.now }
-    ensures capacity { vec_capacity entries.old ≤ vec_capacity entries.new }
-{
-    entries.clear();
-    // never refused, since there is room
-    let _done = entries.extend_from_slice(with);
-}
-
-/// Puts an entry before those from this place on. There is room for it in memory.
-fn put(entries: &mut Vec<Entry>, place: usize, entry: Entry)
-    requires in_range { place ≤ vec_len entries.old }
-    requires room { vec_len entries.old < vec_capacity entries.old }
-    ensures items { entries.new.items ≡ insert entries.old.items place entry }
-    ensures count { vec_len entries.new ≡ vec_len entries.old + 1 }
-    ensures capacity { vec_capacity entries.old ≤ vec_capacity entries.new }
-{
-    // never refused, since there is room
-    let _done = entries.insert(place, entry);
-}
-
 /// The first entry where one comes to this place: that one, or the first until then.
 fn first_with(first: Entry, place: usize, entry: Entry) -> Entry
     ensures front { place ≡ 0 → result ≡ entry }
@@ -275,12 +256,12 @@ fn last_with(last: Entry, count: usize, place: usize, entry: Entry) -> Entry
 }
 
 /// The pages that these entries lead to.
-fn bounds_of(entries: &[Entry]) -> PageBounds
+fn bounds_of<L: Label>(entries: &EntryColumns<L>) -> PageBounds
     ensures { AreOn result entries.now }
 {
     let mut bounds = NO_PAGES;
     for place in 0..entries.len() {
-        let entry = entries[place];
+        let entry = entries.at(place);
         bounds = widen(bounds, entry.tid);
     }
     bounds
@@ -303,7 +284,7 @@ fn guess(sought: &Entry, first: &Entry, spread: u64, count: usize) -> usize {
 
 /// Where the entry stands among these, or where it would. It looks at the guess first, and then beside what it saw, four times
 /// as far each time, but never farther than halving would.
-fn search(entries: &[Entry], sought: &Entry, guess: usize) -> Result<usize, usize>
+fn search<L: Label>(entries: &EntryColumns<L>, sought: &Entry, guess: usize) -> Result<usize, usize>
     requires { IsAscending entries.now }
     ensures found { IfOk result (IsAt entries.now sought.now) }
     ensures absent { IfErr result (IsGapFor entries.now sought.now) }
@@ -313,7 +294,7 @@ fn search(entries: &[Entry], sought: &Entry, guess: usize) -> Result<usize, usiz
     let mut place = guess.min(high.saturating_sub(1));
     let mut reach = 0;
     while low < high {
-        if is_before(&entries[place], sought) {
+        if entries.is_before(place, sought) {
             low = place + 1;
             place = low + ((high - low) / 2).min(reach);
         } else {
@@ -330,10 +311,10 @@ fn search(entries: &[Entry], sought: &Entry, guess: usize) -> Result<usize, usiz
 }
 
 /// Whether this entry stands at this place.
-fn is_at(entries: &[Entry], sought: &Entry, place: usize) -> bool
+fn is_at<L: Label>(entries: &EntryColumns<L>, sought: &Entry, place: usize) -> bool
     ensures { IsTrue result ↔ IsAt entries.now sought.now place }
 {
-    match entry_in(entries, place) {
+    match entries.get(place) {
         Some(entry) => compare(&entry, sought).is_eq(),
         None => false,
     }
@@ -341,44 +322,44 @@ fn is_at(entries: &[Entry], sought: &Entry, place: usize) -> bool
 
 /// Whether this entry stands at this place, where the last one is known.
 #[inline(always)]
-fn stands_in(entries: &[Entry], last: &Entry, sought: &Entry, place: usize) -> bool
+fn stands_in<L: Label>(
+    entries: &EntryColumns<L>,
+    last: &Entry,
+    sought: &Entry,
+    place: usize,
+) -> bool
     requires { IsLast last.now entries.now }
-    ensures { IsTrue result ↔ IsAt entries.now sought.now place }
+    ensures there { IsTrue result ↔ IsAt entries.now sought.now place }
+    ensures few { IsTrue result → place < MOST_PARTS }
 {
     if place >= entries.len() {
         return false;
     }
-    is_same(there(entries, last, place), sought)
+    is_same(&there(entries, last, place), sought)
 }
 
 /// The entry at this place, where the last one is known. So a sweep goes on from it without a look at the others.
 #[inline(always)]
-fn there<'a>(entries: &'a [Entry], last: &'a Entry, place: usize) -> &'a Entry
+fn there<L: Label>(entries: &EntryColumns<L>, last: &Entry, place: usize) -> Entry
     requires in_range { place < length entries.now }
     requires last { IsLast last.now entries.now }
-    ensures { slice_get entries.now place ≡ Some result.now }
+    ensures { slice_get entries.now place ≡ Some result }
 {
-    if place + 1 == entries.len() {
-        last
+    let count = entries.len();
+    if place + 1 == count {
+        *last
     } else {
-        &entries[place]
+        entries.at(place)
     }
-}
-
-/// The entry at this place, if there is one.
-fn entry_in(entries: &[Entry], place: usize) -> Option<Entry>
-    ensures { result ≡ slice_get entries.now place }
-{
-    entries.get(place).copied()
 }
 
 /// The entry at this place, if there is one; and whether another of these stands behind it, of another value or another key.
 #[inline(always)]
-fn look_at(entries: &[Entry], place: usize) -> Option<(Entry, bool)>
+fn look_at<L: Label>(entries: &EntryColumns<L>, place: usize) -> Option<(Entry, bool)>
     ensures entry { option_map (λ found. found.0) result ≡ slice_get entries.now place }
     ensures end { IfSome result (λ found. IsTrue found.1 → IsEndAt entries.now found.0 place) }
 {
-    match entry_in(entries, place) {
+    match entries.get(place) {
         Some(entry) => Some((entry, is_end(entries, entry, place))),
         None => None,
     }
@@ -386,20 +367,25 @@ fn look_at(entries: &[Entry], place: usize) -> Option<(Entry, bool)>
 
 /// Whether another of these entries stands behind this place, of another value or another key than this one.
 #[inline(always)]
-fn is_end(entries: &[Entry], entry: Entry, place: usize) -> bool
+fn is_end<L: Label>(entries: &EntryColumns<L>, entry: Entry, place: usize) -> bool
     ensures { IsTrue result → IsEndAt entries.now entry place }
 {
     let behind = place.saturating_add(1);
     if behind >= entries.len() {
         return false;
     }
-    let next = entries[behind];
+    let next = entries.at(behind);
     next.value != entry.value || next.key != entry.key
 }
 
 /// Where the entry goes, if that is right before or right behind this place, and between two of these entries; or at the end of the
 /// last leaf.
-fn gap_near(entries: &[Entry], sought: &Entry, near: usize, is_last: bool) -> Option<usize>
+fn gap_near<L: Label>(
+    entries: &EntryColumns<L>,
+    sought: &Entry,
+    near: usize,
+    is_last: bool,
+) -> Option<usize>
     requires { IsAscending entries.now }
     ensures in_range { IfSome result (λ place. place ≤ length entries.now) }
     ensures behind { IfSome result (GoesBehind entries.now sought.now) }
@@ -422,52 +408,57 @@ fn gap_near(entries: &[Entry], sought: &Entry, near: usize, is_last: bool) -> Op
 }
 
 /// Whether an entry stands right before this place, and before the sought one.
-fn goes_behind(entries: &[Entry], sought: &Entry, place: usize) -> bool
+fn goes_behind<L: Label>(entries: &EntryColumns<L>, sought: &Entry, place: usize) -> bool
     requires { IsAscending entries.now }
     ensures { IsTrue result → GoesBehind entries.now sought.now place }
 {
     if place == 0 {
         return false;
     }
-    match entry_in(entries, place - 1) {
+    match entries.get(place - 1) {
         Some(before) => is_before(&before, sought),
         None => false,
     }
 }
 
 /// Whether the sought entry comes before the one at this place; or whether the leaf is the last, where none is there.
-fn goes_before(entries: &[Entry], sought: &Entry, place: usize, is_last: bool) -> bool
+fn goes_before<L: Label>(
+    entries: &EntryColumns<L>,
+    sought: &Entry,
+    place: usize,
+    is_last: bool,
+) -> bool
     requires { IsAscending entries.now }
     ensures { IsTrue result → GoesBefore entries.now sought.now is_last place }
 {
-    match entry_in(entries, place) {
+    match entries.get(place) {
         Some(behind) => is_before(sought, &behind),
         None => is_last,
     }
 }
 
 /// The first of these entries, or another where there is none.
-fn first_or(entries: &[Entry], other: Entry) -> Entry
+fn first_or<L: Label>(entries: &EntryColumns<L>, other: Entry) -> Entry
     ensures { IsFirst result entries.now }
 {
-    match entries.first() {
-        Some(first) => *first,
+    match entries.get(0) {
+        Some(first) => first,
         None => other,
     }
 }
 
 /// The last of these entries, or another where there is none.
-fn last_or(entries: &[Entry], other: Entry) -> Entry
+fn last_or<L: Label>(entries: &EntryColumns<L>, other: Entry) -> Entry
     ensures { IsLast result entries.now }
 {
-    match entries.last() {
-        Some(last) => *last,
+    match entries.get(entries.len().saturating_sub(1)) {
+        Some(last) => last,
         None => other,
     }
 }
 
 /// The first place, from this one on, of an entry that leads to a dead place; the end, where none does.
-fn next_to_go(entries: &[Entry], from: usize, dead: &[Tid]) -> usize
+fn next_to_go<L: Label>(entries: &EntryColumns<L>, from: usize, dead: &[Tid]) -> usize
     requires in_range { from ≤ length entries.now }
     requires ascending { AreAscending dead.now }
     ensures in_range { result ≤ length entries.now }
@@ -478,39 +469,5 @@ fn next_to_go(entries: &[Entry], from: usize, dead: &[Tid]) -> usize
     if dead.is_empty() {
         return entries.len();
     }
-    for place in from..entries.len() {
-        let entry = entries[place];
-        if is_dead(dead, entry) {
-            return place;
-        }
-    }
-    entries.len()
-}
-
-/// Removes the entries to dead places from this place on, and moves those behind them up.
-fn remove_from(entries: &mut Vec<Entry>, from: usize, dead: &[Tid])
-    requires in_range { from ≤ vec_len entries.old }
-    requires ascending { AreAscending dead.now }
-    ensures items { entries.new.items
-        ≡ take from entries.old.items ++ filter (stays dead.now) (drop from entries.old.items) }
-    ensures shorter { vec_len entries.new ≤ vec_len entries.old }
-    ensures capacity { vec_capacity entries.old ≤ vec_capacity entries.new }
-{
-    let mut kept = from;
-    for place in from..entries.len() {
-        let entry = entries[place];
-        if !is_dead(dead, entry) {
-            entries[kept] = entry;
-            kept += 1;
-        }
-    }
-    entries.truncate(kept);
-}
-
-/// Whether the entry leads to a dead place.
-fn is_dead(dead: &[Tid], entry: Entry) -> bool
-    requires { AreAscending dead.now }
-    ensures { result ≡ not (stays dead.now entry) }
-{
-    is_among(dead, &entry.tid)
+    entries.next_dead(from, dead)
 }

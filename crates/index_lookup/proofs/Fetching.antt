@@ -16,7 +16,7 @@ use Rattle.index_lookup.specs.Pages.{slots_on, version_in}
 use Rattle.index_lookup.specs.Looking.{IsNextOf, FetchedAt, FirstFound, IsSeenAt, IsFirstPlace, FirstPlace}
 use Rattle.index_lookup.proofs.PageLists.{slots-there, slots-none}
 
-none-first : (n : ℕ) → first_of [] n ≡ None
+pub none-first : (n : ℕ) → first_of [] n ≡ None
 none-first zero = refl
 none-first (suc n) = refl
 

@@ -1,28 +1,20 @@
 -- The version in a slot, and whether it is seen.
 use Rattle.std.proofs.Common.{◌≡◌, ℕ, ◌==◌, if◌then◌else◌, List, map, Option, Some, None, refl, sym, ap, subst, ◌∙◌, slice_get}
 use Rattle.std.specs.Option.{option_map}
-use Rattle.std.proofs.lemmas.Option.{same_Some}
 use Rattle.tuple_header.specs.Version.{Version}
 use Rattle.tuple_header.specs.declared.version.Header.{Header}
 use Rattle.tuple_header.specs.declared.version.Row.{Row}
 use Rattle.page_sheet.specs.declared.slot.Slot.{Slot}
-use Rattle.page_sheet.specs.Slots.{version_at, header_at, row_at, key_at}
+use Rattle.page_sheet.specs.Slots.{version_at, header_at, row_at}
 use Rattle.page_sheet.proofs.SlotLemmas.{version-from_header}
 use Rattle.page_slots.specs.View.{PageView}
+use Rattle.hot_chain.proofs.SeenWalks.{header-of, headless}
 use Rattle.index_lookup.specs.Walking.{NoneSeenFrom, IsSeenRow, SeenRow}
 use Rattle.index_lookup.specs.ByPlace.{IsSeenRowOf, IsSeenUndeleted, IsVersionOf}
 use Rattle.index_lookup.proofs.PageLists.{slots-there}
 
-headless : (o : Option Version) (t : Version) → option_map (λ (t : Version). t.header) o ≡ None → o ≡ Some t → ⊥
-headless None t e is = absurd (cc)
-headless (Some u) t e is = absurd (cc)
-
 pub none-headless : (seen : Header → Type 0) (slots : List Slot) (slot : ℕ) (r : Option Header) → r ≡ header_at slots slot → r ≡ None → NoneSeenFrom seen slots slot
 none-headless seen slots slot r value none t is has = headless (version_at slots slot) t (sym value ∙ none) is
-
-header-of : (o : Option Version) (h : Header) (t : Version) → option_map (λ (t : Version). t.header) o ≡ Some h → o ≡ Some t → h ≡ t.header
-header-of None h t e is = absurd (cc)
-header-of (Some u) h t e is = sym (same_Some u.header h e) ∙ ap (λ (v : Version). v.header) (same_Some u t is)
 
 pub none-unseen : (seen : Header → Type 0) (slots : List Slot) (slot : ℕ) (r : Option Header) (h : Header) → r ≡ header_at slots slot → r ≡ Some h → ¬ seen h → NoneSeenFrom seen slots slot
 none-unseen seen slots slot r h value is not t there has = not (subst seen (sym (header-of (version_at slots slot) h t (sym value ∙ is) there)) has)
@@ -73,15 +65,3 @@ undeleted-of_version seen pages n slot key page h row at is of has none = record
   of_key = of;
   meets = (has, ap (λ (x : ℕ). if x == 0 then None else Some x) none);
 }
-
--- a version with this header and of this key in a slot of a page is at that place of the table
-pub version-of_key : (P : Header → Type 0) (pages : List PageView) (n slot key : ℕ) (page : PageView) (h : Header) → slice_get pages n ≡ Some page
-    → header_at page.slots slot ≡ Some h → key_at page.slots slot ≡ Some key → P h → IsVersionOf P (map (λ (p : PageView). p.slots) pages) key (record { page = n; slot = slot })
-version-of_key P pages n slot key page h at is of meets =
-    let t = version-from_header page.slots slot h is in
-    record {
-      version = t.0;
-      there = ap (λ slots. version_at slots slot) (slots-there pages n page at) ∙ t.1;
-      of_key = same_Some t.0.row.key key (sym (ap (option_map (λ (t : Version). t.row.key)) t.1) ∙ of);
-      meets = subst P t.2 meets;
-    }

@@ -1,16 +1,17 @@
 -- Lists of entries that hold the same, whatever their order.
-use Rattle.std.proofs.Common.{◌≡◌, ◌⊎◌, ℕ, ◌+◌, ◌<◌, ◌≤◌, inl, inr, List, [], ◌∷◌, ◌++◌, length, Some, sym, ap, ◌∙◌, subst, ⊎_elim, arith, slice_get}
+use Rattle.std.proofs.Common.{◌≡◌, ◌⊎◌, Bool, false, get_or, ℕ, ◌+◌, ◌<◌, ◌≤◌, inl, inr, List, [], ◌∷◌, ◌++◌, length, Some, sym, ap, ◌∙◌, subst, ⊎_elim, arith, slice_get}
 use Rattle.std.specs.List.{Contains}
 use Rattle.std.specs.Prelude.{IsPermutation}
 use Rattle.std.proofs.lemmas.List.Sorted.{Contains-permutation, IsPermutation-sym}
-use Rattle.std.proofs.lemmas.List.Elements.{Contains-append_left, Contains-append_right, Contains-append_cases}
+use Rattle.std.proofs.lemmas.List.Elements.{All-get_or, Contains-append_left, Contains-append_right, Contains-append_cases}
 use Rattle.std.proofs.lemmas.Bool.{cases_lt}
 use Rattle.std.proofs.lemmas.Option.{slice_get-get_or}
 use Rattle.xid_circle.proofs.Members.{Contains-first, Contains-one}
 use Rattle.index_entries.proofs.SetLemmas.{Contains-from_place}
 use Rattle.index_entries.specs.Sets.{AddsEntry}
 use Rattle.index_entries.specs.declared.entry.Entry.{Entry}
-use Rattle.index_making.specs.Filling.{Joins, HasBoth, HaveSame, HoldsEntry}
+use Rattle.entry_columns.specs.Fits.{Fits}
+use Rattle.index_making.specs.Filling.{AllFitColumn, Joins, HasBoth, HaveSame, HoldsEntry}
 
 -- one entry more behind a batch
 pub joined : (batch rest after : List Entry) (e : Entry) → after ≡ batch ++ e ∷ [] → Joins (batch ++ rest) (after ++ rest) e
@@ -66,6 +67,10 @@ unsorted batch sorted rest both moved has x = (
   λ there. ⊎_elim (λ first. inl (Contains-permutation sorted batch x (IsPermutation-sym batch sorted moved) first)) (λ other. inr other) ((has x).0 there),
   λ there. (has x).1 (⊎_elim (λ first. inl (Contains-permutation batch sorted x moved first)) (λ other. inr other) there),
 )
+
+-- each of its entries can be in the index
+pub each-fits : (batch : List Entry) (i : ℕ) (x : Entry) (is_by_key : Bool) → AllFitColumn batch → i < length batch → is_by_key ≡ false → Fits is_by_key (get_or batch i x)
+each-fits batch i x is_by_key fit within kind = subst (λ k. Fits k (get_or batch i x)) (sym kind) (All-get_or (Fits false) batch i x within fit)
 
 -- Its entries are inserted, as far as this place.
 

@@ -1,7 +1,8 @@
 //! An index that is filled with entries in any order.
 
-ghost use Rattle.std.specs.Prelude.{◌≡◌, [], IfOk, OnOk, OnErr};
-ghost use Rattle.index_making.specs.Filling.{Joins, HasBoth, HaveSame, HoldsEntry};
+ghost use Rattle.std.specs.Prelude.{◌≡◌, [], false, IfOk, OnOk, OnErr};
+ghost use Rattle.entry_columns.specs.Fits.{Fits};
+ghost use Rattle.index_making.specs.Filling.{AllFitColumn, Joins, HasBoth, HaveSame, HoldsEntry};
 
 use root_index::{Entry, RootIndex};
 use std::alloc::{AllocError, Global};
@@ -19,12 +20,15 @@ pub(crate) struct Filling {
 }
 
 impl Model for Filling {
-    ghost use Rattle.std.specs.Prelude.{List, ◌++◌};
+    ghost use Rattle.std.specs.Prelude.{List, ◌++◌, ◌≡◌, false};
     ghost use Rattle.index_entries.specs.declared.entry.Entry.{Entry};
+    ghost use Rattle.index_making.specs.Filling.{AllFitColumn};
 
     ghost Value = { List Entry };
 
     ghost view = { λ f. f.batch.items ++ f.index.entries };
+
+    ghost invariant = { λ f. AllFitColumn f.batch.items × (f.index.is_by_key ≡ false) };
 }
 
 impl Filling {
@@ -40,6 +44,7 @@ impl Filling {
 
     /// Adds an entry.
     pub(crate) fn add(&mut self, entry: Entry) -> Result<(), AllocError>
+        requires { Fits false entry }
         ensures { OnOk result (Joins self.old self.new entry) }
     {
         self.insert_full_batch()?;
@@ -61,6 +66,7 @@ impl Filling {
     /// The index of all these entries.
     pub(crate) fn finish(mut self) -> Result<RootIndex, AllocError>
         ensures same { IfOk result (λ index. HaveSame self index.entries) }
+        ensures kind { IfOk result (λ index. index.is_by_key ≡ false) }
         ensures refused { OnErr result (HoldsEntry self) }
     {
         insert_batch(&mut self.index, &mut self.batch)?;
@@ -70,7 +76,11 @@ impl Filling {
 
 /// Inserts a batch in the index's order, and leaves it without entries.
 fn insert_batch(index: &mut RootIndex, batch: &mut Vec<Entry>) -> Result<(), AllocError>
+    requires kind { index.old.is_by_key ≡ false }
+    requires fits { AllFitColumn batch.old.items }
     ensures inserts { OnOk result (HasBoth batch.old.items index.old.entries index.new.entries) }
+    ensures kind { index.new.is_by_key ≡ false }
+    ensures fits { AllFitColumn batch.new.items }
     ensures none { OnOk result (batch.new.items ≡ []) }
     ensures refused { OnErr result (HoldsEntry batch.old.items) }
 {
@@ -82,7 +92,10 @@ fn insert_batch(index: &mut RootIndex, batch: &mut Vec<Entry>) -> Result<(), All
 
 /// Inserts one after the other.
 fn insert_each(index: &mut RootIndex, batch: &[Entry]) -> Result<(), AllocError>
+    requires kind { index.old.is_by_key ≡ false }
+    requires fits { AllFitColumn batch.now }
     ensures inserts { OnOk result (HasBoth batch.now index.old.entries index.new.entries) }
+    ensures kind { index.new.is_by_key ≡ false }
     ensures refused { OnErr result (HoldsEntry batch.now) }
 {
     for i in 0..batch.len() {

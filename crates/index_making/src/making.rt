@@ -1,9 +1,11 @@
 //! A walk over all pages, along the chain of each root and redirect.
 
-ghost use Rattle.std.specs.Prelude.{◌≡◌, ◌<◌, ◌+◌, suc, [], IfOk, OnOk, OnErr, MatchOption, length};
+ghost use Rattle.std.specs.Prelude.{◌≡◌, ◌<◌, ◌+◌, suc, false, [], IfOk, OnOk, OnErr, MatchOption, length};
 ghost use Rattle.visibility.specs.Reading.{IsSeenBy};
 ghost use Rattle.hot_chain.specs.Chain.{has_aborted, SeenAlong};
 ghost use Rattle.index_lookup.specs.Pages.{page_slots_of};
+ghost use Rattle.entry_columns.specs.Fits.{Fits};
+ghost use Rattle.entry_columns.specs.declared.short_tid.TheConstants.{PAGES};
 ghost use Rattle.table_indexes.specs.Indexes.{index_entry_of};
 ghost use Rattle.index_making.specs.Making.{ListsCurrent, SomeCurrent};
 ghost use Rattle.index_making.specs.Listing.{ReadsCurrent, IsRowOfCurrent, LacksCurrent, SomeFirstCurrent, AddsCurrent, ListsUpTo};
@@ -31,6 +33,7 @@ pub fn list_current(
     requires { column < 4 }
     ensures lists { IfOk result (λ index.
         ListsCurrent statuses.now (page_slots_of pages.now) (suc column) index.entries) }
+    ensures kind { IfOk result (λ index. index.is_by_key ≡ false) }
     ensures refused { OnErr result (SomeCurrent statuses.now (page_slots_of pages.now)) }
 {
     let snapshot = Snapshot::empty(alloc, statuses.next());
@@ -76,6 +79,7 @@ fn list_page(
 ) -> Result<(), AllocError>
     requires column { column < 4 }
     requires within { number < length pages.now.pages }
+    requires few { number < PAGES }
     requires reads { ReadsCurrent reader.now.statuses.now reader.now }
     requires before { ListsUpTo reader.now.statuses.now (page_slots_of pages.now) (suc column)
         number 0 filling.old }
@@ -103,6 +107,7 @@ fn enter_current(
     filling: &mut Filling,
 ) -> Result<(), AllocError>
     requires column { column < 4 }
+    requires page { place.page < PAGES }
     requires reads { ReadsCurrent reader.now.statuses.now reader.now }
     ensures adds { OnOk result (AddsCurrent reader.now.statuses.now page.now.slots (suc column)
         place filling.old filling.new) }
@@ -117,8 +122,10 @@ fn enter_current(
 
 /// The entry of a row in the index by this column, which leads to this place.
 fn entry_of(row: &RowRef<'_>, column: u8, place: Tid) -> Entry
-    requires { column < 4 }
-    ensures { result ≡ index_entry_of (suc column) row.now place }
+    requires column { column < 4 }
+    requires page { place.page < PAGES }
+    ensures entry { result ≡ index_entry_of (suc column) row.now place }
+    ensures fits { Fits false result }
 {
     Entry {
         value: row.cols()[column as usize] as i128,

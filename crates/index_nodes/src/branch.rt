@@ -39,6 +39,8 @@ impl<N: Node> Node for Branch<N> {
 
     ghost nodes = { λ b. suc (sum_by N.nodes b) };
 
+    ghost Fits = { N.Fits };
+
     ghost IsNeat = { λ b. AreNeat N.IsNeat N.size b };
 
     ghost IsPosition = { λ b position. IsPositionIn N.IsPosition b position };
@@ -75,6 +77,7 @@ impl<N: Node> Node for Branch<N> {
         nodes::search(&self.nodes, sought)
     }
 
+    #[inline(always)]
     fn stands_at(&self, sought: &Entry, position: TreePosition<N::Position>) -> bool {
         nodes::stands_at(&self.nodes, sought, position)
     }
@@ -87,6 +90,7 @@ impl<N: Node> Node for Branch<N> {
         nodes::behind::<N>(position)
     }
 
+    #[inline(always)]
     fn entry_at(&self, position: TreePosition<N::Position>) -> Option<Entry> {
         nodes::entry_at(&self.nodes, position)
     }

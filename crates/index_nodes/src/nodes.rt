@@ -110,6 +110,7 @@ pub fn search<N: Node>(
 }
 
 /// Whether this entry stands at this position.
+#[inline(always)]
 pub fn stands_at<N: Node>(nodes: &[N], sought: &Entry, position: TreePosition<N::Position>) -> bool
     ensures entry { OnTrue result (IsEntryIn N.IsEntry nodes.now position) }
     ensures found { OnTrue result
@@ -125,6 +126,7 @@ pub fn stands_at<N: Node>(nodes: &[N], sought: &Entry, position: TreePosition<N:
 }
 
 /// The entry at this position; behind a node's last, the first of the next node.
+#[inline(always)]
 pub fn entry_at<N: Node>(nodes: &[N], position: TreePosition<N::Position>) -> Option<Entry>
     requires neat { AreNeat N.IsNeat N.size nodes.now }
     requires position { IsPositionIn N.IsPosition nodes.now position }
@@ -314,7 +316,8 @@ fn insert_first<N: Node>(
     spares: &mut Spares<N, N::Spares>,
     entry: Entry,
 ) -> Result<(), AllocError>
-    requires { nodes.old.items ≡ [] }
+    requires none { nodes.old.items ≡ [] }
+    requires fits { N.Fits entry }
     ensures entries { OnOk result (all N.entries nodes.new.items ≡ insert [] 0 entry) }
     ensures neat { AreNeat N.IsNeat N.size nodes.new.items }
     ensures room { (vec_capacity nodes.old - vec_len nodes.old)
@@ -351,6 +354,7 @@ pub fn insert<N: Node>(
 ) -> Result<(), AllocError>
     requires neat { AreNeat N.IsNeat N.size nodes.old.items }
     requires position { IsPositionIn N.IsPosition nodes.old.items position }
+    requires fits { N.Fits entry }
     ensures entries { OnOk result
         (all N.entries nodes.new.items
         ≡ insert (all N.entries nodes.old.items)

@@ -9,13 +9,13 @@ use Rattle.refinement.specs.Allowed.{AllowsReply, after_reply, IsRun, after}
 use Rattle.following.specs.Following.{TakesMemory}
 use Rattle.judge.specs.Runs.{HasJudged, StopsForMemory}
 
-run-push : (w : World) (steps : List Step) (replies : List Reply) (s : Step) (r : Reply) → IsRun w steps replies → AllowsReply (after w steps replies) s r → IsRun w (steps ++ s ∷ []) (replies ++ r ∷ [])
+pub run-push : (w : World) (steps : List Step) (replies : List Reply) (s : Step) (r : Reply) → IsRun w steps replies → AllowsReply (after w steps replies) s r → IsRun w (steps ++ s ∷ []) (replies ++ r ∷ [])
 run-push w [] [] s r run allows = (allows, tt)
 run-push w [] (b ∷ replies) s r run allows = absurd run
 run-push w (a ∷ steps) [] s r run allows = absurd run
 run-push w (a ∷ steps) (b ∷ replies) s r run allows = (run.0, run-push (after_reply w a b) steps replies s r run.1 allows)
 
-after-push : (w : World) (steps : List Step) (replies : List Reply) (s : Step) (r : Reply) → IsRun w steps replies → after w (steps ++ s ∷ []) (replies ++ r ∷ []) ≡ after_reply (after w steps replies) s r
+pub after-push : (w : World) (steps : List Step) (replies : List Reply) (s : Step) (r : Reply) → IsRun w steps replies → after w (steps ++ s ∷ []) (replies ++ r ∷ []) ≡ after_reply (after w steps replies) s r
 after-push w [] [] s r run = refl
 after-push w [] (b ∷ replies) s r run = absurd run
 after-push w (a ∷ steps) [] s r run = absurd run

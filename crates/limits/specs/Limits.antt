@@ -5,6 +5,7 @@ use Rattle.dead_places.specs.declared.dead_set.TheConstants.{MOST_PLACES}
 use Rattle.page_sheet.specs.Slots.{room_of}
 use Rattle.root_index.specs.View.{free_places}
 use Rattle.heap_pages.specs.declared.pages.TheConstants.{MOST_PAGES}
+use Rattle.entry_columns.specs.declared.short_tid.TheConstants.{PAGES}
 use Rattle.status_cache.specs.declared.cache.TheConstants.{MOST_STATUSES}
 use Rattle.snapshot.specs.declared.own.TheConstants.{MOST_SAVEPOINTS}
 use Rattle.snapshot.specs.Snap.{are_many}
@@ -20,6 +21,8 @@ pub record LimitsAre : Type 0 where
   -- in an empty page: 8168 bytes without the pointer of a first slot
   pub bytes_of_a_page : room_of [] ≡ 8164
   pub pages : MOST_PAGES ≡ 65536
+  -- to which an entry can lead
+  pub pages_of_entries : PAGES ≡ 65536
   -- an empty index with nodes set aside takes as many entries as a leaf has
   pub entries_of_a_leaf : free_places 0 1 ≡ 128
   pub savepoints : MOST_SAVEPOINTS ≡ 32

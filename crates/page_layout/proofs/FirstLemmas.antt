@@ -13,7 +13,7 @@ or-none a b none = ap (λ (o : Option PageFault). option_or o b) none
 pub or-some : (a b : Option PageFault) (fault : PageFault) → a ≡ Some fault → option_or a b ≡ Some fault
 or-some a b fault found = ap (λ (o : Option PageFault). option_or o b) found
 
-none-some : (fault : PageFault) → None ≡ Some fault → ⊥
+pub none-some : (fault : PageFault) → None ≡ Some fault → ⊥
 none-some fault e = absurd (cc)
 
 -- where neither is there

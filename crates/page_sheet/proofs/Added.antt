@@ -2,8 +2,8 @@
 use Rattle.std.proofs.Common.{◌≡◌, ◌≢◌, ⊎_elim, inl, inr, ◌⊎◌, ℕ, ◌+◌, ◌*◌, ◌%◌, ◌<◌, ◌≤◌, List, length, take, drop, set, get_or, sum_by, sym, ap, ◌∙◌, subst, refl, arith, None}
 use Rattle.std.specs.Int.{next_multiple_of}
 use Rattle.std.proofs.lemmas.List.Sums.{sum_by_more_le}
-use Rattle.page_sheet.specs.Slots.{bytes_taken}
 use Rattle.std.proofs.lemmas.Bool.Decides.{nat_tests}
+use Rattle.page_sheet.specs.Slots.{bytes_taken}
 use Rattle.tuple_header.specs.Layout.{number_at, with_bytes, with_number, decoded_version, encoding}
 use Rattle.tuple_header.specs.Faults.{IsVersion, first_fault}
 use Rattle.tuple_header.specs.Version.{Version, size_of, rounded_size_of}
@@ -204,11 +204,11 @@ pointer-placed a b count i e sound within good above written =
       others = pointers;
     }
 
-rounded-even : (n : ℕ) → next_multiple_of n 8 % 8 ≡ 0
-rounded-even n = grind (arith, nat_tests)
+pub rounded_even : (n : ℕ) → next_multiple_of n 8 % 8 ≡ 0
+rounded_even n = grind (arith, nat_tests)
 
 pub below-aligned : (upper from n : ℕ) → upper % 8 ≡ 0 → from + next_multiple_of n 8 ≡ upper → from % 8 ≡ 0
-below-aligned upper from n even is = let e = rounded-even n in omega arith
+below-aligned upper from n even is = let e = rounded_even n in omega arith
 
 -- what was written below all others is a version to which a pointer may lead
 pub extent-written : (a b : List ℕ) (count : ℕ) (e : Extent) (v : Version) → IsSound a count → e.len ≡ size_of v.row → e.from + rounded_size_of v.row ≡ upper_in a

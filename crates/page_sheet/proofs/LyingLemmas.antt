@@ -13,8 +13,8 @@ use Rattle.page_sheet.specs.Packing.{taken_to, IsBlock}
 use Rattle.page_sheet.specs.Lying.{IsInOrderWithout, IsLying, IsCleared}
 use Rattle.page_layout.proofs.OrderLemmas.{last_or_before, same_or_other}
 use Rattle.page_sheet.proofs.Sounds.{extent-in}
-use Rattle.page_sheet.proofs.Added.{none-taken, below-aligned}
-use Rattle.page_sheet.proofs.PackLemmas.{IsCompacted, rounded_even}
+use Rattle.page_sheet.proofs.Added.{none-taken, below-aligned, rounded_even}
+use Rattle.page_sheet.proofs.PackLemmas.{IsCompacted}
 use Rattle.page_sheet.proofs.RunLemmas.{closes, run-normal, run-bare, taken-all, taken-normal, taken-bare}
 
 -- Versions that stand as they did.

@@ -1,7 +1,6 @@
 -- One version more is moved to where it goes, or a slot without one is passed.
 use Rattle.std.proofs.Common.{◌≡◌, ⊎_elim, inl, inr, ◌⊎◌, ℕ, ◌+◌, ◌*◌, ◌-◌, ◌%◌, ◌<◌, ◌≤◌, List, length, take, drop, sum_by, sym, ap, ◌∙◌, subst, refl, arith, length-take, length-drop}
 use Rattle.std.specs.Int.{next_multiple_of}
-use Rattle.std.proofs.lemmas.Bool.Decides.{nat_tests}
 use Rattle.std.proofs.lemmas.List.{take_all}
 use Rattle.std.proofs.lemmas.List.Sums.{sum_by_more, sum_by-take-le}
 use Rattle.tuple_header.specs.Layout.{number_at, with_bytes, with_number, decoded_version}
@@ -21,9 +20,6 @@ use Rattle.page_layout.proofs.Frames.{Agrees, agrees-with_bytes, agrees-with_num
 use Rattle.page_sheet.proofs.Sounds.{extent-in, slot-kept, slots-kept, slots_in-at, length-slots_in}
 use Rattle.page_sheet.proofs.Added.{below-aligned, above-apart, apart-above}
 use Rattle.page_sheet.proofs.HeaderSet.{same_extent}
-
-pub rounded_even : (n : ℕ) → next_multiple_of n 8 % 8 ≡ 0
-rounded_even n = grind (arith, nat_tests)
 
 pub version-moved : (old new m b : List ℕ) (i top : ℕ) (e : Extent) → length new ≡ 8192 → length (part_of old e) ≡ e.len → 28 + 4 * i ≤ top → top + e.len ≤ 8192
     → m ≡ with_bytes top (part_of old e) new → b ≡ with_number (24 + 4 * i) 4 (word_of (Pointer.Normal (record { from = top; len = e.len }))) m → IsMoved new b i top e old

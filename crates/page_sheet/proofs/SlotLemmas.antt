@@ -86,7 +86,7 @@ normal_at slots n normal =
 pub there-from_normal : (slots : List Slot) (n : ℕ) → IsNormalAt slots n → SlotIsThere slots n
 there-from_normal slots n normal = let t = normal_at slots n normal in there-from_slot_at slots n (Normal t.0) t.1
 
-unused_is : (s : Slot) → is_unused s ≡ true → s ≡ Unused
+pub unused_is : (s : Slot) → is_unused s ≡ true → s ≡ Unused
 unused_is Unused e = refl
 unused_is (Normal t) e = absurd (cc e)
 unused_is (Redirect target) e = absurd (cc e)

@@ -17,35 +17,25 @@ use Rattle.tuple_header.specs.declared.version.TheConstants.{MOST_SLOTS}
 
 abbrev pub is_unused : Slot → Bool
 is_unused Unused = true
-is_unused (Normal t) = false
-is_unused (Redirect target) = false
-is_unused Dead = false
+is_unused slot = false
 
 abbrev pub is_dead : Slot → Bool
-is_dead Unused = false
-is_dead (Normal t) = false
-is_dead (Redirect target) = false
 is_dead Dead = true
+is_dead slot = false
 
 abbrev pub redirects_to : ℕ → Slot → Bool
-redirects_to n Unused = false
-redirects_to n (Normal t) = false
 redirects_to n (Redirect target) = target == n
-redirects_to n Dead = false
+redirects_to n slot = false
 
 -- whether it is a version of this inserter, which nobody deleted
 abbrev pub is_undeleted_by : ℕ → Slot → Bool
-is_undeleted_by x Unused = false
 is_undeleted_by x (Normal t) = (t.header.xmin.0 == x) && (t.header.xmax.0 == 0)
-is_undeleted_by x (Redirect target) = false
-is_undeleted_by x Dead = false
+is_undeleted_by x slot = false
 
 -- the version in a slot, if it is normal
 abbrev pub version_of : Slot → Option Version
-version_of Unused = None
 version_of (Normal t) = Some t
-version_of (Redirect target) = None
-version_of Dead = None
+version_of slot = None
 
 -- its row, if this inserter made it and nobody deleted it
 abbrev pub undeleted_row : ℕ → Slot → Option Row
@@ -53,17 +43,14 @@ undeleted_row x slot = if is_undeleted_by x slot then option_map (λ t. t.row) (
 
 -- where a slot leads, if it is a redirect
 abbrev pub target_of : Slot → Option ℕ
-target_of Unused = None
-target_of (Normal t) = None
 target_of (Redirect target) = Some target
-target_of Dead = None
+target_of slot = None
 
 -- what a slot tells without its row
 abbrev pub head_of : Slot → SlotHead
-head_of Unused = head.Empty
 head_of (Normal t) = head.Version t.header
 head_of (Redirect target) = head.Redirect target
-head_of Dead = head.Empty
+head_of slot = head.Empty
 
 -- What stands at a number.
 
@@ -118,10 +105,8 @@ with_slot slots n slot = slice_set slots (n - 1) slot
 
 -- a slot with another header
 abbrev pub with_header : Slot → Header → Slot
-with_header Unused h = Unused
 with_header (Normal t) h = Normal (record t { header = h })
-with_header (Redirect target) h = Redirect target
-with_header Dead h = Dead
+with_header slot h = slot
 
 -- with another header in the slot of this number
 abbrev pub with_header_at : List Slot → ℕ → Header → List Slot
@@ -144,10 +129,8 @@ with_added slots slot =
 
 -- the bytes that a slot's version takes
 abbrev pub bytes_taken : Slot → ℕ
-bytes_taken Unused = 0
 bytes_taken (Normal t) = rounded_size_of t.row
-bytes_taken (Redirect target) = 0
-bytes_taken Dead = 0
+bytes_taken slot = 0
 
 -- what neither pointers nor versions take
 abbrev pub free_bytes : List Slot → ℕ
@@ -169,7 +152,5 @@ change_unless same n = if same then n else next_change n
 
 -- whether another header would change hints alone
 abbrev pub differs_in_hints_alone : Slot → Header → Bool
-differs_in_hints_alone Unused h = true
 differs_in_hints_alone (Normal t) h = same_but_hints t.header h
-differs_in_hints_alone (Redirect target) h = true
-differs_in_hints_alone Dead h = true
+differs_in_hints_alone slot h = true

@@ -10,22 +10,19 @@ use Rattle.page_layout.specs.declared.faults.PageFault.{PageFault}
 use Rattle.page_layout.specs.declared.faults.PageFault.TheVariants.{Overlap}
 use Rattle.page_layout.specs.declared.pointer.Pointer.{Pointer}
 use Rattle.page_layout.specs.declared.pointer.Extent.{Extent}
-use Rattle.page_sheet.specs.Slots.{bytes_taken}
 use Rattle.page_layout.specs.Layout.{pointer_in, upper_in}
-use Rattle.page_sheet.specs.Layout.{slot_in}
 use Rattle.page_layout.specs.Sound.{IsExtent, AreApart, end_of}
 use Rattle.page_slots.specs.Faults.{overlap, overlaps_among, overlap_fault}
 use Rattle.page_layout.specs.Faults.{first_among}
 use Rattle.page_layout.specs.Units.{is_marked, units_marked, AreMarked, SomeIsMarked}
 use Rattle.page_slots.specs.Marking.{SomeLiesOn, IsCovered}
 use Rattle.page_layout.proofs.PointerLemmas.{rounded-up}
-use Rattle.page_sheet.proofs.Shown.{shown}
 use Rattle.page_layout.proofs.OrderLemmas.{below_or_last, same_or_other}
 use Rattle.page_sheet.proofs.HeaderSet.{same_extent}
-use Rattle.page_sheet.proofs.PackLemmas.{rounded_even}
 use Rattle.page_layout.proofs.FirstLemmas.{first-more, none-each}
 use Rattle.page_layout.proofs.FaultLemmas.{none-of_one}
 use Rattle.page_layout.proofs.MarkLemmas.{counted-above}
+use Rattle.page_sheet.proofs.Added.{rounded_even}
 
 -- Overlaps.
 
@@ -318,12 +315,6 @@ covered-start bytes marks is =
     )
 
 -- A slot without a version takes no bytes.
-
-pub bare-taken : (bytes : List ℕ) (i : ℕ) (p : Pointer) → p ≡ pointer_in bytes i → ((e : Extent) → p ≡ Pointer.Normal e → ⊥) → bytes_taken (slot_in bytes i) ≡ 0
-bare-taken bytes i Pointer.Unused is none = ap bytes_taken (shown bytes i Pointer.Unused is)
-bare-taken bytes i (Pointer.Normal e) is none = absurd (none e refl)
-bare-taken bytes i (Pointer.Redirect target) is none = ap bytes_taken (shown bytes i (Pointer.Redirect target) is)
-bare-taken bytes i Pointer.Dead is none = ap bytes_taken (shown bytes i Pointer.Dead is)
 
 -- the units of a version, as they are computed
 pub at-span : (P : ℕ → ℕ → Type 0) (e : Extent) (a b : ℕ) → a ≡ e.from → b ≡ next_multiple_of e.len 8 → P (a / 8) ((a + b) / 8) → P (e.from / 8) (end_of e / 8)

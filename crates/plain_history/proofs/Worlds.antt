@@ -7,8 +7,8 @@ use Rattle.std.proofs.lemmas.Bool.{cases_eq}
 use Rattle.std.proofs.lemmas.List.{get_or-set_same, get_or-set_other}
 use Rattle.plain_history.specs.declared.plain.PlainSession.{PlainSession}
 use Rattle.history.specs.History.{Transaction}
-use Rattle.history.specs.World.{OpenSession, World, is_indexed}
-use Rattle.history.specs.Moves.{stepped, put, change, free_to_scan, blocked_by, aborted, transaction_of, appended, committed_by}
+use Rattle.history.specs.World.{OpenSession, World, is_indexed, joined}
+use Rattle.history.specs.Moves.{stepped, put, change, free_to_scan, blocked_by, aborted, appended, committed_by}
 use Rattle.plain_history.specs.Answers.{with_transaction}
 use Rattle.plain_history.specs.Plain.{Plain, open_of, session_in, too_new_in, world_of}
 use Rattle.waits.specs.View.{wait_in}
@@ -100,7 +100,7 @@ world-free p s n within = ap (λ marks. record (world_of p) { too_new = marks })
     (fun_ext (λ t. fun_ext (λ index. too_new_in-set p.too_new s (replicate n false) within t index ∙ ap (λ b. cond (nat_eq t s) b (too_new_in p.too_new t index)) (none_marked n index))))
 
 -- a transaction joins the history, and its session ends
-pub commits_so : (w mid after : World) (s : ℕ) (t : Transaction) (m : OpenSession) → w.session s ≡ Some m → t ≡ transaction_of m
+pub commits_so : (w mid after : World) (s : ℕ) (t : Transaction) (m : OpenSession) → w.session s ≡ Some m → t ≡ joined m.levels
     → mid ≡ with_transaction w t → after ≡ aborted mid s → after ≡ committed_by w s
 commits_so w mid after s t m at is appends ends =
     ends ∙ (ap (λ v. aborted v s) (appends ∙ ap (with_transaction w) is) ∙ ap (λ n. record (aborted w s) { history = appended w.history n }) (sym at))

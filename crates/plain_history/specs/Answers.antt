@@ -10,8 +10,8 @@ use Rattle.calls.specs.declared.reply.Refusal.TheVariants as refusal
 use Rattle.calls.specs.Bars.{BarsOpen, BarsFree}
 use Rattle.calls.specs.declared.step.TheConstants.{MOST_SESSIONS}
 use Rattle.history.specs.History.{Transaction, IsLate}
-use Rattle.history.specs.World.{World, world_sessions, OpenSession, start_now, view, SomeoneHasWritten, LacksIndex, ClosesRing, MayScan, IsReady, IsWriter, MayWrite, IsBlocked}
-use Rattle.history.specs.Moves.{stepped, change, as_failed, blocked_by, opened, transaction_of}
+use Rattle.history.specs.World.{World, world_sessions, OpenSession, start_now, view, SomeoneHasWritten, LacksIndex, ClosesRing, MayScan, IsReady, IsWriter, MayWrite, IsBlocked, joined}
+use Rattle.history.specs.Moves.{stepped, change, as_failed, blocked_by, opened}
 use Rattle.plain_cursor.specs.declared.order.PlainOrder.{PlainOrder}
 use Rattle.plain_cursor.specs.declared.order.Bounds.{Bounds}
 use Rattle.plain_cursor.specs.Order.{index_of, wanted}
@@ -120,7 +120,7 @@ abbrev pub MayCommit : World → ℕ → Type 0
 MayCommit w s = (m : OpenSession) × IsReady w s m
 
 abbrev pub WouldCommit : World → ℕ → Transaction → Type 0
-WouldCommit w s t = (m : OpenSession) × IsReady w s m × (t ≡ transaction_of m)
+WouldCommit w s t = (m : OpenSession) × IsReady w s m × (t ≡ joined m.levels)
 
 -- a step that all tests let pass may end for want of memory, which leaves all but the session's wait as it is
 abbrev pub OrMemory : Refusal → Type 0 → Type 0 → Type 0
@@ -142,4 +142,4 @@ abbrev pub HasPlainCursor : World → ℕ → Type 0
 HasPlainCursor w s = (m : OpenSession) × IsReady w s m × IsSome m.cursor
 
 abbrev pub with_plain_cursor : List Transaction → PlainOrder → Bounds → OpenSession → OpenSession
-with_plain_cursor history order bounds m = opened (plain_order_of order) (wanted bounds (index_of order) (view history m)) m
+with_plain_cursor history order bounds m = opened history (plain_order_of order) (wanted bounds (index_of order)) m

@@ -1,8 +1,8 @@
 //! The tests of a session's steps, and their transitions.
 
-ghost use Rattle.std.specs.Prelude.{◌≡◌, OnOk, OnErr, IfErr, IfOk, IsSome, Some};
-ghost use Rattle.history.specs.World.{world_sessions};
-ghost use Rattle.history.specs.Moves.{put, free_to_scan, new_session, begun, begun_by_statement, change, with_row, without_row, rolled_back_to, aborted, committed_by, stepped};
+ghost use Rattle.std.specs.Prelude.{◌≡◌, length, OnOk, OnErr, IfErr, IfOk, IsSome, Some};
+ghost use Rattle.history.specs.World.{world_sessions, by_snapshot, by_statement};
+ghost use Rattle.history.specs.Moves.{put, free_to_scan, new_session, begun, change, with_row, without_row, rolled_back_to, aborted, committed_by, stepped};
 ghost use Rattle.plain_history.specs.Plain.{isolation_of, world_of};
 ghost use Rattle.calls.specs.Bars.{BarsOpen, BarsReady};
 ghost use Rattle.plain_history.specs.Answers.{after_refusal, OrMemory, MayBegin, RefusesBegin, RefusesSave, RefusesRollBack, RefusesRelease, PlainReads, MaySave, MayRollBack, MayRelease, MayCommit, WouldCommit};
@@ -41,7 +41,8 @@ impl PlainHistory {
 
     /// The session is open, and reads what has committed until now.
     pub fn start(&mut self, s: u8)
-        ensures { world_of self.new ≡ begun (world_of self.old) s }
+        ensures { world_of self.new
+            ≡ begun (by_snapshot (length self.old.history)) (world_of self.old) s }
     {
         let start = self.history.len();
         self.start_by(s, PlainIsolation::BySnapshot(start));
@@ -49,7 +50,7 @@ impl PlainHistory {
 
     /// The session is open, and each of its statements reads what has committed until then.
     pub fn start_by_statement(&mut self, s: u8)
-        ensures { world_of self.new ≡ begun_by_statement (world_of self.old) s }
+        ensures { world_of self.new ≡ begun by_statement (world_of self.old) s }
     {
         self.start_by(s, PlainIsolation::ByStatement);
     }

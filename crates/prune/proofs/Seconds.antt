@@ -8,7 +8,7 @@ use Rattle.page_sheet.specs.Slots.{header_at}
 use Rattle.tuple_header.specs.declared.version.Header.{Header}
 use Rattle.commit_status.specs.Window.{Window}
 use Rattle.hot_chain.specs.Chain.{has_aborted, successor, next_in_chain, first_of, IsChain, IsEnd}
-use Rattle.hot_chain.proofs.Alone.{leads-nowhere}
+use Rattle.hot_chain.proofs.Alone.{leads-nowhere, distinct-alone}
 use Rattle.prune.specs.Glances.{IsPlainAt}
 use Rattle.prune.specs.OneDoubt.{second_of}
 use Rattle.prune.proofs.Passed.{kept-unreplaced}
@@ -25,10 +25,6 @@ plain-last w slots n plain = after-header w slots n (header_at slots n) refl (λ
 
 -- chains of one slot and of two
 
-distinct-one : (n : ℕ) → IsDistinct nat_eq (n ∷ [])
-unfolding IsDistinct
-distinct-one n = (tt, tt)
-
 distinct-two : (n k : ℕ) → nat_eq n k ≡ false → IsDistinct nat_eq (n ∷ k ∷ [])
 unfolding IsDistinct
 distinct-two n k off = ((off, tt), (tt, tt))
@@ -38,7 +34,7 @@ chain-of_one : (aborted : ℕ → Bool) (slots : List Slot) (root n : ℕ) → f
 chain-of_one aborted slots root n first ends = record {
   start = sym first;
   linked = λ i more. absurd (omega arith);
-  distinct = distinct-one n;
+  distinct = distinct-alone n;
   end = λ some. ends;
 }
 

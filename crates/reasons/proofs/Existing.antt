@@ -8,8 +8,8 @@ use Rattle.tuple_header.specs.declared.version.Header.{Header}
 use Rattle.commit_status.specs.declared.status.Status.{Status}
 use Rattle.commit_status.specs.declared.status.Status.TheVariants as status
 use Rattle.commit_status.specs.Window.{Window, top_of}
-use Rattle.snapshot.specs.Snap.{Snap, is_before}
-use Rattle.snapshot.proofs.Earliest.{before-precedes, precedes-before}
+use Rattle.snapshot.specs.Snap.{Snap}
+use Rattle.snapshot.proofs.Earliest.{precedes-or-not}
 use Rattle.visibility.specs.Seeing.{inserter, deleter}
 use Rattle.visibility.specs.Visible.{state_of}
 use Rattle.reasons.specs.declared.sighting.XidStanding.{XidStanding}
@@ -23,12 +23,6 @@ use Rattle.reasons.specs.declared.reason.Verdict.{Verdict}
 use Rattle.reasons.specs.Sightings.{IsXidStanding, AsksParent, IsSighting}
 use Rattle.reasons.specs.Reasons.{IsReasonIn, IsTouchIn, IsVerdictIn}
 use Rattle.reasons.proofs.SightingLemmas.{xid_of}
-
-precedes-or-not : (a b : ℕ) → Precedes a b ⊎ (¬ Precedes a b)
-precedes-or-not a b = elim (cases_Bool (is_before a b)) [
-  | inl before ↦ inl (before-precedes a b before)
-  | inr after ↦ inr (λ p. let e = precedes-before a b p in absurd (cc))
-]
 
 contains-or-not : (xs : List ℕ) (x : ℕ) → Contains xs x ⊎ (¬ Contains xs x)
 contains-or-not [] x = inr (Contains-none x)

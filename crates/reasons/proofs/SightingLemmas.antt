@@ -1,12 +1,12 @@
 -- A snapshot sees an id exactly where its sight says so; and an id has one sight.
 use Rattle.std.proofs.Common.{◌≡◌, ℕ, Bool, true, false, refl, sym, ap, ◌∙◌, subst, inl, inr}
 use Rattle.std.specs.Prelude.{◌↔◌}
-use Rattle.std.specs.List.{Contains}
 use Rattle.std.proofs.lemmas.Bool.{cases_Bool}
 use Rattle.xid_circle.specs.Circle.{Precedes}
 use Rattle.xid_circle.specs.declared.Xid.{Xid}
 use Rattle.commit_status.specs.Window.{Window, top_of}
 use Rattle.snapshot.specs.Snap.{Snap, Sees, SeesAlone, tested}
+use Rattle.snapshot.proofs.Sights.{listed-unseen}
 use Rattle.reasons.specs.declared.sighting.XidStanding.{XidStanding}
 use Rattle.reasons.specs.declared.sighting.XidStanding.TheVariants.{Before, NotBefore, Listed, Unlisted}
 use Rattle.reasons.specs.declared.sighting.Sighting.{Sighting}
@@ -23,14 +23,10 @@ not-before : (s : Snap) (x : ℕ) → ¬ Precedes x s.xmin → ¬ Precedes x s.x
 not-before s x late past (SeesAlone.early p) = late p
 not-before s x late past (SeesAlone.unlisted p n) = past p
 
-is-listed : (s : Snap) (x : ℕ) → ¬ Precedes x s.xmin → Contains s.listed x → ¬ SeesAlone s x
-is-listed s x late c (SeesAlone.early p) = late p
-is-listed s x late c (SeesAlone.unlisted p n) = n c
-
 standing-decides : (s : Snap) (x : ℕ) (standing : XidStanding) → IsXidStanding s x standing → SeesAlone s x ↔ (standing_counts standing ≡ true)
 standing-decides s x (Before limit) h = always (SeesAlone.early h.1)
 standing-decides s x (NotBefore limit) h = never (not-before s x h.1 h.2)
-standing-decides s x Listed h = never (is-listed s x h.0 h.2)
+standing-decides s x Listed h = never (listed-unseen s x h.0 h.2)
 standing-decides s x Unlisted h = always (SeesAlone.unlisted h.1 h.2)
 
 -- from xmin on the id that is tested decides

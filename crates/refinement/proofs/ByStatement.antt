@@ -3,16 +3,15 @@ use Rattle.std.proofs.Common.{◌≡◌, ℕ, List, [], ◌∷◌, ◌++◌, len
 use Rattle.std.specs.Prelude.{IsSome, Contains}
 use Rattle.std.specs.Option.{is_some}
 use Rattle.std.proofs.lemmas.Bool.{both_ways}
-use Rattle.std.proofs.lemmas.Option.{slice_get_within}
 use Rattle.xid_circle.specs.declared.Tid.{Tid}
 use Rattle.tuple_header.specs.declared.version.Row.{Row}
 use Rattle.tuple_header.specs.Version.{Version}
 use Rattle.commit_status.specs.declared.status.Status.{Status}
 use Rattle.commit_status.specs.declared.status.Status.TheVariants.{Committed}
-use Rattle.history.specs.History.{Write, Transaction, committed, written, own_or, IsLate}
+use Rattle.history.specs.History.{Write, Transaction, committed, written, own_or}
 use Rattle.history.specs.World.{OpenSession, joined, own_write}
 use Rattle.refinement.specs.Heap.{SeenSession}
-use Rattle.history.proofs.HistoryLemmas.{written-append, IsSome-or_second}
+use Rattle.history.proofs.HistoryLemmas.{written-append, IsSome-or_second, IsLate-now}
 use Rattle.visibility.specs.Seeing.{HasCommitted, Reads, by_itself, by_others, VisibleBy, Touches, inserter, deleter}
 use Rattle.refinement.specs.Visible.{HasMissed, IsFreshSnapshot, At}
 use Rattle.refinement.specs.Changes.{FinishesIds, SameSight}
@@ -40,9 +39,6 @@ own_or-none (Some r) p none = absurd (none refl)
 -- Of one that reads by statement nothing is late, and nothing is missed.
 pub none_missed : {status : ℕ → Option Status} (v : Version) → ¬ HasMissed status (λ x. HasCommitted status x) v
 none_missed v missed = missed.1.2 missed.1.1
-
-pub none_late : (history : List Transaction) (k : ℕ) → ¬ IsLate history (length history) k
-none_late history k late = let within = slice_get_within history late.0 late.1 late.3 in let from = late.2 in absurd (omega arith)
 
 -- Another session commits, whose ids these are: the reader that has these ids of its own, and has written this, sees what it has
 -- written itself as before, and of every other key what a new session sees.
@@ -130,12 +126,12 @@ module _ (status status' : ℕ → Option Status) (store : Tid → Option Versio
     levels = Levels-commit_by_statement e.own e.saved m.levels (nested_of status store history (λ x. HasCommitted status x) (length history) e.own e.saved m.levels h.levels) h.level_traces alone h.levels;
     level_traces = h.level_traces;
     traces = record {
-      late_missed = λ k late. absurd (none_late (history ++ t ∷ []) k late);
+      late_missed = λ k late. absurd (IsLate-now (history ++ t ∷ []) k late);
       missed_late = λ p v at missed. absurd (none_missed v missed);
-      timely = λ p v at current by late. none_late (history ++ t ∷ []) v.row.key late;
+      timely = λ p v at current by late. IsLate-now (history ++ t ∷ []) v.row.key late;
     };
     began = omega arith;
-    in_time = λ k wrote late. none_late (history ++ t ∷ []) k late;
+    in_time = λ k wrote late. IsLate-now (history ++ t ∷ []) k late;
     active_unseen = λ y active done. running_uncommitted status' y active done;
     own_active = λ y mine. IsActive-finish_other finishes y (λ p. foreign y p mine) (h.own_active y mine);
   }

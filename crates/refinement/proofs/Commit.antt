@@ -11,7 +11,7 @@ use Rattle.commit_status.specs.declared.status.Status.TheVariants.{Committed}
 use Rattle.snapshot.specs.Snap.{Snap}
 use Rattle.history.specs.History.{Transaction, committed, written, own_or}
 use Rattle.history.specs.World.{World, Isolation, by_snapshot, by_statement, OpenSession, joined, own_write, start_now, start_by}
-use Rattle.history.specs.Moves.{aborted, transaction_of, committed_by, appended}
+use Rattle.history.specs.Moves.{aborted, committed_by, appended}
 use Rattle.history.proofs.HistoryLemmas.{at_same, at_other, committed-push_all}
 use Rattle.refinement.specs.Heap.{SeenIsolation, seen_by_snapshot, seen_by_statement, SeenSession, Heap, kept_snapshot, SightOfStatement, SightOfCursor, StatementSees, CursorSees}
 use Rattle.visibility.specs.Seeing.{HasCommitted, Reads, by_itself, by_others, VisibleBy, Touches, inserter, deleter}
@@ -36,7 +36,7 @@ seen_or_not P decided h = elim decided [ inl seen ↦ seen | inr unseen ↦ absu
 
 -- the world after the commit of the session, whose model is m
 abbrev pub with_transaction : World → ℕ → OpenSession → World
-with_transaction w s m = record (aborted w s) { history = w.history ++ transaction_of m ∷ [] }
+with_transaction w s m = record (aborted w s) { history = w.history ++ joined m.levels ∷ [] }
 
 pub committed-is : (w : World) (s : ℕ) (m : OpenSession) → w.session s ≡ Some m → committed_by w s ≡ with_transaction w s m
 committed-is w s m there = ap (λ history. world history) (ap (appended w.history) there)
@@ -70,7 +70,7 @@ pub Agrees-commit : (h : Heap) (w : World) (s : ℕ) (e : SeenSession) (m : Open
     → HeapAgrees h w → HeapAgrees (record h { status = status'; sees = sees'; session = session' }) (with_transaction w s m)
 Agrees-commit h w s e m status' sees' session' only at there finishes same decided mine agrees = record {
   opened = opened-change h h' w w' s agrees only.others models
-      (λ o f n ne bt there' old. other_commits h.status status' h.sees sees' h.version w.history e.own (transaction_of m) finishes carries (spares_current mine) current made f.isolation n.isolation old.isolation
+      (λ o f n ne bt there' old. other_commits h.status status' h.sees sees' h.version w.history e.own (joined m.levels) finishes carries (spares_current mine) current made f.isolation n.isolation old.isolation
       (λ snap is. same snap (o, f, bt, is)) (λ some. cursor_same h status' sees' o f bt same (old.kept some)) (λ x ours theirs. ne (agrees.apart o s f e x bt at theirs ours))
       (λ k theirs ours. ne (agrees.alone o s k (n, there', theirs) (m, there, ours))) old)
       (λ e' at'. absurd (none-some e' (sym only.itself ∙ at')));
@@ -97,7 +97,7 @@ Agrees-commit h w s e m status' sees' session' only at there finishes same decid
     carries = own_traced mine
 
     rows-after : (k : ℕ) → committed w'.history (length w'.history) k ≡ own_or (own_write m k) (committed w.history (length w.history) k)
-    rows-after k = committed-push_all w.history (transaction_of m) k
+    rows-after k = committed-push_all w.history (joined m.levels) k
 
     -- the versions of a key that the session wrote: a new session sees those that it saw itself
     seen_by_it : (p : Tid) (y : ℕ) (v : Version) → At h.version p v → IsSome (own_write m v.row.key) → Touches y v.header → HasCommitted h.status y → StatementSees h e.isolation y

@@ -17,12 +17,13 @@ use Rattle.refinement.specs.Changes.{Alters}
 use Rattle.refinement.specs.Agrees.{SessionAgrees, HeapAgrees}
 use Rattle.refinement.proofs.ShowsLemmas.{Shows-alter_same}
 use Rattle.refinement.proofs.Statuses.{some_of}
-use Rattle.refinement.proofs.Versions.{Alters-cases, active_not_committed}
+use Rattle.refinement.proofs.Versions.{Alters-cases}
 use Rattle.refinement.proofs.Readers.{IsDeleted, wrote_before}
 use Rattle.refinement.proofs.Others.{SessionAgrees-delete_other}
 use Rattle.refinement.proofs.Itself.{IsCurrent, SessionAgrees-delete}
 use Rattle.refinement.proofs.SessionsLemmas.{Matches, opened-change, idle-change, alone-change}
 use Rattle.refinement.proofs.Steps.{own_traced}
+use Rattle.refinement.proofs.Isolations.{running_uncommitted}
 
 -- the version is deleted under an id that the session has
 pub Agrees-delete : (h : Heap) (w : World) (s : ℕ) (e : SeenSession) (m : OpenSession) (x : ℕ) (place : Tid) (old new : Version) (store' : Tid → Option Version)
@@ -84,7 +85,7 @@ Agrees-delete h w s e m x place old new store' alters deleted at current there b
     dead y is done = in_time (mine.traces.missed_late place old alters.before (y, (deleted_by is, done, λ sees. seen.kept y is (by_others sees done))))
 
     not_by : (y : ℕ) → Some y ≡ Some x → ¬ HasCommitted h.status y
-    not_by y is done = active_not_committed h.status x active (subst (λ z. HasCommitted h.status z) (same_Some y x is) done)
+    not_by y is done = running_uncommitted h.status x active (subst (λ z. HasCommitted h.status z) (same_Some y x is) done)
 
     still : VisibleBy (HasCommitted h.status) old.header → VisibleBy (HasCommitted h.status) new.header
     still v = record { made = λ y is. v.made y (sym deleted.same_maker ∙ is); kept = λ y is done. not_by y (sym is ∙ deleted.by) done }

@@ -11,13 +11,12 @@ use Rattle.tuple_header.specs.Version.{Version}
 use Rattle.commit_status.specs.declared.status.Status.{Status}
 use Rattle.history.specs.History.{Write, Transaction, written}
 use Rattle.history.specs.Moves.{add_write}
-use Rattle.history.proofs.HistoryLemmas.{written-append, IsSome-or_second}
+use Rattle.history.proofs.HistoryLemmas.{written-append, IsSome-or_second, IsSome-or_first}
 use Rattle.visibility.specs.Seeing.{Touches, made_by, deleted_by, deleter}
 use Rattle.refinement.specs.Visible.{IsBy, At}
 use Rattle.snapshot.specs.Own.{saved_with}
 use Rattle.refinement.specs.Changes.{AddsVersion, Alters}
 use Rattle.refinement.specs.Agrees.{Traced, IsOfNewest, LevelTraces, LevelsAgree}
-use Rattle.refinement.proofs.Statuses.{none_given}
 use Rattle.refinement.proofs.Versions.{SomeVersion-adds, SomeVersion-alters, Adds-cases, Alters-cases, own-untouched}
 use Rattle.refinement.proofs.Readers.{IsNew, IsDeleted, touches_new, wrote_same, wrote_before, wrote_still}
 
@@ -110,10 +109,6 @@ or_cases : {A : Type 0} (o p : Option A) → IsSome (option_or o p) → IsSome o
 or_cases None p some = inr some
 or_cases (Some x) p some = inl refl
 
-or_first : {A : Type 0} (o p : Option A) → IsSome o → IsSome (option_or o p)
-or_first {A} None p some = absurd (none_given {A = A} None refl some)
-or_first (Some x) p some = refl
-
 pub Traced-join : {store : Tid → Option Version} {P Q R : ℕ → Type 0} (writes below : List Write) → ((x : ℕ) → R x → P x ⊎ Q x) → ((x : ℕ) → P x → R x) → ((x : ℕ) → Q x → R x)
     → Traced store P writes → Traced store Q below → Traced store R (below ++ writes)
 Traced-join {store} {P} {Q} {R} writes below either first second h g = record {
@@ -122,7 +117,7 @@ Traced-join {store} {P} {Q} {R} writes below either first second h g = record {
     | inr old ↦ (let some = g.written_there k old in (some.0, some.1, some.2, some.3, (some.4.0, some.4.1, second some.4.0 some.4.2)))
   ];
   there_written = λ p v at by. subst (λ o. IsSome o) (sym (written-append below writes v.row.key)) (elim (either by.0 by.2) [
-    | inl new ↦ or_first (written writes v.row.key) (written below v.row.key) (h.there_written p v at (by.0, by.1, new))
+    | inl new ↦ IsSome-or_first (written writes v.row.key) (written below v.row.key) (h.there_written p v at (by.0, by.1, new))
     | inr old ↦ IsSome-or_second (written writes v.row.key) (written below v.row.key) (g.there_written p v at (by.0, by.1, old))
   ]);
 }

@@ -14,11 +14,11 @@ use Rattle.visibility.specs.Seeing.{HasCommitted, HasAborted, IsRunning, Reads, 
 use Rattle.refinement.specs.Visible.{ReaderSees, HasMissed, IsOwn, IsBy, At, SomeVersion}
 use Rattle.refinement.specs.Changes.{MayRemove, IsPast, never_was, is_over}
 use Rattle.refinement.specs.Agrees.{Shows, ReaderAgrees, Traced, SessionAgrees, HeapAgrees}
-use Rattle.refinement.proofs.Versions.{active_not_committed}
 use Rattle.refinement.proofs.CursorsLemmas.{CursorAgrees-keeps, KeepsSeen-removes}
 use Rattle.refinement.proofs.Readers.{Levels-map, Levels-top}
-use Rattle.refinement.proofs.Isolations.{of_statement, of_cursor, CursorReads-to}
+use Rattle.refinement.proofs.Isolations.{of_statement, of_cursor, CursorReads-to, running_uncommitted}
 use Rattle.refinement.proofs.LevelTraces.{nested_of, LevelTraces-map}
+use Rattle.refinement.proofs.SettlingLemmas.{aborted_not_committed, aborted_not_active}
 
 -- versions that are not seen go
 pub Shows-removes : {store store' : Tid → Option Version} {P V : Version → Type 0} {f : ℕ → Option Row}
@@ -41,13 +41,6 @@ Traced-removes removes apart h = record {
   written_there = λ k wrote. SomeVersion-removes removes apart k (h.written_there k wrote);
   there_written = λ p v at by. h.there_written p v (removes.kept p v at) by;
 }
-
--- no id is aborted and committed, or aborted and in progress
-aborted_not_committed : (status : ℕ → Option Status) (x : ℕ) → HasAborted status x → HasCommitted status x → ⊥
-aborted_not_committed status x aborted done = cc
-
-aborted_not_active : (status : ℕ → Option Status) (x : ℕ) → HasAborted status x → IsRunning status x → ⊥
-aborted_not_active status x aborted active = cc
 
 -- A reader of this sight: its own ids are in progress, and it sees what has committed and is seen by every snapshot that is kept
 pub record IsReaderOf (status : ℕ → Option Status) (sees : Snap → ℕ → Type 0) (session : ℕ → Option SeenSession) (sight : ℕ → Type 0) (own : List ℕ) : Type 0 where
@@ -74,9 +67,9 @@ past_foreign {status} reader made h p v at (never_was x makes aborted) (z, made_
 past_foreign {status} reader made h p v at (never_was x makes aborted) (z, deleted_by is, mine) =
     aborted_unread reader x aborted (h.whole p z v at is (by_itself mine) x makes)
 past_foreign {status} reader made h p v at (is_over y by done all) (z, made_by is, mine) =
-    active_not_committed status z (reader.active z mine) (made p y v at by done z is)
+    running_uncommitted status z (reader.active z mine) (made p y v at by done z is)
 past_foreign {status} reader made h p v at (is_over y by done all) (z, deleted_by is, mine) =
-    active_not_committed status y (subst (λ z. IsRunning status z) (same_Some z y (sym is ∙ by)) (reader.active z mine)) done
+    running_uncommitted status y (subst (λ z. IsRunning status z) (same_Some z y (sym is ∙ by)) (reader.active z mine)) done
 
 -- nor is any missed
 past_seen : {status : ℕ → Option Status} {store : Tid → Option Version} {history : List Transaction} {sees : Snap → ℕ → Type 0} {session : ℕ → Option SeenSession} {sight : ℕ → Type 0} {start : ℕ} {own : List ℕ} {writes : List Write}
@@ -88,7 +81,7 @@ past_seen {status} reader made h p v at (never_was x makes aborted) (z, (deleted
     aborted_not_committed status x aborted (made p z v at is done x makes)
 past_seen {status} {store} {history} {sees} {session} {sight} reader made h p v at (is_over y by done all) (z, (made_by is, done', unseen)) =
     elim (h.whole p y v at by (by_others (reader.over y done all) done) z is) [
-      | by_itself mine ↦ active_not_committed status z (reader.active z mine) done'
+      | by_itself mine ↦ running_uncommitted status z (reader.active z mine) done'
       | by_others seen _ ↦ unseen seen
     ]
 past_seen {status} {store} {history} {sees} {session} {sight} reader made h p v at (is_over y by done all) (z, (deleted_by is, done', unseen)) =

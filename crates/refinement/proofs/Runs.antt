@@ -3,7 +3,7 @@ use Rattle.std.proofs.Common.{◌≡◌, ℕ, suc, ◌<◌, ◌≤◌, length, a
 use Rattle.std.specs.Prelude.{if◌then◌else◌}
 use Rattle.std.proofs.lemmas.Option.{none-some, same_Some}
 use Rattle.history.specs.World.{World, OpenSession, beginning, MayIndex, IsBlocked, ClosesRing}
-use Rattle.history.specs.Moves.{free_to_scan, with_made_index, with_index_on, with_vacuum}
+use Rattle.history.specs.Moves.{free_to_scan, with_made_index, with_index_on, with_vacuum, stepped, change, as_failed, blocked_by}
 use Rattle.history.specs.Events.{Happens, passes, begins, begins_by_statement, conflicts, waits, deadlocks, saves, rolls_back_to, releases, commits, aborts, opens_index, opens_heap, opens_keys, takes, takes_keys, closes, StepsReach, stays, goes_on, begins_vacuum, ends_vacuum}
 use Rattle.history.specs.Events as events
 use Rattle.history.proofs.HistoryLemmas.{at_other}
@@ -18,7 +18,7 @@ use Rattle.calls.specs.declared.reply.Refusal.TheVariants as refusal
 use Rattle.calls.specs.Words.{row_of}
 use Rattle.calls.specs.Writes.{WriteStep, inserts, updates, deletes, key_of}
 use Rattle.calls.specs.Steps.{session_of}
-use Rattle.refinement.specs.Allowed.{savepoints, passed, Allows, AllowsHindered, after_refused_write, next, AllowsReply, waiting, failing, after_reply, IsRun, after, IsLawful}
+use Rattle.refinement.specs.Allowed.{savepoints, by_its_session, Allows, AllowsHindered, after_refused_write, next, AllowsReply, after_reply, IsRun, after, IsLawful}
 
 refused_happens : (w : World) (s : ℕ) (write : WriteStep) (r : Refusal) → AllowsHindered w s r write → Happens w s (after_refused_write w s r)
 refused_happens w s write refusal.Conflict allows = conflicts (key_of write) allows.0 allows.1.writer allows.2
@@ -48,7 +48,7 @@ data LeadsTo (w : World) (taken : Step) : World → Type 0 where
   by_beginning : TurnsVacuum taken → w.has_vacuum ≡ false → LeadsTo w taken (with_vacuum true w)
   by_ending : TurnsVacuum taken → w.has_vacuum ≡ true → LeadsTo w taken (with_vacuum false w)
 
-passes_on : (w : World) (step : Step) (s : Option ℕ) → LeadsTo w step (passed w s)
+passes_on : (w : World) (step : Step) (s : Option ℕ) → LeadsTo w step (by_its_session w (stepped w) s)
 passes_on w step None = stays_so
 passes_on w step (Some s) = by_session s passes
 
@@ -105,16 +105,16 @@ blocked_of w (step.Delete s k) o allows = blocked_by_write w (step.Delete s k) s
 blocked_of w _ o allows = absurd allows
 
 -- a session is told that it waits, or that it would close a ring
-leads_to_wait : (w : World) (step : Step) (o : ℕ) → AllowsReply w step (reply.Refused (refusal.Busy o)) → LeadsTo w step (waiting w (session_of step) o)
+leads_to_wait : (w : World) (step : Step) (o : ℕ) → AllowsReply w step (reply.Refused (refusal.Busy o)) → LeadsTo w step (by_its_session w (λ s. blocked_by w s o) (session_of step))
 leads_to_wait w step o allows =
     let b = blocked_of w step o allows.0 in
-    subst (λ t. LeadsTo w step (waiting w t o)) (sym b.of) (by_session b.session (waits b.key o b.model b.blocked (allows.1 b.session b.of)))
+    subst (λ t. LeadsTo w step (by_its_session w (λ s. blocked_by w s o) t)) (sym b.of) (by_session b.session (waits b.key o b.model b.blocked (allows.1 b.session b.of)))
 
-leads_to_deadlock : (w : World) (step : Step) → AllowsReply w step (reply.Refused refusal.Deadlock) → LeadsTo w step (failing w (session_of step))
+leads_to_deadlock : (w : World) (step : Step) → AllowsReply w step (reply.Refused refusal.Deadlock) → LeadsTo w step (by_its_session w (λ s. change w s as_failed) (session_of step))
 leads_to_deadlock w step allows =
     let b = blocked_of w step allows.1 allows.3 in
     let same : allows.0 ≡ b.session = same_Some allows.0 b.session (sym allows.2 ∙ b.of) in
-    subst (λ t. LeadsTo w step (failing w t)) (sym b.of)
+    subst (λ t. LeadsTo w step (by_its_session w (λ s. change w s as_failed) t)) (sym b.of)
     (by_session b.session (deadlocks b.key allows.1 b.model b.blocked (subst (λ s. ClosesRing w.waits_for s allows.1) same allows.4)))
 
 leads_on_reply : (w : World) (step : Step) (reply : Reply) → AllowsReply w step reply → LeadsTo w step (after_reply w step reply)

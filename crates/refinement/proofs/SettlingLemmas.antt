@@ -19,10 +19,10 @@ use Rattle.refinement.proofs.Isolations.{of_statement, of_cursor, CursorReads-to
 use Rattle.refinement.proofs.LevelTraces.{nested_of, LevelTraces-map}
 use Rattle.refinement.specs.Settling.{MakerSettles, DeleterSettles, VersionSettles, Settles}
 
-aborted_not_committed : (status : ℕ → Option Status) (x : ℕ) → HasAborted status x → HasCommitted status x → ⊥
+pub aborted_not_committed : (status : ℕ → Option Status) (x : ℕ) → HasAborted status x → HasCommitted status x → ⊥
 aborted_not_committed status x aborted done = cc
 
-aborted_not_active : (status : ℕ → Option Status) (x : ℕ) → HasAborted status x → IsRunning status x → ⊥
+pub aborted_not_active : (status : ℕ → Option Status) (x : ℕ) → HasAborted status x → IsRunning status x → ⊥
 aborted_not_active status x aborted active = cc
 
 committed_not_active : (status : ℕ → Option Status) (x : ℕ) → HasCommitted status x → IsRunning status x → ⊥

@@ -12,7 +12,7 @@ use Rattle.commit_status.specs.declared.status.Status.TheVariants.{InProgress, C
 use Rattle.snapshot.specs.Snap.{Snap}
 use Rattle.history.specs.History.{Write, Transaction, written, reading, IsLate}
 use Rattle.history.specs.World.{World, Isolation, by_snapshot, by_statement, OpenSession, joined, own_write, Holds, beginning, start_by, start_now}
-use Rattle.history.specs.Moves.{put, free_to_scan, new_session as new_model, begun, begun_by_statement, with_vacuum, with_row, as_failed, aborted}
+use Rattle.history.specs.Moves.{put, free_to_scan, new_session as new_model, begun, with_vacuum, with_row, as_failed, aborted}
 use Rattle.history.proofs.HistoryLemmas.{at_same, at_other, joined-add_write}
 use Rattle.refinement.specs.Heap.{SeenIsolation, seen_by_snapshot, seen_by_statement, SeenSession, Heap, SightOfStatement, SightOfCursor, StatementSees, CursorSees}
 use Rattle.visibility.specs.Seeing.{HasCommitted, IsRunning, Touches, deleter}
@@ -22,10 +22,10 @@ use Rattle.refinement.specs.Agrees.{Traced, LevelTraces, IsSameIsolation, Sessio
 use Rattle.refinement.proofs.ShowsLemmas.{Shows-same, Shows-add_unseen}
 use Rattle.refinement.proofs.Statuses.{keeps-give, none_given, some_of, IsCommitted-give, IsActive-give_cases, IsCommitted-finish_old, IsCommitted-abort, IsActive-finish, given-finish, given-give, Finishes-none}
 use Rattle.visibility.proofs.Verdicts.{VisibleBy-same}
-use Rattle.refinement.proofs.Versions.{Adds-cases, active_not_committed}
+use Rattle.refinement.proofs.Versions.{Adds-cases}
 use Rattle.refinement.proofs.Readers.{IsNew, touches_new, wrote_before}
 use Rattle.refinement.proofs.LevelTraces.{Traced-join, Nested, nested_of}
-use Rattle.refinement.proofs.Isolations.{SameSights, IsUnseen, statement_same, cursor_same, statement_unseen, cursor_unseen, committed-fresh, committed_sight-give, committed_sight-abort}
+use Rattle.refinement.proofs.Isolations.{SameSights, IsUnseen, statement_same, cursor_same, statement_unseen, cursor_unseen, committed-fresh, committed_sight-give, committed_sight-abort, running_uncommitted}
 use Rattle.refinement.proofs.Others.{SessionAgrees-add_other, SessionAgrees-give_other, SessionAgrees-abort_other}
 use Rattle.refinement.proofs.Itself.{IsCurrent, new_session, SessionAgrees-begin, SessionAgrees-fail, SessionAgrees-insert, SessionAgrees-give}
 use Rattle.refinement.proofs.SessionsLemmas.{at_value, Matches, opened-change, idle-change, owned-change, apart-change, alone-change}
@@ -135,13 +135,13 @@ Agrees-opens h w s isolation model session' only idle same start fresh agrees = 
 
 pub Agrees-begin : (h : Heap) (w : World) (s : ℕ) (snapshot : Snap) (session' : ℕ → Option SeenSession)
     → OnlyIs h.session session' s (Some (new_session (seen_by_snapshot snapshot))) → h.session s ≡ None → IsFreshSnapshot h.status (h.sees snapshot)
-    → HeapAgrees h w → HeapAgrees (record h { session = session' }) (begun w s)
+    → HeapAgrees h w → HeapAgrees (record h { session = session' }) (begun (by_snapshot (length w.history)) w s)
 Agrees-begin h w s snapshot session' only idle fresh agrees = Agrees-indexes (record h { session = session' }) (put w s (Some (new_model (by_snapshot (length w.history))))) w.has_index (free_to_scan w s).too_new
     (Agrees-opens h w s (seen_by_snapshot snapshot) (by_snapshot (length w.history)) session' only idle tt refl fresh agrees)
 
 pub Agrees-begin_by_statement : (h : Heap) (w : World) (s : ℕ) (session' : ℕ → Option SeenSession)
     → OnlyIs h.session session' s (Some (new_session (seen_by_statement None))) → h.session s ≡ None
-    → HeapAgrees h w → HeapAgrees (record h { session = session' }) (begun_by_statement w s)
+    → HeapAgrees h w → HeapAgrees (record h { session = session' }) (begun by_statement w s)
 Agrees-begin_by_statement h w s session' only idle agrees = Agrees-indexes (record h { session = session' }) (put w s (Some (new_model by_statement))) w.has_index (free_to_scan w s).too_new
     (Agrees-opens h w s (seen_by_statement None) by_statement session' only idle tt refl (committed-fresh h.status) agrees)
 
@@ -258,7 +258,7 @@ Agrees-insert h w s e m x place new store' adds is_new at current there bare non
       subst (λ e. Matches h' w' s e) is
       (with_row w.history new.row m, at_same s (Some (with_row w.history new.row m)) (w.session s), SessionAgrees-insert x place new adds is_new current bare none in_time mine));
   idle = idle-change h h' w w' s agrees (λ o ne. refl) models (λ at'. absurd (none-some e (sym at' ∙ at)));
-  current = Shows-add_unseen adds (λ p v bt seen. seen) (λ p v bt seen. seen) (λ seen. active_not_committed h.status x active (seen.made x is_new.made)) agrees.current;
+  current = Shows-add_unseen adds (λ p v bt seen. seen) (λ p v bt seen. seen) (λ seen. running_uncommitted h.status x active (seen.made x is_new.made)) agrees.current;
   made = λ p y u at' is done. elim (Adds-cases adds p u at') [
     | inl old ↦ agrees.made p y u old is done
     | inr now ↦ absurd (none-some y (sym is_new.kept ∙ (ap (λ (u : Version). deleter u.header) (sym now.1) ∙ is)))

@@ -15,8 +15,9 @@ use Rattle.refinement.specs.Changes.{AddsVersion, Alters, FinishesIds, SameSight
 use Rattle.refinement.specs.Agrees.{Traced, TracesAgree}
 use Rattle.refinement.proofs.Statuses.{IsCommitted-finish_old, IsCommitted-commit_cases, IsCommitted-commit}
 use Rattle.visibility.proofs.Verdicts.{VisibleBy-same}
-use Rattle.refinement.proofs.Versions.{SomeVersion-weaker, SomeVersion-adds, SomeVersion-alters, Adds-cases, Alters-cases, active_not_committed}
+use Rattle.refinement.proofs.Versions.{SomeVersion-weaker, SomeVersion-adds, SomeVersion-alters, Adds-cases, Alters-cases}
 use Rattle.refinement.proofs.Readers.{IsNew, IsDeleted, touches_new}
+use Rattle.refinement.proofs.Isolations.{running_uncommitted}
 
 -- what is seen of an id that committed stays as it is
 pub unseen_still : {status : ℕ → Option Status} {sees sees' : ℕ → Type 0} → SameSight status sees sees' → (x : ℕ) (s : Status) → status x ≡ Some s → ¬ sees x → ¬ sees' x
@@ -43,11 +44,11 @@ TracesAgree-add {status} {store} {store'} {history} {sees} {start} x place new a
   missed_late = λ p v at missed. elim (Adds-cases adds p v at) [
     | inl old ↦ h.missed_late p v old missed
     | inr now ↦ (let same : missed.0 ≡ x = touches_new missed.0 is_new (subst (λ (u : Version). Touches missed.0 u.header) now.1 missed.1.0) in
-        absurd (active_not_committed status x active (subst (λ y. HasCommitted status y) same missed.1.1)))
+        absurd (running_uncommitted status x active (subst (λ y. HasCommitted status y) same missed.1.1)))
   ];
   timely = λ p v at current by. elim (Adds-cases adds p v at) [
     | inl old ↦ h.timely p v old current by
-    | inr now ↦ absurd (active_not_committed status x active (current.made x (ap (λ (u : Version). inserter u.header) now.1 ∙ is_new.made)))
+    | inr now ↦ absurd (running_uncommitted status x active (current.made x (ap (λ (u : Version). inserter u.header) now.1 ∙ is_new.made)))
   ];
 }
 
@@ -77,7 +78,7 @@ TracesAgree-delete {status} {store} {store'} {history} {sees} {start} x place ol
 
     back : HasMissed status sees new → HasMissed status sees old
     back (y, (made_by is, done, unseen)) = (y, (made_by (sym deleted.same_maker ∙ is), done, unseen))
-    back (y, (deleted_by is, done, unseen)) = absurd (active_not_committed status x active (subst (λ z. HasCommitted status z) (same_Some y x (sym is ∙ deleted.by)) done))
+    back (y, (deleted_by is, done, unseen)) = absurd (running_uncommitted status x active (subst (λ z. HasCommitted status z) (same_Some y x (sym is ∙ deleted.by)) done))
 
 -- the transaction wrote no key of which there is a current version that none of the ids touched
 abbrev pub SparesCurrent : (ℕ → Option Status) → (Tid → Option Version) → List ℕ → Transaction → Type 0
@@ -121,5 +122,5 @@ TracesAgree-commit {status} {status'} {store} {history} {sees} {sees'} {start} o
 
     -- and none of the ids touched it
     untouched : (u : Version) → VisibleBy (HasCommitted status') u.header → ((x : ℕ) → inserter u.header ≡ Some x → sees' x) → (x : ℕ) → Contains own x → ¬ Touches x u.header
-    untouched u current by x mine (made_by is) = active_not_committed status x (finishes.active x mine) (maker u current by x is)
+    untouched u current by x mine (made_by is) = running_uncommitted status x (finishes.active x mine) (maker u current by x is)
     untouched u current by x mine (deleted_by is) = current.kept x is (IsCommitted-commit finishes x mine)

@@ -6,22 +6,21 @@ use Rattle.xid_circle.specs.declared.Tid.{Tid}
 use Rattle.tuple_header.specs.Version.{Version}
 use Rattle.commit_status.specs.declared.status.Status.{Status}
 use Rattle.history.specs.History.{Transaction}
-use Rattle.history.specs.World.{World, OpenSession, own_write, Holds, start_now}
-use Rattle.history.specs.Moves.{transaction_of}
+use Rattle.history.specs.World.{World, OpenSession, own_write, Holds, start_now, joined}
 use Rattle.refinement.specs.Heap.{SeenSession, Heap, StatementSees, CursorSees}
 use Rattle.visibility.specs.Seeing.{HasCommitted, IsRunning, Reads, by_itself, by_others, VisibleBy, Touches, made_by, deleted_by, inserter, deleter}
 use Rattle.refinement.specs.Visible.{ReaderSees, At}
 use Rattle.refinement.specs.Agrees.{SessionAgrees, HeapAgrees}
 use Rattle.refinement.specs.Laws.{heap_over, MeetsNone, UndeletedIsUncontested}
-use Rattle.refinement.proofs.Versions.{active_not_committed}
 use Rattle.refinement.proofs.Readers.{Levels-top}
 use Rattle.refinement.proofs.Traces.{SparesCurrent}
 use Rattle.refinement.proofs.Steps.{own_traced}
+use Rattle.refinement.proofs.Isolations.{running_uncommitted}
 
 -- A session has not written the key of a current version that none of its ids touched. Did it see who made it, it would see the
 -- version, and it sees none but its own of a key that it has written. Did it not, the key would be late
 pub spares_current : {status : ℕ → Option Status} {store : Tid → Option Version} {history : List Transaction} {sees cursor_sees : ℕ → Type 0} {start : ℕ} {e : SeenSession} {m : OpenSession}
-    → SessionAgrees status store history sees start cursor_sees e m → SparesCurrent status store e.own (transaction_of m)
+    → SessionAgrees status store history sees start cursor_sees e m → SparesCurrent status store e.own (joined m.levels)
 spares_current {status} {store} {history} {sees} {cursor_sees} {start} {e} {m} mine p v at current untouched wrote = of (inserter v.header) refl
   where
     unread : (y : ℕ) → deleter v.header ≡ Some y → ¬ Reads status sees e.own y
@@ -62,7 +61,7 @@ module _ (h : Heap) (w : World) (s : ℕ) (e : SeenSession) (m : OpenSession) (p
           (subst (λ (n : OpenSession). IsSome (own_write n v.row.key)) (same_Some holds.0 open_.0 (sym holds.1 ∙ open_.1)) holds.2)
         where
           foreign : (x : ℕ) → IsRunning h.status x → ¬ Touches x v.header
-          foreign x active (made_by is) = active_not_committed h.status x active (done x is)
+          foreign x active (made_by is) = running_uncommitted h.status x active (done x is)
           foreign x active (deleted_by is) = none-some x (sym plain ∙ is)
 
   -- or the session made it itself, and so holds the key

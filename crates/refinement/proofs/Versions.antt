@@ -7,9 +7,10 @@ use Rattle.xid_circle.specs.declared.Tid.{Tid}
 use Rattle.xid_circle.proofs.Tids.{cases-tid}
 use Rattle.tuple_header.specs.Version.{Version}
 use Rattle.commit_status.specs.declared.status.Status.{Status}
-use Rattle.visibility.specs.Seeing.{HasCommitted, IsRunning, Reads, by_itself, by_others, Touches}
+use Rattle.visibility.specs.Seeing.{IsRunning, Reads, by_itself, by_others, Touches}
 use Rattle.refinement.specs.Visible.{At, SomeVersion}
 use Rattle.refinement.specs.Changes.{AddsVersion, Alters}
+use Rattle.refinement.proofs.Isolations.{running_uncommitted}
 
 -- an id that touches no version is as if it weren't owned
 pub own-untouched : {store : Tid → Option Version} (x : ℕ) (own : List ℕ) → ((p : Tid) (v : Version) → At store p v → ¬ Touches x v.header)
@@ -39,14 +40,10 @@ Adds-old {store} {store'} {p} {new} adds q u at = elim (cases-tid q p) [
 pub SomeVersion-adds : {store store' : Tid → Option Version} {p : Tid} {new : Version} → AddsVersion store store' p new → (k : ℕ) (P : Version → Type 0) → SomeVersion store k P → SomeVersion store' k P
 SomeVersion-adds adds k P some = (some.0, some.1, Adds-old adds some.0 some.1 some.2, some.3, some.4)
 
--- no id is in progress and committed
-pub active_not_committed : (status : ℕ → Option Status) (x : ℕ) → IsRunning status x → HasCommitted status x → ⊥
-active_not_committed status x active done = cc
-
 -- no one reads what another session has in progress
 pub active_unread : {status : ℕ → Option Status} {sees : ℕ → Type 0} {own : List ℕ} {x : ℕ} → IsRunning status x → ¬ Contains own x → ¬ Reads status sees own x
 active_unread active foreign (by_itself own) = foreign own
-active_unread {status} {sees} {own} {x} active foreign (by_others sees' done) = active_not_committed status x active done
+active_unread {status} {sees} {own} {x} active foreign (by_others sees' done) = running_uncommitted status x active done
 
 -- the places after a version is altered
 

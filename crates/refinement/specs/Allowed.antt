@@ -2,9 +2,9 @@
 -- Which replies the history allows to a step, and what the world is after each.
 use Rattle.std.specs.Prelude.{◌≡◌, ℕ, suc, ◌-◌, ◌<◌, ◌≤◌, List, [], ◌∷◌, length, Option, Some, None, Bool, true, false, IsSome, ◌<ℤ◌, ◌≤ℤ◌}
 use Rattle.history.specs.History.{IsLate}
-use Rattle.history.specs.World.{World, OpenSession, Cursor, by_statement, beginning, start_now, view, SomeoneHasWritten, NobodyHasWritten, LacksIndex, MayIndex, MayScan, ClosesRing, IsReady, IsWriter, MayWrite, IsBlocked, world_sessions}
-use Rattle.history.specs.Cursors.{AreOf, keys_of, IsOver, HandsOutPart, HandsOutKeys}
-use Rattle.history.specs.Moves.{stepped, begun, begun_by_statement, blocked_by, change, with_row, without_row, as_failed, with_savepoint, rolled_back_to, without_savepoint, aborted, committed_by, with_index_cursor, with_heap_cursor, with_keys_cursor, with_taken, without_cursor, with_index_on, with_vacuum}
+use Rattle.history.specs.World.{World, OpenSession, Cursor, by_statement, beginning, start_now, view, SomeoneHasWritten, NobodyHasWritten, LacksIndex, MayIndex, MayScan, ClosesRing, IsReady, IsWriter, MayWrite, IsBlocked, world_sessions, by_index, by_heap, by_keys, by_snapshot}
+use Rattle.history.specs.Cursors.{AreOf, keys_of, IsOver, HandsOutPart, HandsOutKeys, rows_within}
+use Rattle.history.specs.Moves.{stepped, begun, blocked_by, change, with_row, without_row, as_failed, with_savepoint, rolled_back_to, without_savepoint, aborted, committed_by, with_taken, without_cursor, with_index_on, with_vacuum, opened}
 use Rattle.history.specs.Laws.{FirstCommitterWins, HeldInTime, HeldOnce, HoldersHaveWritten}
 use Rattle.calls.specs.declared.step.Step.{Step}
 use Rattle.calls.specs.declared.step.Step.TheVariants as step
@@ -19,9 +19,6 @@ use Rattle.calls.specs.Bars.{BarsOpen, BarsReady, BarsFree, BarsWithCursor}
 use Rattle.calls.specs.declared.step.TheConstants.{MOST_SESSIONS}
 use Rattle.snapshot.specs.declared.own.TheConstants.{MOST_SAVEPOINTS}
 use Rattle.tuple_header.specs.declared.version.TheConstants.{MOST_BODY}
-
-abbrev pub IsOpen : World → ℕ → OpenSession → Type 0
-IsOpen w s m = w.session s ≡ Some m
 
 -- the write suits the session: it may write, and what it reads of the key is what the write asks for
 pub record Suits (w : World) (s : ℕ) (write : WriteStep) (m : OpenSession) : Type 0 where
@@ -59,11 +56,11 @@ savepoints m = length m.levels - 1
 abbrev pub Allows : World → Step → Reply → Type 0
 Allows w (step.Begin s) reply.Done = (s < MOST_SESSIONS) × (w.session s ≡ None)
 Allows w (step.Begin s) (reply.Refused refusal.NoSuchSession) = MOST_SESSIONS ≤ s
-Allows w (step.Begin s) (reply.Refused refusal.AlreadyOpen) = (m : OpenSession) × IsOpen w s m × (s < MOST_SESSIONS)
+Allows w (step.Begin s) (reply.Refused refusal.AlreadyOpen) = (m : OpenSession) × (w.session s ≡ Some m) × (s < MOST_SESSIONS)
 Allows w (step.Begin s) (reply.Refused refusal.NoMemory) = (s < MOST_SESSIONS) × (w.session s ≡ None)
 Allows w (step.BeginReadCommitted s) reply.Done = (s < MOST_SESSIONS) × (w.session s ≡ None)
 Allows w (step.BeginReadCommitted s) (reply.Refused refusal.NoSuchSession) = MOST_SESSIONS ≤ s
-Allows w (step.BeginReadCommitted s) (reply.Refused refusal.AlreadyOpen) = (m : OpenSession) × IsOpen w s m × (s < MOST_SESSIONS)
+Allows w (step.BeginReadCommitted s) (reply.Refused refusal.AlreadyOpen) = (m : OpenSession) × (w.session s ≡ Some m) × (s < MOST_SESSIONS)
 Allows w (step.Get s k) (reply.Found row) = (m : OpenSession) × IsReady w s m × (row ≡ view w.history m k)
 Allows w (step.Get s k) (reply.Refused refusal) = BarsReady (world_sessions w) s refusal
 Allows w (step.Insert s row) reply.Done = AllowsWrite w s (inserts row)
@@ -76,17 +73,17 @@ Allows w (step.Savepoint s) reply.Done = (m : OpenSession) × IsWriter w s m × 
 Allows w (step.Savepoint s) (reply.Refused refusal.TooDeep) = (m : OpenSession) × IsWriter w s m × (MOST_SAVEPOINTS ≤ savepoints m)
 Allows w (step.Savepoint s) (reply.Refused refusal.NoMemory) = (m : OpenSession) × IsWriter w s m × (savepoints m < MOST_SAVEPOINTS)
 Allows w (step.Savepoint s) (reply.Refused refusal) = BarsFree (world_sessions w) s refusal
-Allows w (step.RollbackTo s) reply.Done = (m : OpenSession) × IsOpen w s m × (m.cursor ≡ None) × (0 < savepoints m)
-Allows w (step.RollbackTo s) (reply.Refused refusal.CursorOpen) = (m : OpenSession) × IsOpen w s m × IsSome m.cursor
-Allows w (step.RollbackTo s) (reply.Refused refusal.NoSavepoint) = (m : OpenSession) × IsOpen w s m × (m.cursor ≡ None) × (savepoints m ≡ 0)
+Allows w (step.RollbackTo s) reply.Done = (m : OpenSession) × (w.session s ≡ Some m) × (m.cursor ≡ None) × (0 < savepoints m)
+Allows w (step.RollbackTo s) (reply.Refused refusal.CursorOpen) = (m : OpenSession) × (w.session s ≡ Some m) × IsSome m.cursor
+Allows w (step.RollbackTo s) (reply.Refused refusal.NoSavepoint) = (m : OpenSession) × (w.session s ≡ Some m) × (m.cursor ≡ None) × (savepoints m ≡ 0)
 Allows w (step.RollbackTo s) (reply.Refused refusal) = BarsOpen (world_sessions w) s refusal
 Allows w (step.Release s) reply.Done = (m : OpenSession) × IsWriter w s m × (0 < savepoints m)
 Allows w (step.Release s) (reply.Refused refusal.NoSavepoint) = (m : OpenSession) × IsWriter w s m × (savepoints m ≡ 0)
 Allows w (step.Release s) (reply.Refused refusal) = BarsFree (world_sessions w) s refusal
 Allows w (step.Commit s) reply.Committed = (m : OpenSession) × IsReady w s m
-Allows w (step.Commit s) reply.RolledBack = (m : OpenSession) × IsOpen w s m × (m.failed ≡ true)
+Allows w (step.Commit s) reply.RolledBack = (m : OpenSession) × (w.session s ≡ Some m) × (m.failed ≡ true)
 Allows w (step.Commit s) (reply.Refused refusal) = BarsOpen (world_sessions w) s refusal
-Allows w (step.Abort s) reply.RolledBack = (m : OpenSession) × IsOpen w s m
+Allows w (step.Abort s) reply.RolledBack = (m : OpenSession) × (w.session s ≡ Some m)
 Allows w (step.Abort s) (reply.Refused refusal) = BarsOpen (world_sessions w) s refusal
 Allows w (step.OpenIndex s index low high) reply.Done = (m : OpenSession) × IsWriter w s m × MayScan w s index × (low ≤ℤ high)
 Allows w (step.OpenIndex s index low high) (reply.Refused refusal.NoSuchIndex) = (m : OpenSession) × IsWriter w s m × (w.has_index index ≡ false)
@@ -131,20 +128,21 @@ Allows w (step.CreateIndex c) (reply.Refused refusal.IndexBusy) = LacksIndex w c
 Allows w (step.CreateIndex c) (reply.Refused refusal.NoMemory) = LacksIndex w c × (w.has_vacuum ≡ false) × NobodyHasWritten w
 Allows w step reply = ⊥
 
--- a step that reads or is refused only ends the session's own wait
-abbrev pub passed : World → Option ℕ → World
-passed w None = w
-passed w (Some s) = stepped w s
+-- what a step of a session makes of the world; one that is no session's leaves it as it is
+abbrev pub by_its_session : World → (ℕ → World) → Option ℕ → World
+by_its_session w made None = w
+by_its_session w made (Some s) = made s
 
 -- after a refused write: a conflict makes the session fail
 abbrev pub after_refused_write : World → ℕ → Refusal → World
 after_refused_write w s refusal.Conflict = change w s as_failed
 after_refused_write w s refusal = stepped w s
 
--- the world after the reply. Cleaning leaves it as it is, but for whether a vacuum runs
+-- the world after the reply. A step that reads or is refused only ends its session's own wait. Cleaning leaves the world as it is, but
+-- for whether a vacuum runs
 abbrev pub next : World → Step → Reply → World
-next w (step.Begin s) reply.Done = begun w s
-next w (step.BeginReadCommitted s) reply.Done = begun_by_statement w s
+next w (step.Begin s) reply.Done = begun (by_snapshot (length w.history)) w s
+next w (step.BeginReadCommitted s) reply.Done = begun by_statement w s
 next w (step.Insert s row) reply.Done = change w s (with_row w.history (row_of row))
 next w (step.Insert s row) (reply.Refused refusal) = after_refused_write w s refusal
 next w (step.Update s row) reply.Done = change w s (with_row w.history (row_of row))
@@ -157,9 +155,9 @@ next w (step.Release s) reply.Done = change w s without_savepoint
 next w (step.Commit s) reply.Committed = committed_by w s
 next w (step.Commit s) reply.RolledBack = aborted w s
 next w (step.Abort s) reply.RolledBack = aborted w s
-next w (step.OpenIndex s index low high) reply.Done = change w s (with_index_cursor w.history index low high)
-next w (step.OpenHeap s) reply.Done = change w s (with_heap_cursor w.history)
-next w (step.OpenKeys s low high) reply.Done = change w s (with_keys_cursor w.history low high)
+next w (step.OpenIndex s index low high) reply.Done = change w s (opened w.history (by_index index) (rows_within index low high))
+next w (step.OpenHeap s) reply.Done = change w s (opened w.history by_heap (λ rows. rows))
+next w (step.OpenKeys s low high) reply.Done = change w s (opened w.history by_keys (rows_within 0 low high))
 next w (step.Next s n) (reply.Rows rows) = change w s (with_taken (keys_of rows.items))
 next w (step.Next s n) (reply.Keys keys) = change w s (with_taken keys.items)
 next w (step.Close s) reply.Done = change w s without_cursor
@@ -167,7 +165,7 @@ next w (step.VacuumBegin mode) reply.Done = with_vacuum true w
 next w step.VacuumStep (reply.Ended first) = with_vacuum false w
 next w step.VacuumCancel reply.Done = with_vacuum false w
 next w (step.CreateIndex c) reply.Done = with_index_on w c
-next w step reply = passed w (session_of step)
+next w step reply = by_its_session w (stepped w) (session_of step)
 
 -- Who waits for whom. All that is said above is so whoever waits. Where another open session holds the key, the session waits for
 -- it, unless that wait would close a ring: then the answer is Deadlock, and the session has failed
@@ -178,20 +176,10 @@ AllowsReply w step (reply.Refused refusal.Deadlock) = (s o : ℕ) × (session_of
     × Allows w step (reply.Refused (refusal.Busy o)) × ClosesRing w.waits_for s o
 AllowsReply w step reply = Allows w step reply
 
--- the session of the step waits for o
-abbrev pub waiting : World → Option ℕ → (o : ℕ) → World
-waiting w None o = w
-waiting w (Some s) o = blocked_by w s o
-
--- the session of the step has failed
-abbrev pub failing : World → Option ℕ → World
-failing w None = w
-failing w (Some s) = change w s as_failed
-
--- the world after the reply, and who waits then
+-- the world after the reply, and who waits then: the session waits for o, or it has failed by a deadlock
 abbrev pub after_reply : World → Step → Reply → World
-after_reply w step (reply.Refused (refusal.Busy o)) = waiting w (session_of step) o
-after_reply w step (reply.Refused refusal.Deadlock) = failing w (session_of step)
+after_reply w step (reply.Refused (refusal.Busy o)) = by_its_session w (λ s. blocked_by w s o) (session_of step)
+after_reply w step (reply.Refused refusal.Deadlock) = by_its_session w (λ s. change w s as_failed) (session_of step)
 after_reply w step reply = next w step reply
 
 -- the history allows the replies to the steps, one after another

@@ -1,10 +1,11 @@
 -- What is read of a reply is spelled so, and what is spelled so is read.
-use Rattle.std.proofs.Common.{◌≡◌, ℕ, ◌+◌, ◌-◌, ◌^◌, ◌<◌, ◌≤◌, List, [], ◌∷◌, ◌++◌, length, refl, ap, ◌∙◌, sym, arith, Option, None, Some, Bool, true, false, cond, ◌&&◌, ◌⊎◌, inl, inr, codes, Result, Ok, Err, IfOk}
+use Rattle.std.proofs.Common.{◌≡◌, ℕ, ◌+◌, ◌-◌, ◌^◌, ◌<◌, ◌≤◌, List, [], ◌∷◌, ◌++◌, length, refl, ap, ◌∙◌, sym, arith, Option, None, Some, true, cond, ◌&&◌, inl, inr, codes, Result, Ok, Err, IfOk}
 use Rattle.std.specs.Option.{option_map}
 use Rattle.std.specs.List.{AllByRecursion}
 use Rattle.std.specs.Str.{bytes_eq}
 use Rattle.std.specs.Fmt.{decimal}
 use Rattle.std.proofs.lemmas.Option.{none-some, same_Some}
+use Rattle.std.proofs.lemmas.Bool.{and_parts}
 use Rattle.tuple_header.specs.declared.version.Row.{Row}
 use Rattle.calls.specs.declared.reply.Refusal.{Refusal}
 use Rattle.calls.specs.declared.reply.Refusal.TheVariants as refusal
@@ -15,16 +16,13 @@ use Rattle.script_text.specs.Grammar.{spaced}
 use Rattle.script_text.specs.Answers.{found_text, key_text, labelled, refusal_text, reply_text, row_lines, key_lines}
 use Rattle.script_text.specs.Reading.{◌>>=◌, cut, number_of}
 use Rattle.script_text.proofs.ByteLemmas.{Free, free_text}
-use Rattle.script_text.proofs.NumberLaws.{guarded, bound, mapped, both_true, cut_says, cut-free, number_of_says, number_of-decimal}
+use Rattle.script_text.proofs.NumberLaws.{guarded, bound, mapped, cut_says, cut-free, number_of_says, number_of-decimal}
 use Rattle.script_text.proofs.GrammarLaws.{verb_is}
+use Rattle.script_text.proofs.PlanLaws.{chosen}
 use Rattle.reply_text.specs.Replies.{TableRowFits, AllFit, RefusalFits, ReplyFits, SpellsReply}
 use Rattle.reply_text.specs.Reading.{Telling, plain, rows, keys, told, table_row_of, row_line_of, key_line_of, counted_of, Named, usual_refusals, other_refusals, refusal_in, busy_of, refusal_or, refusal_named, Sayings, row_sayings, vacuum_sayings, saying_in, phrase_or, told_of}
 use Rattle.reply_text.proofs.LineLaws.{AreLines, counted_of_says, counted_of-lines}
 use Rattle.reply_text.proofs.RowLaws.{table_row_of_says, table_row_of-text, rows_are_lines, keys_are_lines}
-
-chosen : {A : Type 0} (b : Bool) (x y z : A) → cond b x y ≡ z → ((b ≡ true) × (x ≡ z)) ⊎ ((b ≡ false) × (y ≡ z))
-chosen true x y z h = inl (refl, h)
-chosen false x y z h = inr (refl, h)
 
 -- The number and the name of a refusal.
 
@@ -34,7 +32,7 @@ busy_of_says words r h =
     let number = bound (cut words) _ r h in
     let name = bound (cut number.0.1) _ r number.2 in
     let g = guarded (bytes_eq number.0.0 (codes "7") && bytes_eq name.0.0 (codes "Busy")) _ r name.2 in
-    let t = both_true (bytes_eq number.0.0 (codes "7")) (bytes_eq name.0.0 (codes "Busy")) g.0 in
+    let t = and_parts (bytes_eq number.0.0 (codes "7")) (bytes_eq name.0.0 (codes "Busy")) g.0 in
     let m = mapped (number_of 255 name.0.1) _ r g.1 in
     let says = number_of_says 255 name.0.1 m.0 (omega arith) m.1 in
     let behind : number.0.1 ≡ codes "Busy" ++ 32 ∷ decimal m.0 =

@@ -5,6 +5,7 @@ use Rattle.std.specs.Fmt.{decimal}
 use Rattle.std.proofs.lemmas.Option.{none-some, same_Some}
 use Rattle.std.proofs.lemmas.Bool.Decides.{nat_tests}
 use Rattle.std.proofs.lemmas.Fmt.{decimal_digit}
+use Rattle.std.proofs.lemmas.Bool.{and_parts}
 use Rattle.tuple_header.specs.declared.version.Row.{Row}
 use Rattle.tuple_header.specs.declared.version.TheConstants.{MOST_BODY}
 use Rattle.calls.specs.Words.{RowToWrite, row_of}
@@ -16,7 +17,7 @@ use Rattle.script_text.specs.Reading.{◌>>=◌, number_of, row_words_of, line_a
 use Rattle.script_text.specs.declared.line.Line.{Line}
 use Rattle.script_text.specs.declared.line.Line.TheVariants.{Do}
 use Rattle.script_text.proofs.ByteLemmas.{Free, Free-append, free_text}
-use Rattle.script_text.proofs.NumberLaws.{guarded, bound, mapped, both_true, number_of_says, number_of-decimal, decimal_free}
+use Rattle.script_text.proofs.NumberLaws.{guarded, bound, mapped, number_of_says, number_of-decimal, decimal_free}
 use Rattle.script_text.proofs.GrammarLaws.{line_at_says, line_at-spelling, with_verb, Free-spelling}
 use Rattle.reply_text.specs.Replies.{TableRowFits, SpellsStep}
 use Rattle.reply_text.specs.Reading.{table_row_of, behind, row_line_of, key_line_of}
@@ -107,7 +108,7 @@ no_row xs o says other = by (row_words_of (codes "0 " ++ xs)) refl
     tested : (s : ℕ) (row : RowToWrite) (t : Bool) → row_words_of (codes "0 " ++ xs) ≡ Some (s, row) → (eqb s 0 && nat_le (length row.body) MOST_BODY) ≡ t → None ≡ cond {A = Option Row} t (Some (row_of row)) None
     tested s row false e is = refl
     tested s row true e is =
-        let test = (both_true (eqb s 0) (nat_le (length row.body) MOST_BODY) is).0 in
+        let test = (and_parts (eqb s 0) (nat_le (length row.body) MOST_BODY) is).0 in
         let zero : s ≡ 0 = grind (arith, nat_tests) in
         absurd (other row (only (codes "insert 0 " ++ xs) o (step.Insert s row) says (row_spelled xs (s, row) e) ∙ ap (λ k. Some (step.Insert k row)) zero))
 
@@ -120,7 +121,7 @@ unfolding table_row_of
 table_row_of_says xs row h =
     let p = bound (row_words_of (codes "0 " ++ xs)) _ row h in
     let g = guarded (eqb p.0.0 0 && nat_le (length p.0.1.body) MOST_BODY) _ row p.2 in
-    let t = both_true (eqb p.0.0 0) (nat_le (length p.0.1.body) MOST_BODY) g.0 in
+    let t = and_parts (eqb p.0.0 0) (nat_le (length p.0.1.body) MOST_BODY) g.0 in
     let test = t.0 in
     let zero : p.0.0 ≡ 0 = grind (arith, nat_tests) in
     let says = row_spelled xs p.0 p.1 in

@@ -1,5 +1,5 @@
 -- What an index takes without memory.
-use Rattle.std.proofs.Common.{◌≡◌, ℕ, zero, suc, ◌+◌, ◌-◌, ◌<◌, ◌≤◌, ◌⊎◌, inl, inr, max, List, [], ◌∷◌, length, sum_by, ap, refl, arith}
+use Rattle.std.proofs.Common.{◌≡◌, ℕ, zero, suc, ◌+◌, ◌-◌, ◌<◌, ◌≤◌, ◌⊎◌, inl, inr, max, List, [], ◌∷◌, length, ap, refl, arith}
 use Rattle.std.proofs.lemmas.Bool.{cases_lt}
 use Rattle.index_entries.specs.declared.entry.Entry.{Entry}
 use Rattle.index_nodes.specs.Nodes.{all, AreNeat}
@@ -46,7 +46,3 @@ places_after trees count Places Places' neat counted were kept first = elim (cas
   | inl some ↦ kept (were (omega (arith, counted, some_among trees neat some)))
   | inr none ↦ first (omega (arith, none))
 ]
-
--- the number of nodes that trees are made of
-abbrev pub nodes_of : List Tree → ℕ
-nodes_of trees = sum_by (λ (tree : Tree). suc (sum_by (λ (branch : List (List Entry)). suc (sum_by (λ (leaf : List Entry). 1) branch)) tree)) trees

@@ -1,5 +1,5 @@
 -- An index as its callers see it.
-use Rattle.std.specs.Prelude.{ℕ, zero, suc, ◌-◌, max, List, length}
+use Rattle.std.specs.Prelude.{ℕ, zero, suc, ◌-◌, max, Bool, List, length}
 use Rattle.xid_circle.specs.Numbers.{Count}
 use Rattle.index_entries.specs.declared.entry.Entry.{Entry}
 use Rattle.index_entries.specs.declared.node.TheConstants.{MOST_PARTS}
@@ -11,6 +11,8 @@ pub record IndexView : Type 0 where
   pub spare : ℕ
   -- in so many nodes they stand
   pub nodes : ℕ
+  -- whether the value of each entry is its key
+  pub is_by_key : Bool
 
 -- Where there are fewer than 128 entries no node is full: all have places for as many as are lacking. Without any entry that is
 -- so if nodes are set aside, for these are taken first.

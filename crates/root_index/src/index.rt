@@ -1,9 +1,10 @@
-//! The index.
+//! An index of entries with labels of one kind.
 
-ghost use Rattle.std.specs.Prelude.{◌≡◌, ◌<◌, ◌≤◌, ◌+◌, ◌^◌, [], length, OnOk, OnErr, Some, IfSome, IsTrue, Contains, vec_len, vec_capacity, true, false};
+ghost use Rattle.std.specs.Prelude.{◌≡◌, ◌↔◌, ◌<◌, ◌≤◌, ◌+◌, ◌^◌, [], length, OnOk, OnErr, Some, IfSome, IsTrue, Contains, vec_len, vec_capacity, true, false};
 ghost use Rattle.std.specs.Option.{option_map};
 ghost use Rattle.index_entries.specs.Order.{IsAscending};
 ghost use Rattle.index_entries.specs.Sets.{AddsEntry, IsLeast, IsAfter, IsBelow, IsLastOf};
+ghost use Rattle.entry_columns.specs.Fits.{Fits};
 ghost use Rattle.root_index.specs.View.{free_places, room_in};
 ghost use Rattle.root_index.specs.Pieces.{RemovesPiece};
 ghost use Rattle.root_index.specs.declared.progress.Progress.TheVariants.{More, Done};
@@ -11,6 +12,7 @@ ghost use Rattle.root_index.specs.declared.progress.Progress.TheVariants.{More, 
 use crate::look_ups;
 use crate::progress::Progress;
 use dead_places::DeadSet;
+use entry_columns::{Label, fits};
 use index_entries::{Entry, Node, Swept};
 use index_leaves::Leaf;
 use index_nodes::Branch;
@@ -19,7 +21,7 @@ use std::alloc::{AllocError, Global};
 use std::marker::Model;
 
 /// What the entries stand in: 128 branches at most, of 128 leaves at most, of 128 entries at most.
-type Tree = Branch<Branch<Leaf>>;
+type Tree<L> = Branch<Branch<Leaf<L>>>;
 
 /// Where an entry stood when it was found; the first place of all, by default. It may stand elsewhere since, or nowhere; then
 /// the next is searched for.
@@ -41,13 +43,13 @@ pub struct LookUp {
 
 /// An ordered set of entries.
 #[derive(Debug, Drop)]
-pub struct RootIndex {
+pub(crate) struct Index<L: Label> {
     /// The entries. No node is empty, and one that is split keeps half: so there is one tree here for each 262,144 entries or
     /// more, where none were removed. An insert moves no more than a leaf's entries, and where it splits a node
     /// its upper half, and the parts of the node above it or of this list.
-    trees: Vec<Tree>,
+    trees: Vec<Tree<L>>,
     /// Nodes for splits to come.
-    spares: Spares<Tree, Spares<Branch<Leaf>, Spares<Leaf, ()>>>,
+    spares: Spares<Tree<L>, Spares<Branch<Leaf<L>>, Spares<Leaf<L>, ()>>>,
     /// The number of entries.
     count: u64,
     /// So many more entries take no memory.
@@ -56,39 +58,40 @@ pub struct RootIndex {
     expected: Option<TreePosition<TreePosition<TreePosition<usize>>>>,
 }
 
-impl Model for RootIndex {
-    ghost use Rattle.std.specs.Prelude.{◌-◌, sum_by, vec_len, vec_capacity};
+impl<L: Label> Model for Index<L> {
+    ghost use Rattle.std.specs.Prelude.{◌-◌, vec_len, vec_capacity};
     ghost use Rattle.root_index.specs.View.{IndexView};
-    ghost use Rattle.index_nodes.specs.Nodes.{all, HavePlaces};
-    ghost use Rattle.root_index.specs.Trees.{IsSoundIndex};
+    ghost use Rattle.index_nodes.specs.Nodes.{HavePlaces};
+    ghost use Rattle.root_index.specs.Trees.{among, nodes_of, AreBranchesLeft, HaveBranchPlaces, IsSoundIndex};
 
     ghost Value = { IndexView };
 
     ghost view = { λ x. record {
-      entries = all ⟦<Tree as Node>⟧.entries x.trees.items;
+      entries = among x.trees.items;
       spare = x.promised;
-      nodes = sum_by ⟦<Tree as Node>⟧.nodes x.trees.items;
+      nodes = nodes_of x.trees.items;
+      is_by_key = L.is_by_key;
     } };
 
     ghost invariant = { λ x. IsSoundIndex x.trees.items (record {
       places = vec_capacity x.trees - vec_len x.trees;
       trees = vec_len x.spares.nodes;
-      HasLeft = ⟦<Tree as Node>⟧.HasLeft x.spares.below;
-      HasPlaces = HavePlaces ⟦<Tree as Node>⟧.HasPlaces (vec_capacity x.spares.nodes)
-          x.spares.below;
+      HasLeft = AreBranchesLeft x.spares.below;
+      HasPlaces = HavePlaces HaveBranchPlaces (vec_capacity x.spares.nodes) x.spares.below;
     }) x.count x.promised };
 }
 
-impl RootIndex {
+impl<L: Label> Index<L> {
     /// An index without entries.
-    pub fn new(alloc: Global) -> Self
-        ensures { result.entries ≡ [] }
+    pub(crate) fn new(alloc: Global) -> Self
+        ensures none { result.entries ≡ [] }
+        ensures kind { result.is_by_key ≡ L.is_by_key }
     {
-        RootIndex {
+        Index {
             trees: Vec::new(alloc),
             spares: Spares {
                 nodes: Vec::new(alloc),
-                below: Tree::no_spares(alloc),
+                below: Tree::<L>::no_spares(alloc),
             },
             count: 0,
             promised: 0,
@@ -97,14 +100,14 @@ impl RootIndex {
     }
 
     /// The number of entries.
-    pub fn len(&self) -> u64
+    pub(crate) fn len(&self) -> u64
         ensures { result ≡ length self.now.entries }
     {
         self.count
     }
 
     /// That the entries are in ascending order, each once. It does nothing; its contract is the fact.
-    pub fn fact_ascending(&self)
+    pub(crate) fn fact_ascending(&self)
         ensures { IsAscending self.now.entries }
     {
         let _count = self.count;
@@ -113,11 +116,12 @@ impl RootIndex {
     /// Makes room in memory for `count` more entries, so that the next `count` of them are inserted without asking for any. An
     /// index that has an entry, or had one, has nodes for 128, and nothing has to grow as long as they are no more; only else
     /// may it be refused. It is always refused where the number of entries would be above 2^64 - 1.
-    pub fn make_room(&mut self, count: usize) -> Result<(), AllocError>
+    pub(crate) fn make_room(&mut self, count: usize) -> Result<(), AllocError>
         ensures room { OnOk result (count ≤ room_in self.new) }
         ensures refused { OnErr result (room_in self.old < count) }
         ensures spare { self.old.spare ≤ self.new.spare }
         ensures entries { self.new.entries ≡ self.old.entries }
+        ensures kind { self.new.is_by_key ≡ self.old.is_by_key }
         ensures err { OnErr result (self.new ≡ self.old) }
     {
         // so most of the time: only a split uses up what was set aside
@@ -130,12 +134,14 @@ impl RootIndex {
         self.set_aside(count)
     }
 
-    /// Sets nodes aside for `count` more entries. Each may split a node of each kind, so these are as many of 4, 10 and 3 KiB.
+    /// Sets nodes aside for `count` more entries. Each may split a node of each kind, so these are as many leaves, of 1.5 or 2.5 KiB, and
+    /// as many branches of them, of 16 KiB, and trees, of 3.
     fn set_aside(&mut self, count: usize) -> Result<(), AllocError>
         ensures room { OnOk result (count ≤ self.new.spare) }
         ensures refused { OnErr result (self.old.spare < count) }
         ensures spare { self.old.spare ≤ self.new.spare }
         ensures entries { self.new.entries ≡ self.old.entries }
+        ensures kind { self.new.is_by_key ≡ self.old.is_by_key }
         ensures err { OnErr result (self.new ≡ self.old) }
     {
         // so many more could not be counted
@@ -144,15 +150,25 @@ impl RootIndex {
         }
         self.trees.try_reserve(count)?;
         nodes::add_nodes(&mut self.spares.nodes, count)?;
-        Tree::add_spares(&mut self.spares.below, count)?;
+        Tree::<L>::add_spares(&mut self.spares.below, count)?;
         self.promised = self.promised.max(count);
         Ok(())
+    }
+
+    /// Whether this entry can be in the index.
+    pub(crate) fn fits(&self, entry: &Entry) -> bool
+        ensures { IsTrue result ↔ Fits self.now.is_by_key entry.now }
+    {
+        let _count = self.count;
+        fits::<L>(entry)
     }
 
     /// Adds an entry. One that is there already stays there once. Memory is refused only where the entry is not there, no room
     /// was made for it, and there was never an entry or there are 128 or more, so that a node may be full; or where the entries could
     /// not be counted any more. They stay as they were then. The room that was made for others is kept where no node is split.
-    pub fn insert(&mut self, entry: Entry) -> Result<(), AllocError>
+    pub(crate) fn insert(&mut self, entry: Entry) -> Result<(), AllocError>
+        requires { Fits self.old.is_by_key entry }
+        ensures kind { self.new.is_by_key ≡ self.old.is_by_key }
         ensures adds { OnOk result (AddsEntry self.old.entries self.new.entries entry) }
         ensures spare { OnOk result (self.old.spare ≤ self.new.spare + 1) }
         ensures room { OnOk result (room_in self.old ≤ room_in self.new + 1) }
@@ -180,7 +196,7 @@ impl RootIndex {
     }
 
     /// The first entry after this one, be this one in the index or not; the first of all, where there is none.
-    pub fn next_after(&self, from: Option<Entry>) -> Option<Entry>
+    pub(crate) fn next_after(&self, from: Option<Entry>) -> Option<Entry>
         ensures { IsLeast self.now.entries (IsAfter from) result }
     {
         let position = look_ups::position_after(&self.trees, from);
@@ -189,7 +205,7 @@ impl RootIndex {
 
     /// The first entry after this one, and where it stood. Where the other still stands at the place that is given, that is
     /// found without a search.
-    pub fn next_near(&self, from: Entry, near: PositionHint) -> Option<(Entry, PositionHint)>
+    pub(crate) fn next_near(&self, from: Entry, near: PositionHint) -> Option<(Entry, PositionHint)>
         ensures { IsLeast self.now.entries (IsAfter (Some from))
             (option_map (λ found. found.0) result) }
     {
@@ -203,7 +219,7 @@ impl RootIndex {
     /// The first entry of this value and this key; or else the first of a higher key, or of a higher value. And where it stood. It is
     /// not known to be the last of its value and key where it is the last of its leaf.
     #[inline(always)]
-    pub fn first_from(&self, value: i128, key: u64) -> LookUp
+    pub(crate) fn first_from(&self, value: i128, key: u64) -> LookUp
         ensures found { IsLeast self.now.entries (λ e. ¬ IsBelow value key e) result.found }
         ensures last { IsTrue result.is_last → IfSome result.found (IsLastOf self.now.entries) }
     {
@@ -225,7 +241,7 @@ impl RootIndex {
 
     /// Says that the next entry that is inserted goes right before or right behind this position. So it is looked for there first, and
     /// searched for only where it goes elsewhere.
-    pub fn expect(&mut self, near: PositionHint)
+    pub(crate) fn expect(&mut self, near: PositionHint)
         ensures { self.new ≡ self.old }
     {
         self.expected = Some(near.position);
@@ -235,7 +251,7 @@ impl RootIndex {
     /// to dead places. Says how far it came, so that the next call goes on from there, and where the entry stood to which it came:
     /// where that still stands there, the next call doesn't search for it. It takes no memory, and keeps all room: the last nodes
     /// that are emptied are set aside.
-    pub fn remove_where(
+    pub(crate) fn remove_where(
         &mut self,
         dead: &DeadSet,
         from: Option<Entry>,
@@ -244,6 +260,7 @@ impl RootIndex {
         ensures piece { RemovesPiece self.old.entries self.new.entries dead.now from result.0 }
         ensures spare { self.old.spare ≤ self.new.spare }
         ensures room { room_in self.old ≤ room_in self.new }
+        ensures kind { self.new.is_by_key ≡ self.old.is_by_key }
     {
         let position = look_ups::position_near(&self.trees, from, near.position);
         match nodes::sweep_from(&mut self.trees, &mut self.spares, position, dead) {
@@ -284,7 +301,7 @@ fn free_places(count: u64, promised: usize) -> u64
 }
 
 /// Asks for memory for more trees than there may be. The error is the allocator's, as every one here.
-fn ask_for_too_much(trees: &mut Vec<Tree>) -> Result<(), AllocError>
+fn ask_for_too_much<L: Label>(trees: &mut Vec<Tree<L>>) -> Result<(), AllocError>
     requires { 0 < vec_len trees.old }
     ensures refused { OnOk result ⊥ }
     ensures same { trees.new.items ≡ trees.old.items }

@@ -1,5 +1,5 @@
 -- The first line.
-use Rattle.std.proofs.Common.{◌≡◌, subst, ℕ, ◌+◌, ◌<◌, ◌≤◌, ◌⊎◌, inl, inr, arith, List, [], ◌∷◌, ◌++◌, length, take, drop, refl, ap, append_assoc, ◌∙◌, sym, Option, Some, None, Result, Ok, Err, position, IfSome}
+use Rattle.std.proofs.Common.{◌≡◌, subst, ℕ, ◌+◌, inl, inr, List, [], ◌∷◌, ◌++◌, length, take, drop, refl, ap, append_assoc, ◌∙◌, sym, Option, Some, None, Result, Ok, Err, position, IfSome}
 use Rattle.std.specs.Bool.{◌==◌}
 use Rattle.std.specs.List.{AllByRecursion}
 use Rattle.std.proofs.lemmas.Option.{IfSome_then}
@@ -7,7 +7,7 @@ use Rattle.std.proofs.lemmas.List.{append-nil}
 use Rattle.std.specs.Io.KnownBytes.{Appends}
 use Rattle.calls.specs.Words.{AreSettings}
 use Rattle.calls.specs.declared.settings.Settings.{Settings}
-use Rattle.script.specs.Engine.{WaitingView, IsNewWaiting, beginning, SettingsFault, FirstFault, MaxPages, StopAge, FreezeMinAge, FirstXid, DeadLimit, NoMemoryForSettings}
+use Rattle.script.specs.Engine.{WaitingView, IsNewWaiting, beginning}
 use Rattle.script_text.specs.Grammar.{IsAllowed, SettingsFit, heading, with_feed}
 use Rattle.script.specs.Pieces.{TakesText, GivesText}
 use Rattle.script.specs.Script.{Event, ScriptOutcome, IsBadHeading, IsScriptRun, EventsLead, WritesBeginning, line_of, answers_of, lines_of}
@@ -153,19 +153,6 @@ outcome_of_none Input (Some bytes) w0 w1 h quiet = inl quiet
 outcome_of_none Output (Some bytes) w0 w1 h quiet = inl quiet
 outcome_of_none NoMemory (Some bytes) w0 w1 h quiet = inl quiet
 outcome_of_none TooManyLines (Some bytes) w0 w1 h quiet = absurd h
-
--- a setting that is out of range isn't in range
-outside : (a low high : ℕ) → (a < low) ⊎ (high < a) → (low ≤ a) × (a ≤ high) → ⊥
-outside a low high (inl below) r = let at = r.0 in omega arith
-outside a low high (inr above) r = let at = r.1 in omega arith
-
-pub out_of_range : (s : Settings) (f : SettingsFault) → FirstFault s f → (f ≡ NoMemoryForSettings → ⊥) → AreSettings s → ⊥
-out_of_range s MaxPages h other k = outside s.max_pages 1 65536 h.0 k.max_pages
-out_of_range s StopAge h other k = outside s.stop_age 1 2144483648 h.0 k.stop_age
-out_of_range s FreezeMinAge h other k = let out = h.0 in let least = k.freeze_min_age in omega arith
-out_of_range s FirstXid h other k = let out = h.0 in let first = k.first_xid.0 in omega arith
-out_of_range s DeadLimit h other k = outside s.dead_limit 1 4096 h.0 k.dead_limit
-out_of_range s NoMemoryForSettings h other k = other refl
 
 pub bad_settings : (before now : Option (List ℕ)) (old p : List ℕ) (n : ℕ) (s : Settings) → old ≡ [] → TakesText before now old p → position (λ b. b == 10) p ≡ Some n
     → SettingsFit s × (take n p ≡ heading s) → (AreSettings s → ⊥) → IfSome before (λ input. IsBadHeading input)

@@ -7,12 +7,13 @@ use Rattle.page_slots.specs.Faults.{page_fault}
 use Rattle.page_slots.specs.Reading.{page_of}
 use Rattle.page_slots.specs.View.{PageView}
 use Rattle.page_layout.specs.declared.faults.PageFault.TheVariants.{Length}
-use Rattle.script_text.proofs.PageLemmas.{long_fault, none_some, page_length}
+use Rattle.page_layout.proofs.FirstLemmas.{none-some}
+use Rattle.script_text.proofs.PageLemmas.{long_fault, page_length}
 use Rattle.script_text.specs.Grammar.{with_feed}
 use Rattle.script.specs.PageText.{inspected_text}
 use Rattle.script.specs.Inspected.{PageOutcome, page_lines}
 use Rattle.script.specs.Pieces.{TakesText}
-use Rattle.script.specs.Refusals.{Refusals, IsRefused, IsPageCaused}
+use Rattle.script.specs.Refusals.{Refusals, IsRefused}
 use Rattle.script.specs.Script.{WritesBeginning}
 use Rattle.script.specs.declared.fault.ShellFault.{ShellFault}
 use Rattle.script.specs.declared.fault.ShellFault.TheVariants.{BadLine, BadPage, Input, Output, NoMemory, TooManyLines}
@@ -30,24 +31,15 @@ refused_page Output log input w0 w1 f h = h
 refused_page NoMemory log input w0 w1 f h = h
 refused_page TooManyLines log input w0 w1 f h = absurd f
 
--- a refusal causes its fault
-pub page_caused : (e : ShellFault) (log : Refusals) → IsRefused e log → IsPageCaused e log
-page_caused (BadLine n) log f = absurd f
-page_caused (BadPage fault) log f = absurd f
-page_caused Input log f = f
-page_caused Output log f = f
-page_caused NoMemory log f = f
-page_caused TooManyLines log f = absurd f
-
 -- more than a page is no page, however much more it is
 long_either : (p input : List ℕ) (w0 w1 : Option (List ℕ)) → 8192 < length p
     → Appends w0 w1 [] ⊎ ((page_fault p ≡ None) × WritesBeginning w0 w1 (page_lines p)) → Appends w0 w1 []
 long_either p input w0 w1 long (inl quiet) = quiet
-long_either p input w0 w1 long (inr page) = absurd (none_some Length (sym page.0 ∙ long_fault p long))
+long_either p input w0 w1 long (inr page) = absurd (none-some Length (sym page.0 ∙ long_fault p long))
 
 same_long : (r : Result (Unit {0}) ShellFault) (p input : List ℕ) (w0 w1 : Option (List ℕ)) → 8192 < length p → 8192 < length input
     → PageOutcome r p w0 w1 → PageOutcome r input w0 w1
-same_long (Ok u) p input w0 w1 long more h = absurd (none_some Length (sym h.0 ∙ long_fault p long))
+same_long (Ok u) p input w0 w1 long more h = absurd (none-some Length (sym h.0 ∙ long_fault p long))
 same_long (Err (BadPage fault)) p input w0 w1 long more h = (long_fault input more ∙ sym (long_fault p long) ∙ h.0, h.1)
 same_long (Err (BadLine n)) p input w0 w1 long more h = absurd h
 same_long (Err TooManyLines) p input w0 w1 long more h = absurd h
@@ -73,12 +65,6 @@ read_outcome before now old p r w0 w1 none t end h =
     IfSome_then before (first_known before now old p none t) (λ input k.
     known_page r p k.0 input w0 w1 k.2 (at_end now p k.0 k.1 end) h)
 
--- what is said of any input
-pub any_input : (e : ShellFault) (log : Refusals) (before w0 w1 : Option (List ℕ)) → IsRefused e log → Appends w0 w1 []
-    → IfSome before (λ input. PageOutcome (Err e) input w0 w1)
-any_input e log None w0 w1 f quiet = tt
-any_input e log (Some input) w0 w1 f quiet = refused_page e log input w0 w1 f (inl quiet)
-
 -- bytes without a fault are at least as many as a page has
 pub whole_page : (bytes : List ℕ) → page_fault bytes ≡ None → 8192 ≤ length bytes
 whole_page bytes none = let size = page_length bytes none in omega arith
@@ -94,7 +80,3 @@ pub told_outcome : (r : Result (Unit {0}) ShellFault) (log : Refusals) (bytes te
 told_outcome (Ok u) log bytes text w0 w1 none e all begun f = (none, subst (λ (t : List ℕ). Appends w0 w1 t) e all)
 told_outcome (Err x) log bytes text w0 w1 none e all begun f =
     refused_page x log bytes w0 w1 f (inr (none, subst (λ (t : List ℕ). WritesBeginning w0 w1 t) e begun))
-
-pub told_caused : (r : Result (Unit {0}) ShellFault) (log : Refusals) → IfErr r (λ e. IsRefused e log) → IfErr r (λ e. IsPageCaused e log)
-told_caused (Ok u) log f = tt
-told_caused (Err e) log f = page_caused e log f

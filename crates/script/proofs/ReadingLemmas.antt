@@ -1,5 +1,5 @@
 -- The lines of a script for threads, as they are read.
-use Rattle.std.proofs.Common.{◌≡◌, ℕ, ◌+◌, ◌<◌, ◌≤◌, List, [], ◌∷◌, ◌++◌, length, map, take, drop, refl, ap, append_assoc, length-append, ◌∙◌, sym, subst, arith, Option, None, Some, Result, Ok, Err, position, IfSome}
+use Rattle.std.proofs.Common.{◌≡◌, ℕ, ◌+◌, ◌<◌, ◌≤◌, List, [], ◌∷◌, ◌++◌, length, map, take, drop, ap, append_assoc, length-append, ◌∙◌, sym, subst, arith, Option, None, Some, Result, Ok, Err, position, IfSome}
 use Rattle.std.specs.Bool.{◌==◌}
 use Rattle.std.specs.List.{AllByRecursion}
 use Rattle.std.proofs.lemmas.Option.{IfSome_then}
@@ -79,24 +79,6 @@ LinesRead-line before now old new w0 w1 text lists lists' number n line h at sho
       lists_are = put ∙ ap (λ (xs : List (List WorkerLine)). with_work xs line) h.lists_are ∙ sym (lists_for-put h.lines line says.0.0);
       number_is = ap (λ k. k + 1) h.number_is ∙ omega (arith, length-append h.lines (line ∷ []));
     }
-
--- nothing was read yet
-pub LinesRead-none : (before : Option (List ℕ)) (old : List ℕ) (w0 : Option (List ℕ)) (text : List ℕ) (lists : List (List WorkerLine))
-    → Uses before before old [] old → Appends w0 w0 [] → text ≡ [] → lists ≡ lists_for [] → LinesRead before before old old w0 w0 text lists 2
-LinesRead-none before old w0 text lists uses quiet silent empty = record {
-  lines = [];
-  allowed = tt;
-  uses = uses;
-  quiet = quiet;
-  silent = silent;
-  lists_are = empty;
-  number_is = refl;
-}
-
--- there is a list for each worker
-pub LinesRead-eight : (before now : Option (List ℕ)) (old new : List ℕ) (w0 w1 : Option (List ℕ)) (text : List ℕ) (lists : List (List WorkerLine)) (number : ℕ)
-    → LinesRead before now old new w0 w1 text lists number → length lists ≡ 8
-LinesRead-eight before now old new w0 w1 text lists number h = ap (λ (xs : List (List WorkerLine)). length xs) h.lists_are
 
 -- the reading ends
 pub reading_ends : (before now : Option (List ℕ)) (old new : List ℕ) (w0 w1 : Option (List ℕ)) (text : List ℕ) (lists lists' : List (List WorkerLine)) (number : ℕ) (r : Result (Unit {0}) ShellFault)

@@ -26,7 +26,7 @@ use Rattle.script.specs.declared.fault.ShellFault.{ShellFault}
 use Rattle.script.specs.declared.fault.ShellFault.TheVariants.{BadLine, BadPage, Input, Output, NoMemory, TooManyLines}
 use Rattle.script.proofs.PiecesLemmas.{Appends-Appends, Gives-Gives}
 use Rattle.script.proofs.RunLemmas.{Uses-known, Gives-push, caused_by}
-use Rattle.script.proofs.FirstLemmas.{no_heading}
+use Rattle.script.proofs.FirstLemmas.{no_heading, begun_first}
 
 -- what was refused causes the fault
 pub if_caused : (r : Result (Unit {0}) ShellFault) (log : Refusals) → IfErr r (λ e. IsRefused e log) → IfErr r (λ e. IsCaused e log)
@@ -73,18 +73,15 @@ outcome_of_stop before now p s w0 w1 w2 lists e u fits columns q q' h =
 done_is : (s : Settings) (lines : List WorkerStep) (book : BookView) → IsBookOf s book → IsMerge (lists_for lines) book.journal → AreDone s lines book.journal
 done_is s lines book made merge = record { merge = merge; run = (IsBookOf-run s book made).run; book = book; made = made; noted = refl }
 
-begun : (a b c : Option (List ℕ)) (x : List ℕ) → Appends a b [] → WritesBeginning b c x → WritesBeginning a c x
-begun a b c x h k = (k.0, (k.1.0, Appends-Appends a b c [] k.1.0 h k.1.1, k.1.2))
-
 written_is : (s : Settings) (lines : List WorkerStep) (input : List ℕ) (journal : List (Step × Reply)) (w0 w1 w2 : Option (List ℕ)) (r : Result (Unit {0}) ShellFault) (log : Refusals)
     → AreThreadsLines s lines → input ≡ threads_script s lines → AreDone s lines journal → Appends w0 w1 []
     → OnOk r (Appends w1 w2 (journal_text journal)) → WritesBeginning w1 w2 (journal_text journal) → IfErr r (λ e. IsRefused e log) → ThreadsOutcome r input w0 w2
 written_is s lines input journal w0 w1 w2 (Ok u) log are is done q all begins f = (s, lines, journal, are, is, done, Appends-Appends w0 w1 w2 [] (journal_text journal) q all)
 written_is s lines input journal w0 w1 w2 (Err (BadLine n)) log are is done q all begins f = absurd f
 written_is s lines input journal w0 w1 w2 (Err (BadPage fault)) log are is done q all begins f = absurd f
-written_is s lines input journal w0 w1 w2 (Err Input) log are is done q all begins f = inr (s, lines, journal, are, is, done, begun w0 w1 w2 (journal_text journal) q begins)
-written_is s lines input journal w0 w1 w2 (Err Output) log are is done q all begins f = inr (s, lines, journal, are, is, done, begun w0 w1 w2 (journal_text journal) q begins)
-written_is s lines input journal w0 w1 w2 (Err NoMemory) log are is done q all begins f = inr (s, lines, journal, are, is, done, begun w0 w1 w2 (journal_text journal) q begins)
+written_is s lines input journal w0 w1 w2 (Err Input) log are is done q all begins f = inr (s, lines, journal, are, is, done, begun_first w0 w1 w2 (journal_text journal) q begins)
+written_is s lines input journal w0 w1 w2 (Err Output) log are is done q all begins f = inr (s, lines, journal, are, is, done, begun_first w0 w1 w2 (journal_text journal) q begins)
+written_is s lines input journal w0 w1 w2 (Err NoMemory) log are is done q all begins f = inr (s, lines, journal, are, is, done, begun_first w0 w1 w2 (journal_text journal) q begins)
 written_is s lines input journal w0 w1 w2 (Err TooManyLines) log are is done q all begins f = absurd f
 
 read_whole : (s : Settings) (input bytes : List ℕ) (lists : List (List WorkerLine)) → (h : IsRead bytes lists (Ok tt)) → input ≡ with_feed (heading s) ++ bytes → input ≡ threads_script s h.lines

@@ -1,5 +1,5 @@
 -- What is read is spelled so, and what is spelled so is read.
-use Rattle.std.proofs.Common.{◌≡◌, ℕ, ℤ, ◌+◌, ◌-◌, ◌*◌, ◌/◌, ◌%◌, ◌^◌, ◌<◌, ◌≤◌, List, [], ◌∷◌, ◌++◌, length, refl, ap, append_assoc, ◌∙◌, sym, arith, Option, None, Some, Bool, true, false, cond, eqb, nat_lt, nat_le, ◌&&◌, leb-true, le-leb, ◌⊎◌, inl, inr, codes, Result, Ok, Err, IfOk}
+use Rattle.std.proofs.Common.{◌≡◌, ℕ, ℤ, ◌+◌, ◌-◌, ◌*◌, ◌/◌, ◌%◌, ◌^◌, ◌<◌, ◌≤◌, List, [], ◌∷◌, ◌++◌, length, refl, ap, append_assoc, ◌∙◌, sym, arith, Option, None, Some, true, false, cond, eqb, nat_lt, nat_le, ◌&&◌, leb-true, le-leb, inl, inr, codes, Result, Ok, Err, IfOk}
 use Rattle.std.specs.Int.{w64}
 use Rattle.std.specs.Prelude.{FitsSigned}
 use Rattle.std.specs.Option.{option_map}
@@ -9,7 +9,7 @@ use Rattle.std.specs.Fmt.{decimal, signed_decimal, digit_glyph}
 use Rattle.std.proofs.lemmas.Option.{none-some, same_Some}
 use Rattle.std.proofs.lemmas.Bool.Decides.{nat_tests}
 use Rattle.std.proofs.lemmas.Slice.Eq.{bytes_eq-Decides}
-use Rattle.std.proofs.lemmas.Bool.{lt-leb, cases_lt, and_right}
+use Rattle.std.proofs.lemmas.Bool.{lt-leb, cases_lt, and_right, and_parts}
 use Rattle.std.proofs.lemmas.List.{nil_from_length, append-nil}
 use Rattle.calls.specs.Words.{RowToWrite, PlanToApply}
 use Rattle.calls.specs.declared.step.Step.TheVariants as step
@@ -19,8 +19,8 @@ use Rattle.script_text.specs.declared.line.Line.TheVariants.{Do, VacuumFinish, I
 use Rattle.script_text.specs.Grammar.{LineFits, Spells, KeyFits, RowFits, RangeFits, BoundsFit, spelling, spaced, hex_text, body_text, row_text, key_words, row_words, range_words, bounds_words, plan_words}
 use Rattle.script_text.specs.Reading.{Verbs, usual_verbs, other_verbs, vacuum_line_of, line_in, line_at, cut, number_of, number_then, column_then, bound_of, bound_then, nibble_of, pair_and, pairs_of, body_of, row_words_of, key_words_of, count_words_of, page_words_of, range_words_of, bounds_words_of, plan_words_of}
 use Rattle.script_text.proofs.ByteLemmas.{Free, Free-append, free_text}
-use Rattle.script_text.proofs.NumberLaws.{guarded, bound, mapped, both_true, cut_says, cut-free, number_of_says, number_of-decimal, number_then_says, number_then-decimal, decimal_free}
-use Rattle.script_text.proofs.PlanLaws.{plan_words_of_says, plan_words_of-words, plan_words_free}
+use Rattle.script_text.proofs.NumberLaws.{guarded, bound, mapped, cut_says, cut-free, number_of_says, number_of-decimal, number_then_says, number_then-decimal, decimal_free}
+use Rattle.script_text.proofs.PlanLaws.{plan_words_of_says, plan_words_of-words, plan_words_free, chosen}
 use Rattle.script_text.proofs.SignedLaws.{signed_free, column_then_says, column_then-signed, bound_free, bound_of_says, bound_of-signed, bound_then_says, bound_then-signed}
 
 pair_is : (x y a b : ℕ) (xs ys : List ℕ) → x ≡ a → y ≡ b → xs ≡ ys → x ∷ y ∷ xs ≡ a ∷ b ∷ ys
@@ -28,10 +28,6 @@ pair_is x y a b xs ys e f g = cc
 
 one_is : (x a : ℕ) (xs : List ℕ) → x ≡ a → xs ≡ [] → x ∷ xs ≡ a ∷ []
 one_is x a xs e f = cc
-
-chosen : {A : Type 0} (b : Bool) (x y z : A) → cond b x y ≡ z → ((b ≡ true) × (x ≡ z)) ⊎ ((b ≡ false) × (y ≡ z))
-chosen true x y z h = inl (refl, h)
-chosen false x y z h = inr (refl, h)
 
 low_glyph : (a : ℕ) → a < 10 → digit_glyph false a ≡ 48 + a
 low_glyph a h = let t : nat_lt a 10 ≡ true = grind (arith, nat_tests) in rw t refl
@@ -43,14 +39,14 @@ nibble_of_says : (c a : ℕ) → nibble_of c ≡ Some a → (c ≡ digit_glyph f
 unfolding nibble_of
 nibble_of_says c a h = elim (chosen (nat_le 48 c && nat_le c 57) (Some (c - 48)) (cond (nat_le 97 c && nat_le c 102) (Some (c - 87)) None) (Some a) h) [
   | inl l ↦
-      let t = both_true (nat_le 48 c) (nat_le c 57) l.0 in
+      let t = and_parts (nat_le 48 c) (nat_le c 57) l.0 in
       let from = leb-true 48 c t.0 in
       let to = leb-true c 57 t.1 in
       let e = same_Some (c - 48) a l.1 in
       (rw (low_glyph a (omega arith)) (omega arith), omega arith)
   | inr r ↦
       let g = guarded (nat_le 97 c && nat_le c 102) (Some (c - 87)) a r.1 in
-      let t = both_true (nat_le 97 c) (nat_le c 102) g.0 in
+      let t = and_parts (nat_le 97 c) (nat_le c 102) g.0 in
       let from = leb-true 97 c t.0 in
       let to = leb-true c 102 t.1 in
       let e = same_Some (c - 87) a g.1 in
@@ -112,7 +108,7 @@ unfolding body_of
 body_of_says [] bs h = absurd (none-some bs h)
 body_of_says (x ∷ xs) bs h = elim (chosen (eqb x 45 && eqb (length xs) 0) (Some []) (pairs_of (x ∷ xs)) (Some bs) h) [
   | inl l ↦
-      let t = both_true (eqb x 45) (eqb (length xs) 0) l.0 in
+      let t = and_parts (eqb x 45) (eqb (length xs) 0) l.0 in
       let x_is : x ≡ 45 = let e = t.0 in grind (arith, nat_tests) in
       let none : length xs ≡ 0 = let e = t.1 in grind (arith, nat_tests) in
       rw (← same_Some [] bs l.1) (one_is x 45 xs x_is (nil_from_length xs none), tt)
@@ -492,7 +488,7 @@ body_free : (bs : List ℕ) → AllByRecursion (λ b. b < 2 ^ 8) bs → Free 10 
 body_free [] h = (refl, tt)
 body_free (b ∷ bs) h = hex_free (b ∷ bs) h
 
-one_free : (n : ℕ) → n < 2 ^ 64 → Free 10 (spaced (decimal n))
+pub one_free : (n : ℕ) → n < 2 ^ 64 → Free 10 (spaced (decimal n))
 one_free n h = (refl, decimal_free 10 n (omega arith) (omega arith))
 
 row_free : (row : RowToWrite) → row.key < 2 ^ 64 → AllByRecursion (λ c. FitsSigned w64 c) row.cols → AllByRecursion (λ b. b < 2 ^ 8) row.body → Free 10 (row_text row.key row.cols row.body)

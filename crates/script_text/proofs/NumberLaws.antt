@@ -10,7 +10,7 @@ use Rattle.std.proofs.lemmas.Str.Parse.{IsNumeralModel, numerals_by_fold}
 use Rattle.script_text.proofs.WideLaws.{decimal-digits_value, digits_decimal, digits_value-decimal, decimal_nonempty, first_decimal}
 use Rattle.std.proofs.lemmas.Fmt.{decimal_digit}
 use Rattle.std.proofs.Math.Seq.{take-append_seam, drop-append-add}
-use Rattle.std.proofs.lemmas.Bool.{and_right}
+use Rattle.std.proofs.lemmas.Bool.{and_right, and_parts}
 use Rattle.script_text.specs.Reading.{◌>>=◌, cut, cut_at, digits_on, number_of, number_then}
 use Rattle.script_text.proofs.ByteLemmas.{Free, place-free, place-split, position_found}
 
@@ -30,10 +30,6 @@ pub mapped : {A B : Type 0} (o : Option A) (f : A → B) (y : B) → option_map 
 mapped None f y h = absurd (none-some y h)
 mapped (Some x) f y h = (x, refl, same_Some (f x) y h)
 
-pub both_true : (a b : Bool) → (a && b) ≡ true → (a ≡ true) × (b ≡ true)
-both_true true b h = (refl, h)
-both_true false b h = cc
-
 abbrev read_on : ℕ → List ℕ → ℕ
 read_on n [] = n
 read_on n (c ∷ cs) = read_on (10 * n + (c - 48)) cs
@@ -50,7 +46,7 @@ unfolding digits_on
 digits_on-some max n [] m h k = let e = same_Some n m h in (refl, e, omega arith)
 digits_on-some max n (c ∷ cs) m h k =
     let g = guarded (is_ascii_digit c && nat_le (10 * n + (c - 48)) max) (digits_on max (10 * n + (c - 48)) cs) m h in
-    let t = both_true (is_ascii_digit c) (nat_le (10 * n + (c - 48)) max) g.0 in
+    let t = and_parts (is_ascii_digit c) (nat_le (10 * n + (c - 48)) max) g.0 in
     let small : 10 * n + (c - 48) ≤ max = leb-true (10 * n + (c - 48)) max t.1 in
     let r = digits_on-some max (10 * n + (c - 48)) cs m g.1 small in
     (rw t.0 r.0, r.1, r.2)
@@ -59,7 +55,7 @@ digits_on-read : (max n : ℕ) (cs : List ℕ) → all_ascii_digits cs ≡ true 
 unfolding digits_on
 digits_on-read max n [] h k = refl
 digits_on-read max n (c ∷ cs) h k =
-    let t = both_true (is_ascii_digit c) (all_ascii_digits cs) h in
+    let t = and_parts (is_ascii_digit c) (all_ascii_digits cs) h in
     let ge = read_on-ge (10 * n + (c - 48)) cs in
     let small : nat_le (10 * n + (c - 48)) max ≡ true = le-leb (10 * n + (c - 48)) max (omega arith) in
     rw (t.0, small) (digits_on-read max (10 * n + (c - 48)) cs t.1 k)
@@ -142,7 +138,7 @@ cut-free w rest h = cut_at-free 32 w rest h
 digits_free : (x : ℕ) (ds : List ℕ) → (x < 48) → all_ascii_digits ds ≡ true → Free x ds
 digits_free x [] low h = tt
 digits_free x (c ∷ cs) low h =
-    let t = both_true (is_ascii_digit c) (all_ascii_digits cs) h in
+    let t = and_parts (is_ascii_digit c) (all_ascii_digits cs) h in
     let d = t.0 in
     let far : eqb c x ≡ false = grind (arith, nat_tests, d) in
     (far, digits_free x cs low t.1)
@@ -153,7 +149,7 @@ decimal_free x n low fits = digits_free x (decimal n) low (digits_decimal own n 
 digits_free_past : (x : ℕ) (ds : List ℕ) → 57 < x → all_ascii_digits ds ≡ true → Free x ds
 digits_free_past x [] high h = tt
 digits_free_past x (c ∷ cs) high h =
-    let t = both_true (is_ascii_digit c) (all_ascii_digits cs) h in
+    let t = and_parts (is_ascii_digit c) (all_ascii_digits cs) h in
     let d = t.0 in
     let far : eqb c x ≡ false = grind (arith, nat_tests, d) in
     (far, digits_free_past x cs high t.1)

@@ -24,9 +24,6 @@ pub page_length : (bytes : List ℕ) → page_fault bytes ≡ None → length by
 unfolding page_fault
 page_length bytes none = (framed-from_none bytes (both-none (frame_fault bytes) _ none).0).long
 
-pub none_some : (fault : PageFault) → None ≡ Some fault → ⊥
-none_some fault e = absurd (cc)
-
 -- What was checked.
 
 pub ok_page : (p q : PageView) (o : Option PageFault) → Ok q ≡ unless_fault p o → (o ≡ None) × (q ≡ p)

@@ -16,11 +16,11 @@ use Rattle.script_text.proofs.NumberLaws.{bound, mapped, cut_at_says, cut_at-fre
 use Rattle.script_text.proofs.WordLemmas.{words_of-free, words_of-cons, words_of_says}
 
 -- the first byte, and what stands behind it
-front_is : (w : List ℕ) (x : ℕ) → eqb (get_or w 0 0) (x + 1) ≡ true → w ≡ (x + 1) ∷ drop 1 w
+pub front_is : (w : List ℕ) (x : ℕ) → eqb (get_or w 0 0) (x + 1) ≡ true → w ≡ (x + 1) ∷ drop 1 w
 front_is [] x e = absurd (let h = e in grind (arith, nat_tests))
 front_is (y ∷ ys) x e = let same : y ≡ x + 1 = grind (arith, nat_tests) in ap (λ v. v ∷ ys) same
 
-chosen : {A : Type 0} (b : Bool) (x y z : A) → cond b x y ≡ z → ((b ≡ true) × (x ≡ z)) ⊎ ((b ≡ false) × (y ≡ z))
+pub chosen : {A : Type 0} (b : Bool) (x y z : A) → cond b x y ≡ z → ((b ≡ true) × (x ≡ z)) ⊎ ((b ≡ false) × (y ≡ z))
 chosen true x y z h = inl (refl, h)
 chosen false x y z h = inr (refl, h)
 

@@ -1,9 +1,8 @@
 -- A line of a script for threads is read just where it is spelled so.
-use Rattle.std.proofs.Common.{◌≡◌, ℕ, ◌+◌, List, [], ◌∷◌, ◌++◌, drop, get_or, refl, ap, ◌∙◌, sym, arith, Option, None, Some, Bool, true, false, cond, eqb, codes, Result, Ok, Err, IfOk}
+use Rattle.std.proofs.Common.{◌≡◌, ℕ, ◌+◌, List, ◌∷◌, ◌++◌, drop, get_or, refl, ap, ◌∙◌, sym, arith, Option, None, Some, Bool, true, false, cond, eqb, codes, Result, Ok, Err, IfOk}
 use Rattle.std.specs.Str.{bytes_eq}
 use Rattle.std.specs.Fmt.{decimal}
 use Rattle.std.proofs.lemmas.Option.{none-some, same_Some}
-use Rattle.std.proofs.lemmas.Bool.Decides.{nat_tests}
 use Rattle.calls.specs.declared.step.Step.{Step}
 use Rattle.script_text.specs.declared.line.Line.{Line}
 use Rattle.script_text.specs.declared.line.Line.TheVariants.{Do, VacuumFinish, Ids, Page, Entries}
@@ -14,6 +13,7 @@ use Rattle.script_text.specs.Workers.{wait_text, worker_text, WorkerFits, Spells
 use Rattle.script_text.proofs.ByteLemmas.{Free, Free-append, free_text}
 use Rattle.script_text.proofs.NumberLaws.{guarded, bound, cut_says, cut-free, number_then_says, number_then-decimal, decimal_free}
 use Rattle.script_text.proofs.GrammarLaws.{verb_is, with_verb, line_at_says, line_at-spelling, Free-spelling}
+use Rattle.script_text.proofs.PlanLaws.{front_is}
 
 -- the words of the step stand behind the word that says that it waits
 wait_in_says : (o : Option (List ℕ × List ℕ)) (words : List ℕ) → cut words ≡ o → words ≡ wait_text (waits_in o words).0 ++ (waits_in o words).1
@@ -42,10 +42,6 @@ words_at_says worker words line h =
     let says = line_at_says _ _ is.0 in
     (is.1, says.0, wait_in_says (cut words) words refl ∙ rw (sym is.2, says.1) refl)
 
-first_is : (text : List ℕ) (b : ℕ) → eqb (get_or text 0 0) (b + 1) ≡ true → text ≡ (b + 1) ∷ drop 1 text
-first_is [] b h = absurd (let e = h in grind (arith, nat_tests))
-first_is (x ∷ xs) b h = let same : x ≡ b + 1 = grind (arith, nat_tests) in ap (λ y. y ∷ xs) same
-
 worker_at_says : (text : List ℕ) (line : WorkerStep) → worker_at text ≡ Some line → WorkerFits line × (text ≡ worker_text line)
 unfolding worker_at
 worker_at_says text line h =
@@ -54,7 +50,7 @@ worker_at_says text line h =
     let number = number_then_says 7 (drop 1 text) p.0.0 p.0.1 (omega arith) p.1 in
     let words = words_at_says p.0.0 p.0.1 line p.2 in (
       (omega (arith, number.1, words.0), words.1),
-      first_is text 63 g.0 ∙ ap (λ r. 64 ∷ r) (number.0 ∙ ap (λ w. decimal w ++ 32 ∷ p.0.1) (sym words.0) ∙ ap (λ r. decimal line.worker ++ 32 ∷ r) words.2),
+      front_is text 63 g.0 ∙ ap (λ r. 64 ∷ r) (number.0 ∙ ap (λ w. decimal w ++ 32 ∷ p.0.1) (sym words.0) ∙ ap (λ r. decimal line.worker ++ 32 ∷ r) words.2),
     )
 
 -- no line begins with the word that says that a step waits

@@ -1,16 +1,16 @@
 -- The engine's cache of statuses goes on to agree with its table.
-use Rattle.std.proofs.Common.{◌≡◌, ◌≢◌, ◌⊎◌, ◌<◌, ℕ, zero, suc, List, [], ◌∷◌, ◌++◌, length, Option, Some, None, slice_get, arith, refl, sym, ap, ◌∙◌, subst, ⊎_elim, inl, inr}
+use Rattle.std.proofs.Common.{◌≡◌, ◌≢◌, ◌⊎◌, ℕ, List, [], ◌∷◌, Option, Some, None, slice_get, refl, sym, ap, ◌∙◌, subst, ⊎_elim, inl, inr}
 use Rattle.std.specs.Prelude.{Contains, Result, Ok, Err}
 use Rattle.std.specs.Option.{option_map}
 use Rattle.std.proofs.lemmas.Option.{none-some}
 use Rattle.std.proofs.lemmas.List.Elements.{Contains-append_right}
 use Rattle.commit_status.specs.declared.status.Status.{Status}
 use Rattle.commit_status.specs.declared.status.Status.TheVariants.{InProgress, Committed, Aborted}
-use Rattle.commit_status.specs.Window.{IdEntry, Window, IsWindow, IsActive, status_in, status_of}
+use Rattle.commit_status.specs.Window.{Window, IsWindow, IsActive, status_in, status_of}
 use Rattle.commit_status.specs.Changes.{Gives, Finishes, given_entry}
 use Rattle.commit_status.proofs.Places.{place-lt}
 use Rattle.commit_status.proofs.ChangesLemmas.{entry-at}
-use Rattle.commit_status.proofs.Giving.{gives-place_old, finished-place}
+use Rattle.commit_status.proofs.Giving.{gives-place_old, finished-place, slice_get-push_old}
 use Rattle.visibility.specs.Visible.{state_of}
 use Rattle.visibility.proofs.Makers.{state-some}
 use Rattle.status_cache.specs.Held.{KeepsCache, held_from}
@@ -56,16 +56,11 @@ stays-finishes w v ids end active f x status ended was =
 
 -- Ids are given.
 
-pushed : (xs : List IdEntry) (y : IdEntry) (i : ℕ) → i < length xs → slice_get (xs ++ y ∷ []) i ≡ slice_get xs i
-pushed [] y i h = absurd (omega arith)
-pushed (x ∷ xs) y zero h = refl
-pushed (x ∷ xs) y (suc i) h = pushed xs y i (omega arith)
-
 stays-gives : (w v : Window) (parent : Option ℕ) → Gives w v parent → EndedStays w v
 stays-gives w v parent gives x status ended was =
     let at = finished-place w x (λ active. ended (sym was ∙ active)) in
     ap status_in (entry-at v x at.0 (gives-place_old w v parent x at.0 gives at.1) ∙ ap (λ es. slice_get es at.0) gives.entries
-    ∙ pushed w.entries (given_entry parent) at.0 (place-lt w x at.0 at.1) ∙ sym (entry-at w x at.0 at.1)) ∙ was
+    ∙ slice_get-push_old w.entries (given_entry parent) at.0 (place-lt w x at.0 at.1) ∙ sym (entry-at w x at.0 at.1)) ∙ was
 
 stays-given : (xs : List ℕ) (w v : Window) (parent : Option ℕ) → GivesUnder w parent xs v → EndedStays w v
 stays-given [] w v parent gives = stays-same w v gives
@@ -104,9 +99,9 @@ module _ (old new : State) where
     change-stays (Changes.opens s o) = same-state (ap (λ (st : State). st.heap) o.is)
     change-stays (Changes.opens_by_statement s o) = same-state (ap (λ (st : State). st.heap) o.is)
     change-stays (Changes.closes s status c) = close-stays s status c (session_at old s) refl
-    change-stays (Changes.rolls_back s r) = stays-finishes old.heap.statuses new.heap.statuses r.back.since Aborted
-        (λ x since. own.active s r.session x r.at (subst (λ (ids : List ℕ). Contains ids x) (sym r.back.ids) (Contains-append_right r.now.own.ids r.back.since x since)))
-        r.back.finishes
+    change-stays (Changes.rolls_back s r) = stays-finishes old.heap.statuses new.heap.statuses r.since Aborted
+        (λ x since. own.active s r.session x r.at (subst (λ (ids : List ℕ). Contains ids x) (sym r.were) (Contains-append_right r.own.ids r.since x since)))
+        r.finishes
     change-stays (Changes.becomes s before now at goes is) = same-state (ap (λ (st : State). st.heap) is)
     change-stays (Changes.becomes_any s f goes is) = same-state (ap (λ (st : State). st.heap) is)
     change-stays (Changes.writes s write outcome t) = write-stays s write outcome t

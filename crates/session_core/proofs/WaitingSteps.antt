@@ -13,7 +13,7 @@ use Rattle.calls.specs.declared.reply.Reply.{Reply}
 use Rattle.calls.specs.declared.reply.Reply.TheVariants as reply
 use Rattle.calls.specs.declared.reply.Refusal.TheVariants as refusal
 use Rattle.calls.specs.Steps.{session_of}
-use Rattle.refinement.specs.Allowed.{Allows, passed, next, waiting, failing}
+use Rattle.refinement.specs.Allowed.{Allows, by_its_session, next}
 use Rattle.refinement.proofs.Runs.{blocked_of}
 use Rattle.refinement.proofs.Steps.{Agrees-waits}
 use Rattle.session_steps.specs.State.{seen, with_failed}
@@ -78,14 +78,14 @@ unblocked-is_exact old step reply below never follows exact = (exact, refl)
 -- Answered Busy.
 
 -- below, the session only goes on
-busy-next : (w : World) (step : Step) (o : ℕ) → next w step (reply.Refused (refusal.Busy o)) ≡ passed w (session_of step)
+busy-next : (w : World) (step : Step) (o : ℕ) → next w step (reply.Refused (refusal.Busy o)) ≡ by_its_session w (stepped w) (session_of step)
 busy-next w step.VacuumStep o = refl
 busy-next w _ o = refl
 
 busy-passed : (old : EngineView) (step : Step) (s o : ℕ) (below : EngineView) → session_of step ≡ Some s → EngineFollows old step (reply.Refused (refusal.Busy o)) below
     → (w : World) → EngineAgrees old w → EngineAgrees below (stepped w s)
 busy-passed old step s o below is follows w agrees =
-    subst (λ t. EngineAgrees below (passed w t)) is (subst (EngineAgrees below) (busy-next w step o) (follows w agrees).1)
+    subst (λ t. EngineAgrees below (by_its_session w (stepped w) t)) is (subst (EngineAgrees below) (busy-next w step o) (follows w agrees).1)
 
 -- the session that is told so is open
 busy-open : (w : World) (step : Step) (s o : ℕ) → session_of step ≡ Some s → Allows w step (reply.Refused (refusal.Busy o)) → (m : OpenSession) × (w.session s ≡ Some m)
@@ -136,7 +136,7 @@ pub blocked-follows : BlockedFollows
 blocked-follows old step s o below is free follows exact = (
   λ w agrees. let f = follows w agrees.engine in (
     (f.0, λ t is' ring. free (subst (λ (P : Type 0). P) (sym (same-ring old w s o agrees.waits)) (subst (λ n. ClosesRing w.waits_for n o) (same_Some t s (sym is' ∙ is)) ring))),
-    subst (λ t. WaitingAgrees (with_waits below (set old.waits s (Some o))) (waiting w t o)) (sym is) (blocked-agrees old step s o below is follows w agrees),
+    subst (λ t. WaitingAgrees (with_waits below (set old.waits s (Some o))) (by_its_session w (λ s. blocked_by w s o) t)) (sym is) (blocked-agrees old step s o below is follows w agrees),
     f.2,
     f.3,
     tt,
@@ -158,7 +158,7 @@ pub deadlock-follows : DeadlockFollows
 deadlock-follows old step s o below is ring follows exact = (
   λ w agrees. let f = follows w agrees.engine in (
     (s, o, is, f.0, subst (λ (P : Type 0). P) (same-ring old w s o agrees.waits) ring),
-    subst (λ t. WaitingAgrees (with_waits (failed_at below s) (set old.waits s None)) (failing w t)) (sym is) (failed-agrees old step s o below is follows w agrees),
+    subst (λ t. WaitingAgrees (with_waits (failed_at below s) (set old.waits s None)) (by_its_session w (λ s. change w s as_failed) t)) (sym is) (failed-agrees old step s o below is follows w agrees),
     f.2,
     f.3,
     tt,

@@ -11,7 +11,7 @@ use Rattle.calls.specs.declared.reply.Reply.TheVariants as reply
 use Rattle.calls.specs.declared.reply.Refusal.{Refusal}
 use Rattle.calls.specs.declared.reply.Refusal.TheVariants as refusal
 use Rattle.calls.specs.Steps.{session_of}
-use Rattle.refinement.specs.Allowed.{Allows, passed, after_refused_write, next}
+use Rattle.refinement.specs.Allowed.{Allows, by_its_session, after_refused_write, next}
 use Rattle.waits.specs.View.{wait_in}
 use Rattle.waits.proofs.WaitLemmas.{wait_in-ended, wait_in-kept}
 use Rattle.session_core.specs.State.{ended, woken, given_back, freed}
@@ -49,7 +49,7 @@ module _ (waits : List (Option ℕ)) (w : World) (same : (t : ℕ) → wait_in w
   pub ended-stepped : (s t : ℕ) → wait_in (set waits s None) t ≡ (stepped w s).waits_for t
   ended-stepped s t = wait_in-ended waits s t ∙ ap (cond (nat_eq t s) None) (same t)
 
-  passed-ended : (s : Option ℕ) (t : ℕ) → wait_in (ended s waits) t ≡ (passed w s).waits_for t
+  passed-ended : (s : Option ℕ) (t : ℕ) → wait_in (ended s waits) t ≡ (by_its_session w (stepped w) s).waits_for t
   passed-ended None t = same t
   passed-ended (Some s) t = ended-stepped s t
 

@@ -10,6 +10,7 @@ use Rattle.sound_page.specs.Sound.{SoundPage}
 use Rattle.heap_write.specs.Heap.{HeapView, slots_of}
 use Rattle.slot_fates.specs.Fates.{IsVersionFate, goes}
 use Rattle.slot_fates.proofs.FateLemmas.{fates-decide}
+use Rattle.heap_write.proofs.Plans.{pruned-page}
 use Rattle.session_steps.specs.State.{horizon_of}
 use Rattle.session_looks.specs.Explaining.{FatesForeseePruning}
 
@@ -22,6 +23,6 @@ fates-foresee-pruning st st' w p n t fate agrees cleans at f =
     ap (λ (h : HeapView). slots_on (slots_of h) p) c.is ∙ (puts-with_page st.heap.pages p c.after within).put in
     subst (λ (slots : List Slot). (version_at slots n ≡ None) ↔ (goes fate ≡ true)) (sym after)
     (fates-decide st.heap.statuses (horizon_of st) c.before.slots c.after.slots n t fate
-    (subst (SoundPage st.heap.statuses) before (agrees.sound.table.heap p)) c.pruned
+    (subst (SoundPage st.heap.statuses) before (agrees.sound.table.heap p)) (pruned-page st.heap st'.heap p (horizon_of st) c)
     (subst (λ (slots : List Slot). version_at slots n ≡ Some t) before at)
     (subst (λ (slots : List Slot). IsVersionFate st.heap.statuses (horizon_of st) slots n t.header fate) before f))

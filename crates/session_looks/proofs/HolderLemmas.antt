@@ -7,11 +7,8 @@ use Rattle.xid_circle.proofs.Members.{Contains-first, Contains-rest, Contains-no
 use Rattle.commit_status.specs.Window.{next_id}
 use Rattle.snapshot.specs.Snap.{earlier, earliest}
 use Rattle.snapshot.proofs.Earliest.{earlier-cases}
-use Rattle.calls.specs.declared.reply.Refusal.{Refusal}
-use Rattle.calls.specs.declared.reply.Refusal.TheVariants as refusal
-use Rattle.calls.specs.Bars.{BarsOpen}
 use Rattle.session_steps.specs.Keeps.{IsOwned}
-use Rattle.session_steps.specs.State.{State, session_at, engine_sessions, horizon_of}
+use Rattle.session_steps.specs.State.{State, horizon_of}
 use Rattle.sessions.specs.Session.{held_back}
 use Rattle.session_steps.proofs.Horizons.{held-cases}
 use Rattle.session_steps.proofs.OwnIdsLemmas.{open-within}
@@ -36,12 +33,6 @@ none-holds st none = elim (earliest-one (next_id st.heap.statuses) (held_back st
 
 pub none-anywhere : (st : State) → length st.sessions ≡ 64 → ((s : ℕ) → s < 64 → IsNoHolder st s) → (s : ℕ) → IsNoHolder st s
 none-anywhere st count below s e at holds = below s (let within = open-within st.sessions s e at in omega (arith, within, count)) e at holds
-
--- who is barred is not open
-pub barred-none : (st : State) (s : ℕ) (why : Refusal) → BarsOpen (engine_sessions st) s why → s < 64 → session_at st s ≡ None
-barred-none st s refusal.NoSuchSession bars within = absurd (omega arith)
-barred-none st s refusal.NotOpen bars within = bars.1
-barred-none st s _ bars within = absurd bars
 
 -- what a session holds back, by its parts
 

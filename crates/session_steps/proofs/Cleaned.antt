@@ -204,23 +204,17 @@ pruned : (st : State) (h : HeapView) (p : ℕ) (w : World) → Prunes st.heap h 
 pruned st h p w prunes agrees = thinned st h p w (ap (λ (g : HeapView). g.statuses) prunes.is) (ap (λ (g : HeapView). g.max_pages) prunes.is)
     (pruned-stays st.heap h p (horizon_of st) agrees.sound.table prunes) (prunes-stand st.heap h p (horizon_of st) prunes) agrees
 
-with-heap : (st st' : State) → st'.settings ≡ st.settings → st'.sessions ≡ st.sessions → st' ≡ with_parts st st'.heap
-with-heap st st' settings sessions = same st'.settings st'.heap st'.sessions st.settings st.sessions settings sessions
-  where
-    same : (a : Settings) (h : HeapView) (xs : List (Option Session)) (b : Settings) (ys : List (Option Session)) → a ≡ b → xs ≡ ys → state_with a h xs ≡ state_with b h ys
-    same a h xs b ys e f = rw (e, f) refl
-
 pub Follows-prune : (st st' : State) (p : ℕ) → Cleans st st' p → Follows st (step.Prune p) reply.Done st'
 Follows-prune st st' p cleans w agrees =
     let stays = pruned-stays st.heap st'.heap p (horizon_of st) agrees.sound.table cleans.heap in
-    (tt, subst (λ st'. Agrees st' w) (sym (with-heap st st' cleans.settings cleans.sessions)) (pruned st st'.heap p w cleans.heap agrees), stays.led)
+    (tt, subst (λ st'. Agrees st' w) (sym cleans.is) (pruned st st'.heap p w cleans.heap agrees), stays.led)
 
 -- a plan that checks, whoever made it
 pub Follows-apply : (st st' : State) (p : ℕ) (plan : PlanToApply) → AppliesPlan st st' p plan → Follows st (step.ApplyPlan p plan) reply.Done st'
 Follows-apply st st' p plan a w agrees =
     let stays = applied-stays st.heap st'.heap p (horizon_of st) plan.change plan.actions agrees.sound.table a.heap in (
       tt,
-      subst (λ st'. Agrees st' w) (sym (with-heap st st' a.settings a.sessions)) (thinned st st'.heap p w (ap (λ (g : HeapView). g.statuses) a.heap.is)
+      subst (λ st'. Agrees st' w) (sym a.is) (thinned st st'.heap p w (ap (λ (g : HeapView). g.statuses) a.heap.is)
           (ap (λ (g : HeapView). g.max_pages) a.heap.is) stays (applies-stand st.heap st'.heap p (horizon_of st) plan.change plan.actions a.heap) agrees),
       stays.led,
     )

@@ -9,7 +9,7 @@ use Rattle.std.proofs.Math.ListN.{length-set}
 use Rattle.std.proofs.lemmas.Option.{same_Some, none-some}
 use Rattle.std.specs.Option.{option_map}
 use Rattle.snapshot.specs.Snap.{Snap}
-use Rattle.history.specs.World.{World, MayScan}
+use Rattle.history.specs.World.{World, MayScan, by_index, by_heap}
 use Rattle.root_index.specs.View.{IndexView}
 use Rattle.table_indexes.specs.Indexes.{IndexesView, IsInUse, index_at, since_at}
 use Rattle.calls.specs.declared.step.Step.TheVariants as step
@@ -31,13 +31,14 @@ use Rattle.table_scans.specs.declared.progress.CursorScan.{CursorScan}
 use Rattle.table_scans.specs.declared.progress.CursorScan.TheVariants.{Rows}
 use Rattle.table_scans.specs.declared.progress.Scan.TheVariants.{Index, Heap}
 use Rattle.index_lookup.specs.declared.index_scan.IndexRange.{IndexRange}
-use Rattle.session_steps.specs.State.{State, session_at, put_session, map_session, with_cursor, with_kept, isolation_seen, seen, position_of, reader_of, engine_sessions}
-use Rattle.history.specs.Moves.{with_index_cursor, with_heap_cursor, without_cursor}
+use Rattle.session_steps.specs.State.{State, session_at, put_session, with_cursor, with_kept, isolation_seen, seen, position_of, reader_of, engine_sessions}
+use Rattle.history.specs.Moves.{without_cursor, opened}
 use Rattle.sessions.specs.Session.{keeping, kept_by, IsByStatement, is_too_new}
 use Rattle.session_steps.specs.Agrees.{Agrees, Sound, SessionKeeps, Follows, KeepsAllTargets}
 use Rattle.session_steps.proofs.InUse.{GoesAlong, used-still, marks-put, no-cursor, scans-put, agree}
 use Rattle.session_steps.proofs.Scanning.{opened-scans}
 use Rattle.sound_entries.specs.Since.{MayScanSince}
+use Rattle.history.specs.Cursors.{rows_within}
 use Rattle.session_steps.proofs.OwnIdsLemmas.{open-within, open-set_cases}
 use Rattle.session_steps.proofs.StateLemmas.{only-set}
 use Rattle.session_steps.proofs.Owns.{reader-is, now_taken, taken-fresh, taken-within}
@@ -110,9 +111,9 @@ Follows-open_heap_no_memory st s e at sound bare by =
 keeps-cursor : (st : State) (e : Session) (cursor : CursorScan) → SessionKeeps st.heap.statuses e → SessionKeeps st.heap.statuses (with_cursor (Some cursor) e)
 keeps-cursor st e cursor h = record { snapshot = h.snapshot; for_cursor = λ by kept. refl; topmost = h.topmost; prefixes = h.prefixes; distinct = h.distinct }
 
-module _ (st st' : State) (s : ℕ) (e : Session) (cursor : CursorScan) (at : session_at st s ≡ Some e) (is : st' ≡ put_session st s (map_session (with_cursor (Some cursor)) (session_at st s))) where
+module _ (st st' : State) (s : ℕ) (e : Session) (cursor : CursorScan) (at : session_at st s ≡ Some e) (is : st' ≡ put_session st s (option_map (with_cursor (Some cursor)) (session_at st s))) where
   pub moved : st' ≡ put_session st s (Some (with_cursor (Some cursor) e))
-  moved = is ∙ ap (λ o. put_session st s (map_session (with_cursor (Some cursor)) o)) at
+  moved = is ∙ ap (λ o. put_session st s (option_map (with_cursor (Some cursor)) o)) at
 
   pub only-cursor : OnlyIs (seen st).session (seen (put_session st s (Some (with_cursor (Some cursor) e)))).session s (Some (record (reader_of e) { cursor = position_of (Some cursor) }))
   only-cursor = let only = only-set st s (Some (with_cursor (Some cursor) e)) (open-within st.sessions s e at) in record { others = only.others; itself = only.itself }
@@ -170,7 +171,7 @@ module _ (st : State) (w : World) (s : ℕ) (e : Session) (cursor : Option Curso
 -- what readers see of it
 
 pub put-both : (st st' : State) (s : ℕ) (e : Session) (cursor : Option CursorScan) (kept : Option Snap) → session_at st s ≡ Some e → HasCursor st st' s cursor kept → st' ≡ put_session st s (Some (with_both cursor kept e))
-put-both st st' s e cursor kept at is = is ∙ ap (λ o. put_session st s (map_session (with_both cursor kept) o)) at
+put-both st st' s e cursor kept at is = is ∙ ap (λ o. put_session st s (option_map (with_both cursor kept) o)) at
 
 pub only-both : (st : State) (s : ℕ) (e : Session) (cursor : Option CursorScan) (kept : Option Snap) → session_at st s ≡ Some e
     → OnlyIs (seen st).session (seen (put_session st s (Some (with_both cursor kept e)))).session s (Some (record (reader_of e) { isolation = isolation_seen (keeping kept e.isolation); cursor = position_of cursor }))
@@ -201,7 +202,7 @@ pub opens-as : (st st' : State) (s : ℕ) (e : Session) (cursor : CursorScan) (k
     → HasCursor st st' s (Some cursor) kept → OpensCursor st st' s cursor
 opens-as st st' s e cursor kept at same is =
     put-both st st' s e (Some cursor) kept at is ∙ ap (λ (i : SessionIsolation). put_session st s (Some (record e { isolation = i; cursor = Some cursor }))) same
-    ∙ sym (ap (λ o. put_session st s (map_session (with_both (Some cursor) (Some (now_taken st))) o)) at)
+    ∙ sym (ap (λ o. put_session st s (option_map (with_both (Some cursor) (Some (now_taken st))) o)) at)
 
 pub Follows-opened_index : (st st' : State) (s : ℕ) (e : Session) (span : IndexRange) → session_at st s ≡ Some e → e.failed ≡ false → e.cursor ≡ None → span.low ≤ℤ span.high → span.last ≡ None → IsInUse st.heap.indexes span.index → is_too_new e span.index ≡ false
     → OpensCursor st st' s (Rows (Index span)) → Follows st (step.OpenIndex s span.index span.low span.high) reply.Done st'
@@ -216,7 +217,7 @@ Follows-opened_index st st' s e span at sound bare order none used may is w agre
     (sym (put-both st st' s e (Some (Rows (Index span))) (Some (now_taken st)) at is)) (
       f.0,
       agree agrees (used-still st.heap.indexes) (marks-put st.sessions s e (with_both (Some (Rows (Index span))) (Some (now_taken st)) e) at refl) (unmade refl refl)
-          (written-put st w s e (with_both (Some (Rows (Index span))) (Some (now_taken st)) e) (with_index_cursor w.history span.index span.low span.high) at agrees (λ m there. agrees.written s e m at there)) f.1
+          (written-put st w s e (with_both (Some (Rows (Index span))) (Some (now_taken st)) e) (opened w.history (by_index span.index) (rows_within span.index span.low span.high)) at agrees (λ m there. agrees.written s e m at there)) f.1
           (sound-both st w s e (Some (Rows (Index span))) (Some (now_taken st)) at agrees (taken-alone st) (λ some. refl) (along-span st w s e span agrees at used may)),
       led-same st w agrees,
     )
@@ -229,7 +230,7 @@ Follows-opened_heap st st' s e at sound bare is w agrees =
     subst (λ st'. Allows w (step.OpenHeap s) reply.Done × Agrees st' (next w (step.OpenHeap s) reply.Done) × KeepsAllTargets st st') (sym (put-both st st' s e (Some (Rows (Heap heap_start))) (Some (now_taken st)) at is)) (
       f.0,
       agree agrees (used-still st.heap.indexes) (marks-put st.sessions s e (with_both (Some (Rows (Heap heap_start))) (Some (now_taken st)) e) at refl) (unmade refl refl)
-          (written-put st w s e (with_both (Some (Rows (Heap heap_start))) (Some (now_taken st)) e) (with_heap_cursor w.history) at agrees (λ m there. agrees.written s e m at there)) f.1
+          (written-put st w s e (with_both (Some (Rows (Heap heap_start))) (Some (now_taken st)) e) (opened w.history by_heap (λ rows. rows)) at agrees (λ m there. agrees.written s e m at there)) f.1
           (sound-both st w s e (Some (Rows (Heap heap_start))) (Some (now_taken st)) at agrees (taken-alone st) (λ some. refl) (λ span here. absurd (cc))),
       led-same st w agrees,
     )

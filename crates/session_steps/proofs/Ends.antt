@@ -49,7 +49,7 @@ use Rattle.session_steps.proofs.OwnIdsLemmas.{open-within, open-set_cases}
 use Rattle.session_steps.proofs.Owns.{reader-is, reader-at}
 use Rattle.session_steps.proofs.Statements.{statement_sight}
 use Rattle.session_steps.proofs.Placing.{normal-active}
-use Rattle.session_steps.proofs.Returning.{keeps-returned}
+use Rattle.session_steps.proofs.Returning.{returned, keeps-returned}
 
 bounded-finish : (w v : Window) (ids : List ℕ) (end : Status) (s : Snap) → Finishes w v ids end → IsBounded w s → IsBounded v s
 bounded-finish w v ids end s f h = record {
@@ -246,10 +246,23 @@ module _ (st st' : State) (s : ℕ) (e : Session) (now : Option Session) (ids : 
     table = stays.sound;
   }
 
+-- nothing changes but the statuses, and the session
+ended-by : (st st' : State) (s : ℕ) (now : Option Session) (ids : List ℕ) (end : Status) → st' ≡ record st { heap = record st.heap { statuses = st'.heap.statuses }; sessions = set st.sessions s now }
+    → Finishes st.heap.statuses st'.heap.statuses ids end → IsWindow st'.heap.statuses → Ended st st' s now ids end
+ended-by st st' s now ids end is finishes window = record {
+  settings = ap (λ (x : State). x.settings) is;
+  pages = ap (λ (x : State). x.heap.pages) is;
+  indexes = ap (λ (x : State). x.heap.indexes) is;
+  max_pages = ap (λ (x : State). x.heap.max_pages) is;
+  sessions = ap (λ (x : State). x.sessions) is;
+  finishes = finishes;
+  window = window;
+}
+
 -- A session closes.
 
 ended-closed : (st st' : State) (s : ℕ) (e : Session) (end : Status) → session_at st s ≡ Some e → Closes st st' s end → Ended st st' s None e.own.ids end
-ended-closed st st' s e end at closes = record { settings = closes.settings; pages = closes.pages; indexes = closes.indexes; max_pages = closes.max_pages; sessions = closes.sessions; finishes = closes.finishes e at; window = closes.window e at }
+ended-closed st st' s e end at closes = ended-by st st' s None e.own.ids end closes.is (closes.finishes e at) (closes.window e at)
 
 nobody : {A : Type 0} (f : Session) → None ≡ Some f → A
 nobody f is = absurd (none-some f is)
@@ -276,21 +289,25 @@ aborts-sound st st' s e w at closes agrees =
 pub rolls-back-sound : (st st' : State) (s : ℕ) (before : List ℕ) (saved : List (List ℕ)) (w : World) (back : RollsBack st st' s) → back.session.own.saved ≡ before ∷ saved → Agrees st w → Sound st' × KeepsAllTargets st st'
 rolls-back-sound st st' s before saved w back is agrees =
     let e = back.session in
-    let ids : back.now.own.ids ≡ before = back.back.returns.ids ∙ ap newest is in
-    let were : e.own.ids ≡ before ++ back.back.since = back.back.ids ∙ ap (λ xs. xs ++ back.back.since) ids in
-    let change : Ended st st' s (Some back.now) back.back.since Aborted = record { settings = back.settings; pages = back.back.pages; indexes = back.back.indexes; max_pages = back.back.max_pages; sessions = back.sessions; finishes = back.back.finishes; window = back.back.window } in
-    let mine : (x : ℕ) → Contains back.back.since x → Contains e.own.ids x = λ x late. subst (λ xs. Contains xs x) (sym were) (Contains-append_right before back.back.since x late) in
-    let stays = aborted-stays st.heap st'.heap back.back.since agrees.sound.table
-    (table-finishes st st' s e (Some back.now) back.back.since Aborted (λ e. cc) back.at change w agrees mine) (since-alone st w agrees s e before back.back.since saved back.at is were) in
-    (Sound-ended st st' s e (Some back.now) back.back.since Aborted (λ e. cc) back.at change w agrees keeps scans (λ done x among. absurd (cc)) stays, stays.led)
+    let now = returned e back.own in
+    let ids : back.own.ids ≡ before = back.ids ∙ ap newest is in
+    let were : e.own.ids ≡ before ++ back.since = back.were ∙ ap (λ xs. xs ++ back.since) ids in
+    let change = ended-by st st' s (Some now) back.since Aborted back.is back.finishes back.window in
+    let mine : (x : ℕ) → Contains back.since x → Contains e.own.ids x = λ x late. subst (λ xs. Contains xs x) (sym were) (Contains-append_right before back.since x late) in
+    let stays = aborted-stays st.heap st'.heap back.since agrees.sound.table
+    (table-finishes st st' s e (Some now) back.since Aborted (λ e. cc) back.at change w agrees mine) (since-alone st w agrees s e before back.since saved back.at is were) in
+    (Sound-ended st st' s e (Some now) back.since Aborted (λ e. cc) back.at change w agrees (keeps ids) scans (λ done x among. absurd (cc)) stays, stays.led)
   where
     e : Session
     e = back.session
 
-    scans : (f : Session) → Some back.now ≡ Some f → SessionScans st.heap.statuses st.heap.indexes f
-    scans f same = subst (SessionScans st.heap.statuses st.heap.indexes) (same_Some back.now f same)
-        (scans-as st.heap.statuses st.heap.indexes e back.now back.back.returns.isolation back.back.returns.cursor back.back.returns.too_new (agrees.sound.scans s e back.at))
+    now : Session
+    now = returned e back.own
 
-    keeps : (f : Session) → Some back.now ≡ Some f → SessionKeeps st'.heap.statuses f
-    keeps f same = subst (λ f. SessionKeeps st'.heap.statuses f) (same_Some back.now f same) (keeps-finish st.heap.statuses st'.heap.statuses back.back.since Aborted back.now back.back.finishes
-        (keeps-returned st.heap.statuses e back.now before back.back.since saved back.back.returns back.back.ids is (agrees.sound.sessions s e back.at)))
+    scans : (f : Session) → Some now ≡ Some f → SessionScans st.heap.statuses st.heap.indexes f
+    scans f same = subst (SessionScans st.heap.statuses st.heap.indexes) (same_Some now f same)
+        (scans-as st.heap.statuses st.heap.indexes e now refl refl refl (agrees.sound.scans s e back.at))
+
+    keeps : back.own.ids ≡ before → (f : Session) → Some now ≡ Some f → SessionKeeps st'.heap.statuses f
+    keeps ids f same = subst (λ f. SessionKeeps st'.heap.statuses f) (same_Some now f same) (keeps-finish st.heap.statuses st'.heap.statuses back.since Aborted now back.finishes
+        (keeps-returned st.heap.statuses e back.own before back.since saved ids back.saved back.were is (agrees.sound.sessions s e back.at)))

@@ -261,7 +261,7 @@ module _ (st st' : State) (s : ℕ) (e : Session) (end : Status) (at : session_a
   only-closes =
       let only = only-set st s None (open-within st.sessions s e at) in
       let P : List (Option Session) → Type 0 = λ xs. OnlyIs (seen st).session (λ o. option_map reader_of (session_at (record st { sessions = xs }) o)) s None in
-      subst P (sym closes.sessions) only
+      subst P (sym (ap (λ (x : State). x.sessions) closes.is)) only
 
   own-finishes : (w : World) → relation.HeapAgrees (seen st) w → change.FinishesIds (state_of st.heap.statuses) (state_of st'.heap.statuses) (λ x. Contains e.own.ids x) end
   own-finishes w found = Finishes-from st.heap.statuses st'.heap.statuses e.own.ids end
@@ -272,36 +272,36 @@ module _ (st st' : State) (s : ℕ) (e : Session) (end : Status) (at : session_a
 
   -- the others have the same marks
   closed-marks : SameMarks st.sessions st'.sessions
-  closed-marks = subst (SameMarks st.sessions) (sym closes.sessions) (marks-close st.sessions s (open-within st.sessions s e at))
+  closed-marks = subst (SameMarks st.sessions) (sym (ap (λ (x : State). x.sessions) closes.is)) (marks-close st.sessions s (open-within st.sessions s e at))
 
   -- and it has written no more
   closed-written : (w : World) → Agrees st w → WrittenAgrees st' (put w s None)
-  closed-written w agrees = subst (λ xs. WrittenAgrees (record st { sessions = xs }) (put w s None)) (sym closes.sessions) (written-ends st w s e at agrees)
+  closed-written w agrees = subst (λ xs. WrittenAgrees (record st { sessions = xs }) (put w s None)) (sym (ap (λ (x : State). x.sessions) closes.is)) (written-ends st w s e at agrees)
 
   -- the pages stay
   closed-with : (w' : World) → relation.HeapAgrees (with_pages st' st.heap.pages) w' → relation.HeapAgrees (seen st') w'
-  closed-with w' found = subst (λ pages. relation.HeapAgrees (with_pages st' pages) w') (sym closes.pages) found
+  closed-with w' found = subst (λ pages. relation.HeapAgrees (with_pages st' pages) w') (sym (ap (λ (x : State). x.heap.pages) closes.is)) found
 
 pub Follows-abort : (st st' : State) (s : ℕ) (e : Session) → session_at st s ≡ Some e → Closes st st' s Aborted → Follows st (step.Abort s) reply.RolledBack st'
 Follows-abort st st' s e at closes w agrees =
     let f = theory.Follows-abort (seen st) s (reader_of e) (seen st').status (seen st').sees (seen st').session (only-closes st st' s e Aborted at closes) (reader-is st s e at)
     (own-finishes st st' s e Aborted at closes) (same-sights st st' s e Aborted at closes) w agrees.found in
     let sound' = aborts-sound st st' s e w at closes agrees in
-    (f.0, agree agrees (same-used st.heap.indexes st'.heap.indexes closes.indexes) (closed-marks st st' s e Aborted at closes) (unmade refl refl) (closed-written st st' s e Aborted at closes w agrees) (closed-with st st' s e Aborted at closes (next w (step.Abort s) reply.RolledBack) f.1) sound'.0, sound'.1)
+    (f.0, agree agrees (same-used st.heap.indexes st'.heap.indexes (ap (λ (x : State). x.heap.indexes) closes.is)) (closed-marks st st' s e Aborted at closes) (unmade refl refl) (closed-written st st' s e Aborted at closes w agrees) (closed-with st st' s e Aborted at closes (next w (step.Abort s) reply.RolledBack) f.1) sound'.0, sound'.1)
 
 pub Follows-commit_failed : (st st' : State) (s : ℕ) (e : Session) → session_at st s ≡ Some e → e.failed ≡ true → Closes st st' s Aborted → Follows st (step.Commit s) reply.RolledBack st'
 Follows-commit_failed st st' s e at failed closes w agrees =
     let f = theory.Follows-commit_failed (seen st) s (reader_of e) (seen st').status (seen st').sees (seen st').session (only-closes st st' s e Aborted at closes) (reader-is st s e at) failed
     (own-finishes st st' s e Aborted at closes) (same-sights st st' s e Aborted at closes) w agrees.found in
     let sound' = aborts-sound st st' s e w at closes agrees in
-    (f.0, agree agrees (same-used st.heap.indexes st'.heap.indexes closes.indexes) (closed-marks st st' s e Aborted at closes) (unmade refl refl) (closed-written st st' s e Aborted at closes w agrees) (closed-with st st' s e Aborted at closes (next w (step.Commit s) reply.RolledBack) f.1) sound'.0, sound'.1)
+    (f.0, agree agrees (same-used st.heap.indexes st'.heap.indexes (ap (λ (x : State). x.heap.indexes) closes.is)) (closed-marks st st' s e Aborted at closes) (unmade refl refl) (closed-written st st' s e Aborted at closes w agrees) (closed-with st st' s e Aborted at closes (next w (step.Commit s) reply.RolledBack) f.1) sound'.0, sound'.1)
 
 pub Follows-commit : (st st' : State) (s : ℕ) (e : Session) → session_at st s ≡ Some e → e.failed ≡ false → Closes st st' s Committed → Follows st (step.Commit s) reply.Committed st'
 Follows-commit st st' s e at sound closes w agrees =
     let f = theory.Follows-commit (seen st) s (reader_of e) (seen st').status (seen st').sees (seen st').session (only-closes st st' s e Committed at closes) (reader-is st s e at) sound
     (own-finishes st st' s e Committed at closes) (same-sights st st' s e Committed at closes) (λ snap x. decided snap st.heap.statuses x) w agrees.found in
     let sound' = commits-sound st st' s e w at closes agrees in
-    (f.0, agree agrees (same-used st.heap.indexes st'.heap.indexes closes.indexes) (closed-marks st st' s e Committed at closes) (unmade refl refl) (closed-written st st' s e Committed at closes w agrees) (closed-with st st' s e Committed at closes (next w (step.Commit s) reply.Committed) f.1) sound'.0, sound'.1)
+    (f.0, agree agrees (same-used st.heap.indexes st'.heap.indexes (ap (λ (x : State). x.heap.indexes) closes.is)) (closed-marks st st' s e Committed at closes) (unmade refl refl) (closed-written st st' s e Committed at closes w agrees) (closed-with st st' s e Committed at closes (next w (step.Commit s) reply.Committed) f.1) sound'.0, sound'.1)
 
 -- Writes that are refused before they are tried.
 

@@ -46,7 +46,7 @@ use Rattle.session_steps.specs.Agrees.{Agrees, Sound, SessionKeeps, SessionScans
 use Rattle.sound_entries.specs.Since.{IsExactSince}
 use Rattle.sound_entries.proofs.Since.{giving-since}
 use Rattle.session_steps.proofs.OwnIdsLemmas.{open-within, open-set_same, open-set_other, open-set_cases, distinct-both, keep-same, keep-given}
-use Rattle.session_steps.proofs.StateLemmas.{only-set}
+use Rattle.session_steps.proofs.StateLemmas.{only-set, with_own}
 use Rattle.session_steps.proofs.Windows.{GivesEach-from, SameSight-given, in-window-given, unseen-given}
 use Rattle.session_steps.proofs.Owns.{reader-is}
 use Rattle.session_steps.proofs.Statements.{kept-at}
@@ -54,10 +54,6 @@ use Rattle.session_steps.proofs.Statements.{kept-at}
 -- the state after a write: another heap, and another session in its place
 abbrev pub with_write : State → HeapView → ℕ → Session → State
 with_write st h s e = record { settings = st.settings; heap = h; sessions = set st.sessions s (Some e) }
-
--- the session with other ids of its own
-abbrev pub with_own : Session → Own → Session
-with_own e own = record e { own = own }
 
 -- A session that has as much memory or more, and is otherwise the same.
 

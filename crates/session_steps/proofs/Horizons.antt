@@ -5,13 +5,13 @@ use Rattle.std.proofs.lemmas.Option.{same_Some, none-some}
 use Rattle.std.proofs.lemmas.List.Elements.{Contains-append_left, Contains-append_right, Contains-append_cases}
 use Rattle.commit_status.specs.Window.{Window, IsWindow, IsUpToNext, next_id, turns}
 use Rattle.commit_status.proofs.Places.{upto-next, upto-given}
-use Rattle.std.specs.List.{fold}
-use Rattle.xid_circle.proofs.Members.{Contains-first, Contains-rest, Contains-cases, Contains-none}
-use Rattle.snapshot.specs.Snap.{Snap, earliest, listing, empty_at}
+use Rattle.xid_circle.proofs.Members.{Contains-first, Contains-cases, Contains-none}
+use Rattle.snapshot.specs.Snap.{Snap, earliest, empty_at}
 use Rattle.snapshot.specs.Laws.{IsEarliest}
-use Rattle.snapshot.proofs.Earliest.{earliest-is, earlier-cases}
+use Rattle.snapshot.proofs.Earliest.{earliest-is}
 use Rattle.history.specs.World.{World}
 use Rattle.visibility.proofs.Makers.{active-to}
+use Rattle.sound_entries.proofs.Since.{xmin-cases}
 use Rattle.sessions.specs.declared.session.Session.{Session}
 use Rattle.session_steps.specs.State.{State, session_at, reader_of, horizon_of}
 use Rattle.sessions.specs.Session.{kept_by, kept_xmin, owns_of, holds_back, held_back}
@@ -127,23 +127,6 @@ first-back e top at = own-back e top (first-of e.own.ids at)
     first-of : (ids : List ℕ) → slice_get ids 0 ≡ Some top → Contains (take 1 ids) top
     first-of [] at = absurd (none-some top at)
     first-of (x ∷ xs) at = subst (λ y. Contains (x ∷ take 0 xs) y) (same_Some x top at) (Contains-first x (take 0 xs))
-
--- what is listed first, or a topmost id
-xmin-cases : (owns : List (List ℕ)) (s : Snap)
-    → ((fold listing s owns).xmin ≡ s.xmin) ⊎ ((own : List ℕ) × (top : ℕ) × Contains owns own × (slice_get own 0 ≡ Some top) × ((fold listing s owns).xmin ≡ top))
-xmin-cases [] s = inl refl
-xmin-cases (own ∷ owns) s = elim (xmin-cases owns (listing s own)) [
-  | inl e ↦ listed own e
-  | inr some ↦ inr (some.0, some.1, Contains-rest own some.0 owns some.2, some.3, some.4)
-]
-  where
-    listed : (own : List ℕ) → (fold listing (listing s own) owns).xmin ≡ (listing s own).xmin
-        → ((fold listing (listing s own) owns).xmin ≡ s.xmin) ⊎ ((one : List ℕ) × (top : ℕ) × Contains (own ∷ owns) one × (slice_get one 0 ≡ Some top) × ((fold listing (listing s own) owns).xmin ≡ top))
-    listed [] e = inl e
-    listed (top ∷ children) e = elim (earlier-cases s.xmin top) [
-      | inl is_top ↦ inr (top ∷ children, top, Contains-first (top ∷ children) owns, refl, e ∙ is_top.1)
-      | inr is_old ↦ inl (e ∙ is_old.1)
-    ]
 
 -- its xmin is the next id or an open session's first: it is not before the horizon
 pub taken-late : (st : State) (w : World) → Agrees st w → turns st.heap.statuses.first (horizon_of st) ≤ turns st.heap.statuses.first (now_taken st).xmin

@@ -1,5 +1,6 @@
 -- A session asks its cursor over keys alone for keys: where what is noted of the pages holds, the engine follows the history.
 use Rattle.std.proofs.Common.{◌≡◌, ℕ, ◌<◌, ◌^◌, max, List, length, Some, false, refl, sym, ap, ◌∙◌, subst, arith}
+use Rattle.std.specs.Option.{option_map}
 use Rattle.std.specs.Prelude.{Vec}
 use Rattle.std.specs.declared.alloc.Global.{Global}
 use Rattle.std.proofs.lemmas.List.{length-map}
@@ -17,7 +18,7 @@ use Rattle.table_scans.specs.declared.progress.CursorScan.TheVariants.{Keys}
 use Rattle.table_scans.specs.declared.progress.KeyRange.{KeyRange}
 use Rattle.table_scans.specs.Keys.{TakesKeys, TakesSomeKeys}
 use Rattle.sessions.specs.declared.session.Session.{Session}
-use Rattle.session_steps.specs.State.{State, session_at, put_session, map_session, with_cursor, seen, seen_position, position_of, reader_of}
+use Rattle.session_steps.specs.State.{State, session_at, put_session, with_cursor, seen, seen_position, position_of, reader_of}
 use Rattle.history.specs.Moves.{with_taken}
 use Rattle.session_steps.specs.Agrees.{Agrees, Follows, KeepsAllTargets, NotesHold}
 use Rattle.session_steps.specs.Takes.{session_sight, HandsOutByKeys}
@@ -34,7 +35,7 @@ as-many : (keys : List ℕ) (rows : List Row) → keys ≡ keys_of rows → leng
 as-many keys rows are = sym (ap length are ∙ length-map rows (λ (r : Row). r.key))
 
 module _ (st st' : State) (s n : ℕ) (e : Session) (range left : KeyRange) (keys : Vec ℕ Global) (at : session_at st s ≡ Some e) (sound : e.failed ≡ false) (opened : e.cursor ≡ Some (Keys range))
-    (is : st' ≡ put_session st s (map_session (with_cursor (Some (Keys left))) (session_at st s))) where
+    (is : st' ≡ put_session st s (option_map (with_cursor (Some (Keys left))) (session_at st s))) where
   abbrev now : State
   now = put_session st s (Some (with_cursor (Some (Keys left)) e))
 

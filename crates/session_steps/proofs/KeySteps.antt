@@ -14,9 +14,11 @@ use Rattle.refinement.proofs.FollowsKeys as keys
 use Rattle.refinement.proofs.Runs.{unmade}
 use Rattle.table_scans.specs.declared.progress.CursorScan.TheVariants.{Keys}
 use Rattle.table_scans.specs.declared.progress.KeyRange.{KeyRange}
+use Rattle.history.specs.Moves.{opened}
+use Rattle.history.specs.World.{by_keys}
+use Rattle.history.specs.Cursors.{rows_within}
 use Rattle.sessions.specs.declared.session.Session.{Session}
 use Rattle.session_steps.specs.State.{State, session_at, put_session, isolation_seen, seen, position_of, reader_of, engine_sessions}
-use Rattle.history.specs.Moves.{with_keys_cursor}
 use Rattle.sessions.specs.Session.{keeping, IsByStatement}
 use Rattle.session_steps.specs.Agrees.{Agrees, Follows, KeepsAllTargets}
 use Rattle.session_steps.specs.Exact.{OpensCursor}
@@ -52,7 +54,7 @@ Follows-opened_keys st st' s e range at sound bare order none is w agrees =
     (sym (put-both st st' s e (Some (Keys range)) (Some (now_taken st)) at is)) (
       f.0,
       agree agrees (used-still st.heap.indexes) (marks-put st.sessions s e (with_both (Some (Keys range)) (Some (now_taken st)) e) at refl) (unmade refl refl)
-          (written-put st w s e (with_both (Some (Keys range)) (Some (now_taken st)) e) (with_keys_cursor w.history range.low range.high) at agrees (λ m there. agrees.written s e m at there)) f.1
+          (written-put st w s e (with_both (Some (Keys range)) (Some (now_taken st)) e) (opened w.history by_keys (rows_within 0 range.low range.high)) at agrees (λ m there. agrees.written s e m at there)) f.1
           (sound-both st w s e (Some (Keys range)) (Some (now_taken st)) at agrees (taken-alone st) (λ some. refl) (λ span here. absurd (cc))),
       led-same st w agrees,
     )

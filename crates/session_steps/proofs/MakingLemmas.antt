@@ -68,7 +68,7 @@ some-used o entries is = ap is_some is
 
 -- What no open session has.
 
-given-from : (o : Option ℕ) (s : Status) → IsSome (option_map (λ _. s) o) → IsSome o
+pub given-from : (o : Option ℕ) (s : Status) → IsSome (option_map (λ _. s) o) → IsSome o
 given-from None s some = absurd (cc some)
 given-from (Some i) s some = refl
 

@@ -87,4 +87,4 @@ pub writer-among : (st : State) (used : List (Option Session)) (found : Option �
     → MatchOption found ((s : ℕ) (e : Session) → open_at used s ≡ Some e → e.own.ids ≡ []) (λ s. (e : Session) × (open_at used s ≡ Some e) × (e.own.ids ≢ []))
     → MatchOption found (NobodyHasId st) (λ s. SomeoneHasId st)
 writer-among st used None holds none = λ s e at. none s e (holds.each s ∙ at)
-writer-among st used (Some s) holds some = record { number = s; session = some.0; at = sym (holds.each s) ∙ some.1; wrote = some.2 }
+writer-among st used (Some s) holds some = (s, some.0, sym (holds.each s) ∙ some.1, some.2)

@@ -30,7 +30,7 @@ no-place w x bare = of (place w x) refl
     of None is = is
     of (Some i) is = absurd (let lt = place-lt w x i is in let none = ap length bare in omega arith)
 
-none-at : (n : ℕ) → version_at [] n ≡ None
+pub none-at : (n : ℕ) → version_at [] n ≡ None
 none-at zero = refl
 none-at (suc n) = refl
 

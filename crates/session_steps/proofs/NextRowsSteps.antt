@@ -1,5 +1,6 @@
 -- The next rows or keys of a cursor are written to places: whatever the answer, the engine follows the history.
 use Rattle.std.proofs.Common.{◌≡◌, ℕ, ◌<◌, ◌≤◌, ◌^◌, max, List, [], ◌∷◌, length, subst, Some, Ok, Err, false, refl, sym, ap, ◌∙◌, arith}
+use Rattle.std.specs.Option.{option_map}
 use Rattle.tuple_header.specs.declared.row_place.RowPlace.{RowPlace}
 use Rattle.tuple_header.specs.declared.version.Row.{Row}
 use Rattle.tuple_header.specs.Places.{places_with}
@@ -17,7 +18,7 @@ use Rattle.table_scans.specs.Keys.{TakesKeys, PutsKeys, places_with_keys}
 use Rattle.table_scans.proofs.KeyLemmas.{no-key_taken}
 use Rattle.table_scans.proofs.ScanLemmas.{no-rows}
 use Rattle.sessions.specs.declared.session.Session.{Session}
-use Rattle.session_steps.specs.State.{State, session_at, put_session, map_session, with_cursor, engine_sessions}
+use Rattle.session_steps.specs.State.{State, session_at, put_session, with_cursor, engine_sessions}
 use Rattle.session_steps.specs.Takes.{session_sight}
 use Rattle.session_steps.specs.NextRows.{AnswersNextRows}
 use Rattle.session_steps.proofs.KeyNext.{Follows-keys, hands-out_keys, with_keys}
@@ -48,7 +49,7 @@ module _ (st : State) (s : ℕ) (e : Session) (cursor : Scan) (places : List Row
     exact = refl;
   }
 
-  rows-put : (st' : State) → 0 < count → 0 < length places → length places < 2 ^ 63 → st' ≡ put_session st s (map_session (with_cursor (Some (Rows to))) (session_at st s)) → AnswersNextRows st s places (Ok count) after st'
+  rows-put : (st' : State) → 0 < count → 0 < length places → length places < 2 ^ 63 → st' ≡ put_session st s (option_map (with_cursor (Some (Rows to))) (session_at st s)) → AnswersNextRows st s places (Ok count) after st'
   rows-put st' above some fits is =
       let few = up-to-most st e cursor (length places) h.rows to (h.takes above) in
       let rows = with_rows h.rows (omega (arith, fits, few)) in
@@ -74,7 +75,7 @@ module _ (st : State) (s : ℕ) (e : Session) (range : KeyRange) (places : List 
       nothing [] bare = refl
       nothing (key ∷ keys) bare = absurd (omega arith)
 
-  keys-put : (st' : State) → 0 < count → 0 < length places → length places < 2 ^ 63 → st' ≡ put_session st s (map_session (with_cursor (Some (Keys left))) (session_at st s)) → AnswersNextRows st s places (Ok count) after st'
+  keys-put : (st' : State) → 0 < count → 0 < length places → length places < 2 ^ 63 → st' ≡ put_session st s (option_map (with_cursor (Some (Keys left))) (session_at st s)) → AnswersNextRows st s places (Ok count) after st'
   keys-put st' above some fits is =
       let few = h.takes.at_most in
       let keys = with_keys h.keys (omega (arith, fits, few)) in
@@ -97,8 +98,8 @@ module _ (st : State) (s : ℕ) (e : Session) (places : List RowPlace) (count : 
   none-put (Keys range) to opened (left, same, puts) some none = no-keys_put st s e range places count left after at sound opened puts some none
 
   pub some-put : (cursor to : CursorScan) → e.cursor ≡ Some cursor → PutsOfCursor (session_sight st e) cursor places count to after → (st' : State) → 0 < count → 0 < length places → length places < 2 ^ 63
-      → st' ≡ put_session st s (map_session (with_cursor (Some to)) (session_at st s)) → AnswersNextRows st s places (Ok count) after st'
+      → st' ≡ put_session st s (option_map (with_cursor (Some to)) (session_at st s)) → AnswersNextRows st s places (Ok count) after st'
   some-put (Rows scan) to opened (left, same, puts) st' above some fits is =
-      rows-put st s e scan places count left after at sound opened puts st' above some fits (is ∙ ap (λ (c : CursorScan). put_session st s (map_session (with_cursor (Some c)) (session_at st s))) same)
+      rows-put st s e scan places count left after at sound opened puts st' above some fits (is ∙ ap (λ (c : CursorScan). put_session st s (option_map (with_cursor (Some c)) (session_at st s))) same)
   some-put (Keys range) to opened (left, same, puts) st' above some fits is =
-      keys-put st s e range places count left after at sound opened puts st' above some fits (is ∙ ap (λ (c : CursorScan). put_session st s (map_session (with_cursor (Some c)) (session_at st s))) same)
+      keys-put st s e range places count left after at sound opened puts st' above some fits (is ∙ ap (λ (c : CursorScan). put_session st s (option_map (with_cursor (Some c)) (session_at st s))) same)

@@ -1,5 +1,6 @@
 -- A session asks its cursor for rows, or for keys: whatever the answer, the engine follows the history.
 use Rattle.std.proofs.Common.{◌≡◌, ℕ, ◌+◌, ◌<◌, ◌^◌, max, List, length, Option, Some, false, refl, sym, ap, ◌∙◌, subst, arith}
+use Rattle.std.specs.Option.{option_map}
 use Rattle.std.specs.Prelude.{Vec}
 use Rattle.std.specs.declared.alloc.Global.{Global}
 use denote.RawPtr.{null_ptr}
@@ -31,7 +32,7 @@ use Rattle.table_scans.specs.declared.progress.CursorScan.{CursorScan}
 use Rattle.table_scans.specs.declared.progress.CursorScan.TheVariants.{Rows, Keys}
 use Rattle.table_scans.specs.declared.progress.Scan.{Scan}
 use Rattle.table_scans.specs.declared.progress.Scan.TheVariants.{Index, Heap}
-use Rattle.session_steps.specs.State.{State, session_at, put_session, map_session, with_cursor, seen, seen_position, position_of, reader_of, engine_sessions}
+use Rattle.session_steps.specs.State.{State, session_at, put_session, with_cursor, seen, seen_position, position_of, reader_of, engine_sessions}
 use Rattle.history.specs.Moves.{with_taken}
 use Rattle.history.specs.Cursors.{keys_of}
 use Rattle.sessions.specs.Session.{kept_by}
@@ -112,7 +113,7 @@ Follows-no_memory st s n e (Keys range) at sound opened some hold w agrees =
 -- Rows are handed out: the cursor alone moves.
 
 module _ (st st' : State) (s n : ℕ) (e : Session) (after : CursorScan) (rows : Vec Row Global) (at : session_at st s ≡ Some e)
-    (is : st' ≡ put_session st s (map_session (with_cursor (Some after)) (session_at st s))) where
+    (is : st' ≡ put_session st s (option_map (with_cursor (Some after)) (session_at st s))) where
   abbrev now : State
   now = put_session st s (Some (with_cursor (Some after) e))
 
@@ -145,7 +146,7 @@ along-left w indexes isolation cursor span left same opened along other is =
 
 module _ (st st' : State) (s n : ℕ) (e : Session) (rows : Vec Row Global) (at : session_at st s ≡ Some e) (sound : e.failed ≡ false) (some : 0 < length rows.items) where
   Follows-rows_in_index : (span left : IndexRange) → e.cursor ≡ Some (Rows (Index span)) → TakesRows (session_sight st e) span left (max 1 n) rows.items
-      → st' ≡ put_session st s (map_session (with_cursor (Some (Rows (Index left)))) (session_at st s)) → Follows st (step.Next s n) (reply.Rows rows) st'
+      → st' ≡ put_session st s (option_map (with_cursor (Some (Rows (Index left)))) (session_at st s)) → Follows st (step.Next s n) (reply.Rows rows) st'
   Follows-rows_in_index span left opened takes is w agrees =
       let here = at-cursor st w s e (Rows (Index span)) agrees at opened in
       let walks = scans-walk takes.scans in
@@ -158,40 +159,40 @@ module _ (st st' : State) (s n : ℕ) (e : Session) (rows : Vec Row Global) (at 
       (λ w' agrees'. along-left st.heap.statuses st.heap.indexes e.isolation e.cursor span left same opened (agrees'.sound.scans s e at).cursor) (λ w' agrees'. f) w agrees
 
   Follows-rows_in_heap : (from to : Tid) → e.cursor ≡ Some (Rows (Heap from)) → (IsWindow st.heap.statuses → WalksHeap st e from to rows.items)
-      → st' ≡ put_session st s (map_session (with_cursor (Some (Rows (Heap to)))) (session_at st s)) → Follows st (step.Next s n) (reply.Rows rows) st'
+      → st' ≡ put_session st s (option_map (with_cursor (Some (Rows (Heap to)))) (session_at st s)) → Follows st (step.Next s n) (reply.Rows rows) st'
   Follows-rows_in_heap from to opened walks is =
       put-after st st' s n e (Rows (Heap to)) rows at is (λ w agrees other is'. absurd (cc))
       (λ w agrees. cursors.Follows-next_in_heap (seen st) s (reader_of e) from to n rows (seen (now st st' s n e (Rows (Heap to)) rows at is)).session
       (only-at st st' s n e (Rows (Heap to)) rows at is (in_heap to) refl) (reader-is st s e at) sound (ap position_of opened) (walks agrees.sound.window) some)
 
-  moved-as : (after after' : Scan) → after ≡ after' → st' ≡ put_session st s (map_session (with_cursor (Some (Rows after))) (session_at st s))
-      → st' ≡ put_session st s (map_session (with_cursor (Some (Rows after'))) (session_at st s))
-  moved-as after after' same is = is ∙ ap (λ (c : Scan). put_session st s (map_session (with_cursor (Some (Rows c))) (session_at st s))) same
+  moved-as : (after after' : Scan) → after ≡ after' → st' ≡ put_session st s (option_map (with_cursor (Some (Rows after))) (session_at st s))
+      → st' ≡ put_session st s (option_map (with_cursor (Some (Rows after'))) (session_at st s))
+  moved-as after after' same is = is ∙ ap (λ (c : Scan). put_session st s (option_map (with_cursor (Some (Rows c))) (session_at st s))) same
 
   Follows-taken : (cursor after : Scan) → e.cursor ≡ Some (Rows cursor) → Takes (session_sight st e) cursor n rows.items after
-      → st' ≡ put_session st s (map_session (with_cursor (Some (Rows after))) (session_at st s)) → Follows st (step.Next s n) (reply.Rows rows) st'
+      → st' ≡ put_session st s (option_map (with_cursor (Some (Rows after))) (session_at st s)) → Follows st (step.Next s n) (reply.Rows rows) st'
   Follows-taken (Index span) after opened (left, same, takes) is = Follows-rows_in_index span left opened takes (moved-as after (Index left) same is)
   Follows-taken (Heap from) after opened (page, same, takes) is = Follows-rows_in_heap from (start_of (page + 1)) opened (λ window. page-walk st e window from page rows.items takes) (moved-as after (Heap (start_of (page + 1))) same is)
 
   -- so many at most
   Follows-taken_up_to : (cursor after : Scan) → 0 < n → e.cursor ≡ Some (Rows cursor) → TakesUpTo (session_sight st e) cursor n rows.items after
-      → st' ≡ put_session st s (map_session (with_cursor (Some (Rows after))) (session_at st s)) → Follows st (step.Next s n) (reply.Rows rows) st'
+      → st' ≡ put_session st s (option_map (with_cursor (Some (Rows after))) (session_at st s)) → Follows st (step.Next s n) (reply.Rows rows) st'
   Follows-taken_up_to (Index span) after above opened (left, same, takes) is =
       Follows-rows_in_index span left opened (subst (λ most. TakesRows (session_sight st e) span left most rows.items) (omega arith) takes) (moved-as after (Index left) same is)
   Follows-taken_up_to (Heap from) after above opened (to, same, takes) is = Follows-rows_in_heap from to opened (λ window. part-walk st e window from n rows.items to takes) (moved-as after (Heap to) same is)
 
 pub Follows-rows : (st st' : State) (s n : ℕ) (e : Session) (cursor after : Scan) (rows : Vec Row Global) → session_at st s ≡ Some e → e.failed ≡ false → e.cursor ≡ Some (Rows cursor)
-    → TakesSome (session_sight st e) cursor n rows.items after → st' ≡ put_session st s (map_session (with_cursor (Some (Rows after))) (session_at st s)) → Follows st (step.Next s n) (reply.Rows rows) st'
+    → TakesSome (session_sight st e) cursor n rows.items after → st' ≡ put_session st s (option_map (with_cursor (Some (Rows after))) (session_at st s)) → Follows st (step.Next s n) (reply.Rows rows) st'
 Follows-rows st st' s n e cursor after rows at sound opened taken is = Follows-taken st st' s n e rows at sound taken.some cursor after opened taken.takes is
 
 pub Follows-rows_up_to : (st st' : State) (s n : ℕ) (e : Session) (cursor after : Scan) (rows : Vec Row Global) → session_at st s ≡ Some e → e.failed ≡ false → e.cursor ≡ Some (Rows cursor) → 0 < length rows.items → 0 < n
-    → TakesUpTo (session_sight st e) cursor n rows.items after → st' ≡ put_session st s (map_session (with_cursor (Some (Rows after))) (session_at st s)) → Follows st (step.Next s n) (reply.Rows rows) st'
+    → TakesUpTo (session_sight st e) cursor n rows.items after → st' ≡ put_session st s (option_map (with_cursor (Some (Rows after))) (session_at st s)) → Follows st (step.Next s n) (reply.Rows rows) st'
 Follows-rows_up_to st st' s n e cursor after rows at sound opened some above takes is = Follows-taken_up_to st st' s n e rows at sound some cursor after above opened takes is
 
 -- And so exactly.
 
 pub hands-out : (takes : Sight → Scan → ℕ → List Row → Scan → Type 0) (st st' : State) (s n : ℕ) (e : Session) (cursor after : Scan) (rows : List Row) → session_at st s ≡ Some e → e.cursor ≡ Some (Rows cursor)
-    → takes (session_sight st e) cursor n rows after → st' ≡ put_session st s (map_session (with_cursor (Some (Rows after))) (session_at st s)) → HandsOutBy takes st st' s n rows
+    → takes (session_sight st e) cursor n rows after → st' ≡ put_session st s (option_map (with_cursor (Some (Rows after))) (session_at st s)) → HandsOutBy Rows (λ sight before rows after. takes sight before n rows after) st st' s rows
 hands-out takes st st' s n e cursor after rows at opened taken is = record {
   session = e;
   there = at;

@@ -1,47 +1,39 @@
 -- A session in its place becomes another, when it sets a savepoint, returns to one, or releases it.
-use Rattle.std.proofs.Common.{◌≡◌, ◌≢◌, ℕ, ◌<◌, List, [], ◌∷◌, ◌++◌, length, set, Option, Some, None, false, refl, sym, ap, ◌∙◌, subst}
+use Rattle.std.proofs.Common.{◌≡◌, ◌≢◌, ℕ, ◌<◌, List, [], ◌∷◌, ◌++◌, length, set, Option, Some, None, refl, sym, ap, ◌∙◌, subst}
 use Rattle.std.proofs.Math.ListN.{length-set}
 use Rattle.std.proofs.lemmas.Option.{same_Some}
-use Rattle.commit_status.specs.declared.status.Status.TheVariants.{InProgress, Aborted}
-use Rattle.commit_status.specs.Window.{IsWindow}
+use Rattle.commit_status.specs.declared.status.Status.TheVariants.{Aborted}
 use Rattle.commit_status.specs.Changes.{Finishes}
-use Rattle.snapshot.specs.Own.{Own, newest}
+use Rattle.snapshot.specs.Own.{Own}
 use Rattle.calls.specs.declared.step.Step.TheVariants as step
 use Rattle.calls.specs.declared.reply.Reply.TheVariants as reply
+use Rattle.heap_pages.specs.View.{PagesView}
+use Rattle.table_indexes.specs.Indexes.{IndexesView}
 use Rattle.heap_write.specs.Heap.{HeapView}
+use Rattle.table_integrity.proofs.Forgetting.{aborted-ended}
 use Rattle.sessions.specs.declared.session.Session.{Session}
 use Rattle.session_steps.specs.State.{State, session_at, put_session}
 use Rattle.session_steps.specs.Keeps.{EngineKeeps}
 use Rattle.sessions.specs.Places.{open_at}
 use Rattle.session_steps.specs.Agrees.{Follows}
-use Rattle.session_steps.specs.Changes.{SetsSavepoint, Releases, RollsBackOn, RollsBack}
+use Rattle.session_steps.specs.Changes.{SetsSavepoint, Releases, RollsBack}
 use Rattle.session_steps.specs.Tests.{MayAct}
 use Rattle.session_steps.proofs.OwnIdsLemmas.{keep-dropped}
+use Rattle.session_steps.proofs.StateLemmas.{with_own}
 use Rattle.sessions.proofs.Idle.{open-put}
 use Rattle.session_steps.proofs.Savepoints.{Follows-savepoint, Follows-release, Follows-roll_back_to}
 
-unfinished : Aborted ≢ InProgress
-unfinished is = cc
-
-pub keeps-returned : (xs : List (Option Session)) (h h' : HeapView) (s : ℕ) (e e' : Session) → open_at xs s ≡ Some e → RollsBackOn h h' e e' → EngineKeeps xs h.statuses → EngineKeeps (set xs s (Some e')) h'.statuses
-keeps-returned xs h h' s e e' at back k = record {
+pub keeps-returned : (xs : List (Option Session)) (h h' : HeapView) (s : ℕ) (e e' : Session) (since : List ℕ) → open_at xs s ≡ Some e → e.own.ids ≡ e'.own.ids ++ since → Finishes h.statuses h'.statuses since Aborted → EngineKeeps xs h.statuses
+    → EngineKeeps (set xs s (Some e')) h'.statuses
+keeps-returned xs h h' s e e' since at were finishes k = record {
   count = length-set xs s (Some e') ∙ k.count;
-  own = keep-dropped xs h.statuses h'.statuses s e e' back.since Aborted at back.ids unfinished back.finishes k.own;
+  own = keep-dropped xs h.statuses h'.statuses s e e' since Aborted at were aborted-ended finishes k.own;
 }
 
--- what the heap and the session's own ids say of a return
-pub rolls-back-on : (h h' : HeapView) (e : Session) (own : Own) (since : List ℕ) → h'.pages ≡ h.pages → h'.indexes ≡ h.indexes → h'.max_pages ≡ h.max_pages → e.own.ids ≡ newest e.own.saved ++ since → own.ids ≡ newest e.own.saved
-    → own.saved ≡ e.own.saved → Finishes h.statuses h'.statuses since Aborted → IsWindow h'.statuses → RollsBackOn h h' e (record e { own = own; failed = false })
-rolls-back-on h h' e own since pages indexes max_pages were ids saved finishes window = record {
-  pages = pages;
-  indexes = indexes;
-  max_pages = max_pages;
-  returns = record { isolation = refl; ids = ids; saved = saved; sound = refl; cursor = refl; too_new = refl };
-  since = since;
-  ids = were ∙ ap (λ xs. xs ++ since) (sym ids);
-  finishes = finishes;
-  window = window;
-}
+-- only the statuses of the heap change
+pub only-statuses : (h h' : HeapView) → h'.pages ≡ h.pages → h'.indexes ≡ h.indexes → h'.max_pages ≡ h.max_pages → h' ≡ record h { statuses = h'.statuses }
+only-statuses h h' pages indexes max_pages = ap (λ (x : PagesView). record h' { pages = x }) pages ∙ ap (λ (x : IndexesView). record h' { pages = h.pages; indexes = x }) indexes
+    ∙ ap (λ (x : ℕ). record h' { pages = h.pages; indexes = h.indexes; max_pages = x }) max_pages
 
 -- a savepoint that is not set leaves all as it was
 pub unnoted : (before st : State) (s : ℕ) (e : Session) (own : Own) → before ≡ st → session_at before s ≡ Some e → own ≡ e.own → put_session before s (Some (record e { own = own })) ≡ st
@@ -69,15 +61,18 @@ acts-there st s e f acts there = subst (λ e. MayAct st s e) (same-one st s e f 
 pub some-there : (st : State) (s : ℕ) (e f : Session) → session_at st s ≡ Some e → session_at st s ≡ Some f → length e.own.saved ≢ 0 → f.own.saved ≢ []
 some-there st s e f at there some none = some (ap (λ (e : Session). length e.own.saved) (same-one st s e f at there) ∙ ap length none)
 
-pub Follows-noted : (st st' : State) (s : ℕ) (e f now : Session) → MayAct st s e → session_at st s ≡ Some f → length f.own.saved < 32 → st' ≡ put_session st s (Some now) → SetsSavepoint f now → Follows st (step.Savepoint s) reply.Done st'
-Follows-noted st st' s e f now acts there few is sets =
+pub Follows-noted : (st st' : State) (s : ℕ) (e f : Session) (own : Own) → MayAct st s e → session_at st s ≡ Some f → length f.own.saved < 32 → st' ≡ put_session st s (Some (with_own f own)) → SetsSavepoint f.own own
+    → Follows st (step.Savepoint s) reply.Done st'
+Follows-noted st st' s e f own acts there few is sets =
     let acts = acts-there st s e f acts there in
-    Follows-savepoint st st' s f acts.1 acts.2 acts.3 few now is sets
+    Follows-savepoint st st' s f acts.1 acts.2 acts.3 few own is sets
 
-pub Follows-forgotten : (st st' : State) (s : ℕ) (e f now : Session) → MayAct st s e → session_at st s ≡ Some f → length e.own.saved ≢ 0 → st' ≡ put_session st s (Some now) → Releases f now → Follows st (step.Release s) reply.Done st'
-Follows-forgotten st st' s e f now acts there some is releases =
-    let saved = some-saved e.own.saved some in
-    Follows-release st st' s e saved.0 saved.1 acts.1 acts.2 acts.3 saved.2 now is (subst (λ f. Releases f now) (same-one st s f e there acts.1) releases)
+pub Follows-forgotten : (st st' : State) (s : ℕ) (e f : Session) (own : Own) → MayAct st s e → session_at st s ≡ Some f → length e.own.saved ≢ 0 → st' ≡ put_session st s (Some (with_own f own)) → Releases f.own own → Follows st (step.Release s) reply.Done st'
+Follows-forgotten st st' s e f own acts there some is releases =
+    let one = same-one st s e f acts.1 there in
+    let acts = acts-there st s e f acts there in
+    let saved = some-saved f.own.saved (subst (λ (e : Session). length e.own.saved ≢ 0) one some) in
+    Follows-release st st' s f saved.0 saved.1 acts.1 acts.2 acts.3 saved.2 own is releases
 
 pub Follows-returned : (st st' : State) (s : ℕ) (e : Session) → session_at st s ≡ Some e → e.cursor ≡ None → length e.own.saved ≢ 0 → RollsBack st st' s → Follows st (step.RollbackTo s) reply.Done st'
 Follows-returned st st' s e at bare some back =

@@ -1,11 +1,7 @@
 -- What is said of a refusal, where it holds, and what `?` hands on.
-use Rattle.std.proofs.Common.{◌≡◌, Result, Ok, Err, OnErr, ap, ◌∙◌}
+use Rattle.std.proofs.Common.{◌≡◌, Result, Err, ap, ◌∙◌}
 use Rattle.std.specs.Prelude.{IsErrAnd}
 use Rattle.std.proofs.lemmas.Result.{err_from_is_err_and}
-
-pub on-err : {T E : Type 0} {P : Type 0} (r : Result T E) → P → OnErr r P
-on-err (Ok x) p = tt
-on-err (Err e) p = p
 
 -- it is the refusal that was met
 pub handed-on : {T E : Type 0} {e : E} (r : Result T E) → IsErrAnd r (λ f. f ≡ e) → r ≡ Err e

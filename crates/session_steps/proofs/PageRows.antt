@@ -31,18 +31,12 @@ Follows-page_rows st s p rows sees w agrees =
 pub page-answered : (st : State) (s p : ℕ) (rows : Vec Row Global) → SeesOnPage st s p rows.items → AnswersStep st (step.TakePage s p) (reply.Rows rows) st
 page-answered st s p rows sees = record { follows = Follows-page_rows st s p rows sees; exact = (sees, refl) }
 
+Follows-page_refused : (st : State) (s p : ℕ) (r : Refusal) → RefusesRows st s p r → Follows st (step.TakePage s p) (reply.Refused r) st
+Follows-page_refused st s p refusal.NoSuchPage is = Follows-same st (step.TakePage s p) (reply.Refused refusal.NoSuchPage) tt
+    (theory.Follows-page_refused (seen st) s p (reader_of is.0.0) refusal.NoSuchPage (reader-is st s is.0.0 is.0.2) is.0.3 (λ w m ready. (m, ready)))
+Follows-page_refused st s p refusal.NoMemory is = Follows-same st (step.TakePage s p) (reply.Refused refusal.NoMemory) tt
+    (theory.Follows-page_refused (seen st) s p (reader_of is.1.session) refusal.NoMemory (reader-is st s is.1.session is.1.there) is.1.sound (λ w m ready. (m, ready)))
+Follows-page_refused st s p r is = Follows-same st (step.TakePage s p) (reply.Refused r) tt (theory.Follows-unready_page (seen st) s p r (unready_by st s r is))
+
 pub page-refused : (st : State) (s p : ℕ) (r : Refusal) → RefusesRows st s p r → AnswersStep st (step.TakePage s p) (reply.Refused r) st
-page-refused st s p refusal.NoSuchPage is = record {
-  follows = Follows-same st (step.TakePage s p) (reply.Refused refusal.NoSuchPage) tt
-      (theory.Follows-page_refused (seen st) s p (reader_of is.0.session) refusal.NoSuchPage (reader-is st s is.0.session is.0.there) is.0.sound (λ w m ready. (m, ready)));
-  exact = (is, refl);
-}
-page-refused st s p refusal.NoMemory is = record {
-  follows = Follows-same st (step.TakePage s p) (reply.Refused refusal.NoMemory) tt
-      (theory.Follows-page_refused (seen st) s p (reader_of is.1.session) refusal.NoMemory (reader-is st s is.1.session is.1.there) is.1.sound (λ w m ready. (m, ready)));
-  exact = (is, refl);
-}
-page-refused st s p r is = record {
-  follows = Follows-same st (step.TakePage s p) (reply.Refused r) tt (theory.Follows-unready_page (seen st) s p r (unready_by st s r is));
-  exact = refl;
-}
+page-refused st s p r is = record { follows = Follows-page_refused st s p r is; exact = (is, refl) }

@@ -34,7 +34,7 @@ adds-from store store' q new a = record { here = a.here; unused = a.unused; othe
 pub alters-from : (store store' : Tid → Option Version) (p : Tid) (old new : Version) → AltersAt store store' p old new → change.Alters store store' p old new
 alters-from store store' p old new a = record { before = a.before; here = a.here; others = a.others }
 
-no-deleter : (v : Version) → v.header.xmax.0 ≡ 0 → deleter v.header ≡ None
+pub no-deleter : (v : Version) → v.header.xmax.0 ≡ 0 → deleter v.header ≡ None
 no-deleter v none = of (v.header.xmax.0 == 0) refl
   where
     of : (b : Bool) → (v.header.xmax.0 == 0) ≡ b → cond b None (Some v.header.xmax.0) ≡ None

@@ -25,7 +25,7 @@ use Rattle.visibility.specs.Visible.{state_of}
 use Rattle.session_steps.specs.State.{State, session_at, seen, position_of, reader_of}
 use Rattle.sessions.specs.Session.{statement_snapshot}
 use Rattle.session_steps.specs.Agrees.{Agrees}
-use Rattle.session_steps.specs.Tests.{MayAct, FindsPlace, IsLateBy, IsHeldUnder, IsUncontested, ConflictsWrite, MayInsertKey, RefusesInsertOfKey, RefusesChangeOfKey}
+use Rattle.session_steps.specs.Tests.{MayAct, FindsPlace, IsLateBy, IsHeldUnder, IsUncontested, ConflictsWrite, MayInsertKey, RefusesInsertOfKey}
 use Rattle.session_steps.proofs.Owns.{reader-is}
 use Rattle.session_steps.proofs.Statements.{statement_sight, statement-sees, statement-misses}
 
@@ -140,10 +140,6 @@ free-with st w s e key found agrees begins free =
 delayed-insert : (st : State) (e : Session) (key : ℕ) (r : Refusal) → FindsPlace st.heap e key None → ConflictsWrite st e key r → RefusesInsertOfKey st e key r
 delayed-insert st e key refusal.AlreadyThere finds delays = absurd delays
 delayed-insert st e key _ finds delays = (finds, delays)
-
-pub delayed-change : (st : State) (e : Session) (key : ℕ) (p : Tid) (r : Refusal) → FindsPlace st.heap e key (Some p) → ConflictsWrite st e key r → RefusesChangeOfKey st e key r
-delayed-change st e key p refusal.NotThere finds delays = absurd delays
-delayed-change st e key p _ finds delays = (p, finds, delays)
 
 -- What a session may do that reads no row of the key.
 

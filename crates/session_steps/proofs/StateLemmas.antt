@@ -12,6 +12,7 @@ use Rattle.calls.specs.declared.reply.Refusal.{Refusal}
 use Rattle.calls.specs.declared.reply.Refusal.TheVariants as refusal
 use Rattle.calls.specs.Bars.{BarsOpen}
 use Rattle.refinement.proofs.Steps.{OnlyIs}
+use Rattle.snapshot.specs.Own.{Own}
 use Rattle.sessions.specs.declared.session.Session.{Session}
 use Rattle.session_steps.specs.State.{State, session_at, put_session, reader_of, failed_session, with_failed, engine_sessions, seen}
 use Rattle.session_steps.specs.Keeps.{EngineKeeps}
@@ -70,3 +71,7 @@ only-set st s now within = record {
   others = λ o ne. ap (option_map reader_of) (open-set_other st.sessions s o now ne);
   itself = ap (option_map reader_of) (open-set_same st.sessions s now within);
 }
+
+-- the session with other ids of its own
+abbrev pub with_own : Session → Own → Session
+with_own e own = record e { own = own }

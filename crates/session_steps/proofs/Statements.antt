@@ -1,6 +1,6 @@
 -- By which snapshot a statement of a session reads, and its cursor: what these count is what the relation has them count.
-use Rattle.std.proofs.Common.{◌≡◌, ℕ, List, Option, Some, None, refl, sym, ap, ◌∙◌, subst, ◌⊎◌, inl, inr}
-use Rattle.std.specs.Prelude.{◌↔◌, IsSome}
+use Rattle.std.proofs.Common.{◌≡◌, ℕ, List, Option, Some, None, refl, sym, ap, ◌∙◌, ◌⊎◌, inl, inr}
+use Rattle.std.specs.Prelude.{◌↔◌}
 use Rattle.std.proofs.lemmas.Option.{same_Some, none-some}
 use Rattle.tuple_header.specs.declared.version.Header.{Header}
 use Rattle.tuple_header.specs.Version.{Version}
@@ -17,7 +17,7 @@ use Rattle.sessions.specs.declared.session.Session.{Session}
 use Rattle.sessions.specs.declared.session.SessionIsolation.{SessionIsolation}
 use Rattle.sessions.specs.declared.session.SessionIsolation.TheVariants.{BySnapshot, ByStatement}
 use Rattle.session_steps.specs.State.{State, session_at, seen, isolation_seen}
-use Rattle.sessions.specs.Session.{kept_by, statement_snapshot, cursor_snapshot, keeping, IsByStatement}
+use Rattle.sessions.specs.Session.{kept_by, statement_snapshot, cursor_snapshot, keeping}
 use Rattle.session_steps.proofs.Owns.{reader-at}
 
 -- what a statement of the session sees of the ids, and what its cursor does
@@ -75,13 +75,6 @@ kept-at st snap (s, r, at, kept) =
     (s, e.0, e.1, sym (seen-kept e.0.isolation) ∙ (ap (λ (r : relation.SeenSession). relation.kept_snapshot r.isolation) e.2 ∙ kept))
 
 -- What a session keeps.
-
--- a session that reads so, with the same cursor, keeps one only for it
-abbrev pub KeepsForCursor : Session → Type 0
-KeepsForCursor e = IsByStatement e.isolation → IsSome (kept_by e.isolation) → IsSome e.cursor
-
-pub for-same : (e now : Session) → now.isolation ≡ e.isolation → now.cursor ≡ e.cursor → KeepsForCursor e → KeepsForCursor now
-for-same e now reads cursor h by kept = subst (λ o. IsSome o) (sym cursor) (h (subst (λ i. IsByStatement i) reads by) (subst (λ i. IsSome (kept_by i)) reads kept))
 
 -- by statement nothing is kept where nothing is taken
 pub kept-after : (i : SessionIsolation) (taken : Option Snap) (snap : Snap) → kept_by (keeping taken i) ≡ Some snap → (kept_by i ≡ Some snap) ⊎ (taken ≡ Some snap)

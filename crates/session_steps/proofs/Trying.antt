@@ -19,6 +19,7 @@ use Rattle.table_integrity.proofs.Places.{version-on}
 use Rattle.calls.specs.Words.{RowToWrite, row_of}
 use Rattle.calls.specs.Writes.{WriteStep, inserts, updates, deletes, step_of}
 use Rattle.calls.specs.declared.reply.Reply.{Reply}
+use Rattle.write_ids.proofs.IdLemmas.{same-then}
 use Rattle.sessions.specs.declared.session.Session.{Session}
 use Rattle.sessions.specs.Places.{open_at}
 use Rattle.session_steps.specs.State.{State, session_at, horizon_of}
@@ -26,7 +27,8 @@ use Rattle.session_steps.specs.Keeps.{EngineKeeps}
 use Rattle.session_steps.specs.Tests.{MayAct, FindsPlace, MayChangeKey, MayTry}
 use Rattle.session_steps.specs.Writes.{FailsWrite, TriesWrite, outcome_of, reply_for}
 use Rattle.session_steps.specs.Exact.{WriteTried, ExactWrite, AnswersStep}
-use Rattle.session_steps.proofs.Giving.{with_write, with_own, keeps-wrote, keeps-kept}
+use Rattle.session_steps.proofs.StateLemmas.{with_own}
+use Rattle.session_steps.proofs.Giving.{with_write, keeps-wrote, keeps-kept}
 use Rattle.session_steps.proofs.Writing.{Fits, fails-so, takes-ids, answers-write, Follows-tried}
 
 -- the id of a level, whose ids are in progress, is in the window
@@ -35,9 +37,6 @@ pub newest-given : (w : Window) (ids : List ℕ) (saved : List (List ℕ)) → A
 newest-given w ids saved prefixes active x is = (active x (level-among ids saved x prefixes is)).is_given
 
 -- The engine keeps what its type keeps, whatever became of a write.
-
-same-then : (u v w : Window) → SameIds u v → SameIds v w → SameIds u w
-same-then u v w a b = record { first = b.first ∙ a.first; stop_age = b.stop_age ∙ a.stop_age; entries = b.entries ∙ a.entries }
 
 ready-ids : (h ready h' : HeapView) (place : Tid) (horizon size : ℕ) → PrunesIfFull h ready place horizon size → Keeps ready h' → SameIds h.statuses h'.statuses
 ready-ids h ready h' place horizon size (PrunesIfFull.has_room room is) keeps = subst (λ (g : HeapView). SameIds g.statuses h'.statuses) is keeps.statuses

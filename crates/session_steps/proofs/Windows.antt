@@ -1,8 +1,7 @@
 -- What the steps of the table of ids change of what readers see.
-use Rattle.std.proofs.Common.{◌≡◌, ◌≢◌, ℕ, ◌<◌, ◌≤◌, List, [], ◌∷◌, Option, Some, None, refl, sym, ap, ◌∙◌, subst, ◌⊎◌, inl, inr, arith}
+use Rattle.std.proofs.Common.{◌≡◌, ◌≢◌, ℕ, ◌<◌, ◌≤◌, List, [], ◌∷◌, Option, Some, refl, sym, ap, ◌∙◌, subst, ◌⊎◌, inl, inr, arith}
 use Rattle.std.specs.Prelude.{Contains}
 use Rattle.std.specs.Option.{option_map}
-use Rattle.std.proofs.lemmas.Bool.{cases_Bool}
 use Rattle.xid_circle.specs.Circle.{Precedes}
 use Rattle.xid_circle.proofs.Members.{Contains-cases, Contains-none}
 use Rattle.commit_status.specs.declared.status.Status.{Status}
@@ -13,23 +12,19 @@ use Rattle.commit_status.proofs.Places.{next-none, upto-next, precedes-turns}
 use Rattle.commit_status.proofs.Giving.{gives-place_old, gives-place_cases, gives-status, gives-active_next}
 use Rattle.commit_status.proofs.Finishing.{finishes-top, finishes-given}
 use Rattle.commit_status.proofs.ChangesLemmas.{finishes-place}
-use Rattle.snapshot.specs.Snap.{Snap, Sees, SeesAlone, tested, is_before}
+use Rattle.snapshot.specs.Snap.{Snap, Sees, SeesAlone, tested}
 use Rattle.snapshot.specs.Laws.{IsBounded, IsBetween, IsInWindow}
 use Rattle.snapshot.proofs.Sights.{sees-top}
-use Rattle.snapshot.proofs.Earliest.{before-precedes, precedes-before}
+use Rattle.snapshot.proofs.Earliest.{precedes-or-not}
 use Rattle.visibility.specs.Visible.{state_of}
 use Rattle.visibility.proofs.Makers.{state-some, state-is, active-from}
 use Rattle.write_ids.specs.Ids.{GivesUnder}
 use Rattle.write_ids.proofs.GivenIds.{given-window, given-first, given-upto, given-top_old, next-turn}
+use Rattle.freeze.proofs.Links.{same-option}
 use Rattle.refinement.specs.Changes.{GivesNext, GivesEach, FinishesIds, SameSight}
 use Rattle.refinement.proofs.Steps.{cases_Contains}
 
 -- an id is given
-
-same-option : (o p : Option ℕ) → ((i : ℕ) → o ≡ Some i → p ≡ Some i) → ((i : ℕ) → p ≡ Some i → o ≡ Some i) → p ≡ o
-same-option None None to back = refl
-same-option None (Some i) to back = sym (back i refl)
-same-option (Some i) p to back = to i refl
 
 place-others : (w v : Window) (parent : Option ℕ) (x : ℕ) → IsWindow v → change.Gives w v parent → x ≢ next_id w → place v x ≡ place w x
 place-others w v parent x is gives ne = same-option (place w x) (place v x)
@@ -119,16 +114,10 @@ SameSight-finish s w v ids end f x status at = (
 
 -- what is seen is decided
 
-decided-before : (a b : ℕ) → Precedes a b ⊎ (¬ Precedes a b)
-decided-before a b = elim (cases_Bool (is_before a b)) [
-  | inl yes' ↦ inl (before-precedes a b yes')
-  | inr no' ↦ inr (λ before. let yes' = precedes-before a b before in cc)
-]
-
 decided-alone : (s : Snap) (x : ℕ) → SeesAlone s x ⊎ (¬ SeesAlone s x)
-decided-alone s x = elim (decided-before x s.xmin) [
+decided-alone s x = elim (precedes-or-not x s.xmin) [
   | inl soon ↦ inl (SeesAlone.early soon)
-  | inr late ↦ elim (decided-before x s.xmax) [
+  | inr late ↦ elim (precedes-or-not x s.xmax) [
     | inl before ↦ elim (cases_Contains s.listed x) [
       | inl among ↦ inr (λ alone. elim alone [ SeesAlone.early soon ↦ late soon | SeesAlone.unlisted before' absent ↦ absent among ])
       | inr absent ↦ inl (SeesAlone.unlisted before absent)
@@ -138,9 +127,9 @@ decided-alone s x = elim (decided-before x s.xmin) [
 ]
 
 pub decided : (s : Snap) (w : Window) (x : ℕ) → Sees s w x ⊎ (¬ Sees s w x)
-decided s w x = elim (decided-before x s.xmin) [
+decided s w x = elim (precedes-or-not x s.xmin) [
   | inl soon ↦ inl (Sees.early soon)
-  | inr late ↦ elim (decided-before x s.xmax) [
+  | inr late ↦ elim (precedes-or-not x s.xmax) [
     | inl before ↦ elim (decided-alone s (tested s w x)) [
       | inl alone ↦ inl (Sees.between before alone)
       | inr not ↦ inr (λ sees. elim sees [ Sees.early soon ↦ late soon | Sees.between before' alone ↦ not alone ])

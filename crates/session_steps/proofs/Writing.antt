@@ -45,13 +45,14 @@ use Rattle.session_steps.specs.Tests.{MayAct, MayTry}
 use Rattle.session_steps.specs.Writes.{DoesWrite, FailsWrite, TriesWrite, refusal_for, reply_for}
 use Rattle.session_steps.specs.Exact.{WriteTried, ExactWrite, AnswersStep}
 use Rattle.session_steps.proofs.InUse.{marks-put, agree}
+use Rattle.session_steps.proofs.StateLemmas.{with_own}
 use Rattle.session_steps.proofs.Owns.{reader-is}
 use Rattle.session_steps.proofs.WrittenLemmas.{written-put, written-by, written-kept}
 use Rattle.session_steps.proofs.Searches.{IsTarget, begins-none, free-with}
 use Rattle.session_steps.proofs.Changing.{change-target, change-free}
 use Rattle.session_steps.proofs.Follows.{no_making}
 use Rattle.session_steps.proofs.Cleaned.{removes-past}
-use Rattle.session_steps.proofs.Giving.{with_write, with_own, found-kept, reader-taken, gives-each, same-sights, are-unseen, found-given, reader-now, current-now, Sound-kept, Sound-given}
+use Rattle.session_steps.proofs.Giving.{with_write, found-kept, reader-taken, gives-each, same-sights, are-unseen, found-given, reader-now, current-now, Sound-kept, Sound-given}
 use Rattle.session_steps.proofs.Placing.{adds-from, alters-from, is-new, is-deleted, is-writer, may-take}
 
 -- What became of a write.

@@ -7,7 +7,7 @@ use Rattle.snapshot.specs.Own.{Own, unassigned_levels, saved_with, saved_with_ea
 use Rattle.commit_status.specs.Window.{Window}
 use Rattle.write_ids.specs.Ids.{TakesIds, SameOwn}
 use Rattle.history.specs.World.{World, OpenSession, SomeoneHasWritten, NobodyHasWritten}
-use Rattle.history.specs.Moves.{put, change, as_failed}
+use Rattle.history.specs.Moves.{put, change, as_failed, stepped}
 use Rattle.history.proofs.HistoryLemmas.{at_same, at_other}
 use Rattle.calls.specs.declared.step.Step.{Step}
 use Rattle.calls.specs.declared.step.Step.TheVariants as step
@@ -16,7 +16,7 @@ use Rattle.calls.specs.declared.reply.Reply.TheVariants as reply
 use Rattle.calls.specs.declared.reply.Refusal.{Refusal}
 use Rattle.calls.specs.declared.reply.Refusal.TheVariants as refusal
 use Rattle.calls.specs.Steps.{session_of}
-use Rattle.refinement.specs.Allowed.{passed, after_refused_write, next}
+use Rattle.refinement.specs.Allowed.{by_its_session, after_refused_write, next}
 use Rattle.refinement.proofs.Runs.{MakesNoIndex}
 use Rattle.sessions.specs.declared.session.Session.{Session}
 use Rattle.session_steps.specs.State.{State, session_at, put_session, reader_of, failed_session}
@@ -136,7 +136,7 @@ makes-none _ reply is = tt
 abbrev KeepsWritten : World → World → Type 0
 KeepsWritten w after = (s : ℕ) (m n : OpenSession) → w.session s ≡ Some m → after.session s ≡ Some n → n.has_written ≡ m.has_written
 
-kept-passed : (w : World) (s : Option ℕ) → KeepsWritten w (passed w s)
+kept-passed : (w : World) (s : Option ℕ) → KeepsWritten w (by_its_session w (stepped w) s)
 kept-passed w None t m n at there = ap (λ (m : OpenSession). m.has_written) (same_Some n m (sym there ∙ at))
 kept-passed w (Some s) t m n at there = ap (λ (m : OpenSession). m.has_written) (same_Some n m (sym there ∙ at))
 
@@ -175,9 +175,10 @@ some-named (x ∷ ids) some = refl
 
 pub someone-written : (st : State) (w : World) → SomeoneHasId st → Agrees st w → SomeoneHasWritten w
 someone-written st w someone agrees =
-    let e = someone.session in
-    let m = agrees.found.opened someone.number (reader_of e) (reader-is st someone.number e someone.at) in
-    (someone.number, m.0, m.1, sym (agrees.written someone.number e m.0 someone.at m.1).0 ∙ some-named e.own.ids someone.wrote)
+    let s = someone.0 in
+    let e = someone.1 in
+    let m = agrees.found.opened s (reader_of e) (reader-is st s e someone.2) in
+    (s, m.0, m.1, sym (agrees.written s e m.0 someone.2 m.1).0 ∙ some-named e.own.ids someone.3)
 
 pub nobody-written : (st : State) (w : World) → NobodyHasId st → Agrees st w → NobodyHasWritten w
 nobody-written st w none agrees s m there = of (session_at st s) refl

@@ -1,6 +1,7 @@
 -- What the history leaves to an engine: what a write does to its own ids and pages, when it finds no id, no room or no memory,
 -- and what a refusal leaves as it was.
 use Rattle.std.specs.Prelude.{◌≡◌, ℕ, ◌<◌, ◌≤◌, length, Bool, true, false, Option, Some, None, IsSome, Result, Ok, Err, slice_set}
+use Rattle.std.specs.Option.{option_map}
 use Rattle.xid_circle.specs.declared.Tid.{Tid}
 use Rattle.commit_status.specs.declared.status.Status.TheVariants as status
 use Rattle.commit_status.specs.Window.{next_id}
@@ -25,7 +26,7 @@ use Rattle.sessions.specs.declared.session.SessionIsolation.TheVariants.{BySnaps
 use Rattle.table_scans.specs.declared.progress.CursorScan.{CursorScan}
 use Rattle.table_scans.specs.declared.progress.CursorScan.TheVariants.{Rows, Keys}
 use Rattle.table_scans.specs.declared.progress.Scan.TheVariants.{Index, Heap}
-use Rattle.session_steps.specs.State.{State, session_at, engine_index, put_session, map_session, with_cursor, with_kept, refused_state, horizon_of}
+use Rattle.session_steps.specs.State.{State, session_at, engine_index, put_session, with_cursor, with_kept, refused_state, horizon_of}
 use Rattle.sessions.specs.Session.{IsByStatement, is_too_new, owns_of}
 use Rattle.session_steps.specs.Agrees.{FollowsByNotes}
 use Rattle.session_steps.specs.Changes.{Opens, Closes, SetsSavepoint, Releases, SessionBecomes, RollsBack}
@@ -55,14 +56,12 @@ ExactWrite old s write reply new = ⊥
 
 -- one page is pruned at the horizon, and nothing else changes
 pub record Cleans (old new : State) (p : ℕ) : Type 0 where
-  pub settings : new.settings ≡ old.settings
-  pub sessions : new.sessions ≡ old.sessions
+  pub is : new ≡ record old { heap = new.heap }
   pub heap : Prunes old.heap new.heap p (horizon_of old)
 
 -- a plan that checks at the horizon is applied to one page, and nothing else changes
 pub record AppliesPlan (old new : State) (p : ℕ) (plan : PlanToApply) : Type 0 where
-  pub settings : new.settings ≡ old.settings
-  pub sessions : new.sessions ≡ old.sessions
+  pub is : new ≡ record old { heap = new.heap }
   pub heap : Applies old.heap new.heap p (horizon_of old) plan.change plan.actions
 
 -- a plan is not applied to the page, for this reason, and all stays
@@ -91,11 +90,11 @@ HasScanMark st s number mark = (e : Session) × (session_at st s ≡ Some e) × 
 
 -- the session has this cursor now, or none, and nothing else changes
 abbrev pub MovesCursor : State → State → ℕ → Option CursorScan → Type 0
-MovesCursor old new s cursor = new ≡ put_session old s (map_session (with_cursor cursor) (session_at old s))
+MovesCursor old new s cursor = new ≡ put_session old s (option_map (with_cursor cursor) (session_at old s))
 
 -- it has this cursor now, or none, and by statement it keeps this snapshot, or none; nothing else changes
 abbrev pub HasCursor : State → State → ℕ → Option CursorScan → Option Snap → Type 0
-HasCursor old new s cursor kept = new ≡ put_session old s (map_session (λ e. with_kept kept (with_cursor cursor e)) (session_at old s))
+HasCursor old new s cursor kept = new ≡ put_session old s (option_map (λ e. with_kept kept (with_cursor cursor e)) (session_at old s))
 
 -- a cursor is opened: by statement the session keeps the snapshot that is taken now
 abbrev pub OpensCursor : State → State → ℕ → CursorScan → Type 0
@@ -134,8 +133,7 @@ Exact old (step.Next s n) (reply.Keys keys) new = HandsOutByKeys old new s n key
 Exact old (step.Next s n) reply.End new = new ≡ old
 Exact old (step.Close s) reply.Done new = HasCursor old new s None None
 Exact old (step.TakePage s p) (reply.Rows rows) new = SeesOnPage old s p rows.items × (new ≡ old)
-Exact old (step.TakePage s p) (reply.Refused refusal.NoSuchPage) new = RefusesRows old s p refusal.NoSuchPage × (new ≡ old)
-Exact old (step.TakePage s p) (reply.Refused refusal.NoMemory) new = RefusesRows old s p refusal.NoMemory × (new ≡ old)
+Exact old (step.TakePage s p) (reply.Refused refusal) new = RefusesRows old s p refusal × (new ≡ old)
 Exact old (step.Commit s) reply.Committed new = Closes old new s status.Committed
 Exact old (step.Commit s) reply.RolledBack new = Closes old new s status.Aborted
 Exact old (step.Abort s) reply.RolledBack new = Closes old new s status.Aborted

@@ -17,11 +17,8 @@ abbrev pub LacksIndexOn : State → (column : ℕ) → Type 0
 LacksIndexOn st c = (c < 4) × (engine_index st (suc c) ≡ None)
 
 -- an open session has an id: it wrote, though it may have failed since, or rolled all of it back
-pub record SomeoneHasId (st : State) : Type 0 where
-  pub number : ℕ
-  pub session : Session
-  pub at : session_at st number ≡ Some session
-  pub wrote : session.own.ids ≢ []
+abbrev pub SomeoneHasId : State → Type 0
+SomeoneHasId st = (s : ℕ) × (e : Session) × (session_at st s ≡ Some e) × (e.own.ids ≢ [])
 
 -- none has
 abbrev pub NobodyHasId : State → Type 0

@@ -90,9 +90,6 @@ horizon_of st = earliest (next_id st.heap.statuses) (held_back st.sessions)
 abbrev pub put_session : State → ℕ → Option Session → State
 put_session st s e = record st { sessions = slice_set st.sessions s e }
 
-abbrev pub map_session : (Session → Session) → Option Session → Option Session
-map_session f o = option_map f o
-
 abbrev pub with_cursor : Option CursorScan → Session → Session
 with_cursor cursor e = record e { cursor = cursor }
 

@@ -5,8 +5,7 @@ use Rattle.tuple_header.specs.declared.version.Row.{Row}
 use Rattle.snapshot.specs.Snap.{Snap}
 use Rattle.visibility.specs.Visible.{IsVisible}
 use Rattle.visibility.specs.declared.reader.Reader.{Reader}
-use Rattle.table_scans.specs.declared.progress.Scan.{Scan}
-use Rattle.table_scans.specs.declared.progress.KeyRange.{KeyRange}
+use Rattle.table_scans.specs.declared.progress.CursorScan.{CursorScan}
 use Rattle.table_scans.specs.declared.progress.CursorScan.TheVariants.{Rows, Keys}
 use Rattle.table_scans.specs.Scans.{Sight}
 use Rattle.table_scans.specs.Takes as scans
@@ -25,30 +24,24 @@ pub record ReadsBy (st : State) (e : Session) (by : Snap) (r : Reader) : Type 0 
 abbrev pub session_sight : State → Session → Sight
 session_sight st e = record { heap = st.heap; statuses = st.heap.statuses; sees = IsVisible st.heap.statuses (cursor_snapshot st.heap.statuses e.isolation) e.own.ids }
 
--- the session has handed out these rows, as its cursor takes them: that cursor alone moves, behind them
-pub record HandsOutBy (by : Sight → Scan → Count → List Row → Scan → Type 0) (old new : State) (s : SessionNo) (n : Count) (rows : List Row) : Type 0 where
+-- the session has handed out these rows, or keys, as its cursor takes them: that cursor alone moves, behind them
+pub record HandsOutBy {C A : Type 0} (kind : C → CursorScan) (by : Sight → C → List A → C → Type 0) (old new : State) (s : SessionNo) (taken : List A) : Type 0 where
   pub session : Session
   pub there : session_at old s ≡ Some session
-  pub before : Scan
-  pub at : session.cursor ≡ Some (Rows before)
-  pub after : Scan
-  pub takes : by (session_sight old session) before n rows after
-  pub is : new ≡ put_session old s (Some (with_cursor (Some (Rows after)) session))
+  pub before : C
+  pub at : session.cursor ≡ Some (kind before)
+  pub after : C
+  pub takes : by (session_sight old session) before taken after
+  pub is : new ≡ put_session old s (Some (with_cursor (Some (kind after)) session))
 
 -- n rows were asked for
 abbrev pub HandsOut : State → State → SessionNo → Count → List Row → Type 0
-HandsOut old new s n rows = HandsOutBy scans.Takes old new s n rows
+HandsOut old new s n rows = HandsOutBy Rows (λ sight before rows after. scans.Takes sight before n rows after) old new s rows
 
 -- there was place for so many
 abbrev pub HandsOutUpTo : State → State → SessionNo → Count → List Row → Type 0
-HandsOutUpTo old new s most rows = HandsOutBy scans.TakesUpTo old new s most rows
+HandsOutUpTo old new s most rows = HandsOutBy Rows (λ sight before rows after. scans.TakesUpTo sight before most rows after) old new s rows
 
--- the session has handed out these keys, of n that were asked for: its cursor over keys alone moves, behind them
-pub record HandsOutByKeys (old new : State) (s : SessionNo) (n : Count) (keys : List ℕ) : Type 0 where
-  pub session : Session
-  pub there : session_at old s ≡ Some session
-  pub before : KeyRange
-  pub at : session.cursor ≡ Some (Keys before)
-  pub after : KeyRange
-  pub takes : TakesKeys (session_sight old session) before after (max 1 n) keys
-  pub is : new ≡ put_session old s (Some (with_cursor (Some (Keys after)) session))
+-- of a cursor over keys alone: n were asked for
+abbrev pub HandsOutByKeys : State → State → SessionNo → Count → List ℕ → Type 0
+HandsOutByKeys old new s n keys = HandsOutBy Keys (λ sight before keys after. TakesKeys sight before after (max 1 n) keys) old new s keys

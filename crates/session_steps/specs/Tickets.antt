@@ -36,11 +36,8 @@ pub record TakesTicket (st : State) (s : SessionNo) (number : PageNo) (ticket : 
   pub sees : SeesOnPage st s number (ticket_rows ticket)
 
 -- the session is open, and has not failed
-pub record IsReadyAt (st : State) (s : SessionNo) : Type 0 where
-  pub number : s < MOST_SESSIONS
-  pub session : Session
-  pub there : session_at st s ≡ Some session
-  pub sound : session.failed ≡ false
+abbrev pub IsReadyAt : State → SessionNo → Type 0
+IsReadyAt st s = (e : Session) × (s < MOST_SESSIONS) × (session_at st s ≡ Some e) × (e.failed ≡ false)
 
 -- why it does not: the session is not ready for a step; or there is no such page; or memory was refused
 abbrev pub RefusesTicket : State → SessionNo → PageNo → Refusal → Type 0

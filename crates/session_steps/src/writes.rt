@@ -62,7 +62,7 @@ impl SessionEngine {
 
     /// Updates the version at a place to the row, which has room on its page and which nothing keeps the session from writing,
     /// under the id of its newest level. Nothing is pruned, so the sessions aren't looked at for a horizon.
-    fn replace_on_page(
+    fn update_with_room(
         &mut self,
         s: u8,
         place: Tid,
@@ -85,8 +85,8 @@ impl SessionEngine {
         )
     }
 
-    /// As [`SessionEngine::replace_on_page`], but where the row has no room on the page: that is pruned at the horizon first.
-    fn replace_on_full_page(&mut self, s: u8, place: Tid, row: &Row) -> Result<Ack, Refusal>
+    /// As [`SessionEngine::update_with_room`], but where the row has no room on the page: that is pruned at the horizon first.
+    fn update_on_full_page(&mut self, s: u8, place: Tid, row: &Row) -> Result<Ack, Refusal>
         requires may { (e : Session) × MayAct self.old s e
             × MayChangeKey self.old e row.now.key place }
         requires fits { FitsRow (worded row.now) }
@@ -116,8 +116,8 @@ impl SessionEngine {
             Ok((place, near)) => {
                 self.expect_entry(near);
                 match self.heap.fits_beside(place, row) {
-                    Some(keeps_values) => self.replace_on_page(s, place, row, keeps_values),
-                    None => self.replace_on_full_page(s, place, row),
+                    Some(keeps_values) => self.update_with_room(s, place, row, keeps_values),
+                    None => self.update_on_full_page(s, place, row),
                 }
             }
             Err(refusal) => self.refuse(s, refusal),

@@ -39,9 +39,6 @@ pub record SoFar (IsPiece : WaitingView → ℕ → List Shape → Type 0) (star
   pub same : now ≡ start
   pub added : Adds (ArePieces (IsPiece start) n) old new
 
-pub none-so_far : (IsPiece : WaitingView → ℕ → List Shape → Type 0) (e : WaitingView) (old : List Shape) → SoFar IsPiece e e 0 old old
-none-so_far IsPiece e old = record { same = refl; added = no-pieces (IsPiece e) old }
-
 pub one-further : (IsPiece : WaitingView → ℕ → List Shape → Type 0) (start now then : WaitingView) (n : ℕ) (old middle new : List Shape) → SoFar IsPiece start now n old middle
     → then ≡ now → Adds (IsPiece now n) middle new → SoFar IsPiece start then (n + 1) old new
 one-further IsPiece start now then n old middle new so_far same adds = record {

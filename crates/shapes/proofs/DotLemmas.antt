@@ -1,7 +1,7 @@
 -- The dot beside a version, by what an explanation shows first at its place.
-use Rattle.std.proofs.Common.{◌≡◌, ℕ, ◌<◌, ◌≤◌, Bool, true, false, List, [], ◌∷◌, ◌++◌, length, Option, Some, None, arith, refl, sym, ap, ◌∙◌, subst}
+use Rattle.std.proofs.Common.{◌≡◌, ℕ, Bool, true, false, List, [], ◌∷◌, ◌++◌, Option, Some, None, refl, sym, ap, ◌∙◌, subst}
 use Rattle.std.specs.Prelude.{IsSome}
-use Rattle.std.proofs.lemmas.Option.{same_Some, slice_get_within}
+use Rattle.std.proofs.lemmas.Option.{same_Some}
 use Rattle.xid_circle.specs.declared.Tid.{Tid}
 use Rattle.tuple_header.specs.Version.{Version}
 use Rattle.page_sheet.specs.Slots.{version_at}
@@ -10,18 +10,15 @@ use Rattle.reasons.specs.Reasons.{IsVerdictIn, verdict_shows}
 use Rattle.reasons.proofs.VerdictLemmas.{verdict-decides}
 use Rattle.sound_page.proofs.ChainPlaces.{first-normal}
 use Rattle.explanations.specs.declared.versions.ShownVersion.{ShownVersion}
-use Rattle.calls.specs.declared.reply.Refusal.{Refusal}
-use Rattle.calls.specs.Bars.{BarsOpen}
 use Rattle.sessions.specs.declared.session.Session.{Session}
 use Rattle.sessions.specs.Session.{statement_snapshot}
-use Rattle.session_steps.specs.State.{State, session_at, engine_sessions}
+use Rattle.session_steps.specs.State.{State, session_at}
 use Rattle.session_looks.specs.Explaining.{IsExplained}
-use Rattle.session_looks.proofs.HolderLemmas.{barred-none}
 use Rattle.shape_list.specs.declared.shape.Shape.{Shape}
 use Rattle.shape_list.specs.declared.shape.Shape.TheVariants as shape
 use Rattle.shape_list.specs.declared.shape.DotShape.{DotShape}
 use Rattle.shapes.specs.Shapes.{Adds, IsDotShape, IsDotPiece, AreDots, ArePieces, slots_at, version_of_place}
-use Rattle.shapes.proofs.Adding.{adds-nothing, adds-one}
+use Rattle.shapes.proofs.Adding.{adds-one}
 
 abbrev pub dot_of : Tid → ℕ → Bool → Verdict → DotShape
 dot_of place s filled verdict = record { place = place; session = s; filled = filled; verdict = verdict }
@@ -53,20 +50,6 @@ dot-added st place t s e shown filled old new open_session at told is behind =
       verdict = verdict;
       filled = (λ seen. is ∙ decides.0 seen, λ so. decides.1 (sym is ∙ so));
     }) behind)
-
--- something is shown there
-pub something-shown : (st : State) (e : Session) (place : Tid) (t : Version) → version_of_place st place ≡ Some t → IsExplained st e place 0 None → ⊥
-something-shown st e place t at told =
-    let start = told.is_chain.start ∙ first-normal (slots_at st place.page) place.slot t at in
-    let within = slice_get_within told.chain 0 place.slot start in
-    let none : length told.chain ≤ 0 = told.shown in
-    omega arith
-
--- who is not open has none
-pub no-dot : (st : State) (place : Tid) (t : Version) (s : ℕ) (why : Refusal) (old : List Shape) → BarsOpen (engine_sessions st) s why → s < 64
-    → Adds (IsDotPiece st place t s (session_at st s)) old old
-no-dot st place t s why old bars within =
-    subst (λ (o : Option Session). Adds (IsDotPiece st place t s o) old old) (sym (barred-none st s why bars within)) (adds-nothing (IsDotPiece st place t s None) old refl)
 
 -- all dots beside a version
 

@@ -1,13 +1,6 @@
 -- Ids in the order of giving, and what became of one.
-use Rattle.std.proofs.Common.{◌≡◌, ℕ, ◌+◌, Option, Some, None, List, ◌++◌, ◌∷◌, [], refl, sym, ap, ◌∙◌, add-one, arith, subst}
-use Rattle.std.specs.Option.{option_and_then, option_map}
-use Rattle.std.specs.Prelude.{slice_get}
-use Rattle.std.proofs.lemmas.Option.{none-some, same_Some}
+use Rattle.std.proofs.Common.{◌≡◌, ℕ, ◌+◌, List, ◌++◌, ◌∷◌, [], refl, sym, ap, ◌∙◌, add-one, arith, subst}
 use Rattle.xid_circle.specs.Circle.{next_of, given}
-use Rattle.commit_status.specs.declared.status.Status.{Status}
-use Rattle.commit_status.specs.declared.status.Status.TheVariants.{InProgress}
-use Rattle.commit_status.specs.Window.{Window, place, status_of, status_in}
-use Rattle.visibility.specs.Visible.{state_of}
 use Rattle.session_core.specs.State.{WaitingView}
 use Rattle.shape_list.specs.declared.shape.Shape.{Shape}
 use Rattle.shape_list.specs.declared.shape.Shape.TheVariants as shape
@@ -17,22 +10,6 @@ use Rattle.shapes.proofs.Adding.{no-pieces, one-more, adds-one}
 
 pub given-more : (first n : ℕ) → given first (n + 1) ≡ next_of (given first n)
 given-more first n = rw add-one refl
-
--- what is told of an id that is remembered is its status
-pub known-status : (w : Window) (x : ℕ) (status : Status) → Some status ≡ state_of w x → status ≡ status_of w x
-known-status w x status is = by (place w x) is
-  where
-    by : (o : Option ℕ) → Some status ≡ option_map (λ _. status_of w x) o → status ≡ status_of w x
-    by None e = absurd (none-some status (sym e))
-    by (Some i) e = same_Some status (status_of w x) e
-
--- and another counts as in progress
-pub unknown-status : (w : Window) (x : ℕ) → None ≡ state_of w x → InProgress ≡ status_of w x
-unknown-status w x is = by (place w x) refl is
-  where
-    by : (o : Option ℕ) → place w x ≡ o → None ≡ option_map (λ _. status_of w x) o → InProgress ≡ status_of w x
-    by None at e = sym (ap (λ p. status_in (option_and_then (slice_get w.entries) p)) at)
-    by (Some i) at e = absurd (none-some (status_of w x) e)
 
 plus-none : (a : ℕ) → a ≡ a + 0
 plus-none a = omega arith

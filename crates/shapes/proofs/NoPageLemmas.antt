@@ -7,10 +7,7 @@ use Rattle.page_sheet.specs.Slots.{version_at, header_at, redirect_at}
 use Rattle.page_slots.specs.View.{PageView}
 use Rattle.index_lookup.specs.Pages.{slots_on}
 use Rattle.index_lookup.proofs.PageLists.{slots-none}
-
-version-nowhere : (n : ℕ) → version_at [] n ≡ None
-version-nowhere zero = refl
-version-nowhere (suc n) = refl
+use Rattle.session_steps.proofs.New.{none-at}
 
 header-nowhere : (n : ℕ) → header_at [] n ≡ None
 header-nowhere zero = refl
@@ -21,7 +18,7 @@ redirect-nowhere zero = refl
 redirect-nowhere (suc n) = refl
 
 pub no-version : (pages : List PageView) (p n : ℕ) → None ≡ slice_get pages p → None ≡ version_at (slots_on (map (λ (v : PageView). v.slots) pages) p) n
-no-version pages p n none = sym (ap (λ (slots : List Slot). version_at slots n) (slots-none pages p (sym none)) ∙ version-nowhere n)
+no-version pages p n none = sym (ap (λ (slots : List Slot). version_at slots n) (slots-none pages p (sym none)) ∙ none-at n)
 
 pub no-header : (pages : List PageView) (p n : ℕ) → None ≡ slice_get pages p → None ≡ header_at (slots_on (map (λ (v : PageView). v.slots) pages) p) n
 no-header pages p n none = sym (ap (λ (slots : List Slot). header_at slots n) (slots-none pages p (sym none)) ∙ header-nowhere n)

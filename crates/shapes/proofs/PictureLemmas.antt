@@ -1,11 +1,11 @@
 -- What a text says that was added to others.
-use Rattle.std.proofs.Common.{◌≡◌, ℕ, ◌+◌, List, [], ◌∷◌, ◌++◌, refl, ap, add-one, ◌∙◌, codes}
+use Rattle.std.proofs.Common.{ℕ, ◌+◌, List, ◌++◌, refl, codes}
 use Rattle.std.specs.Prelude.{zip}
 use Rattle.session_core.specs.State.{WaitingView}
 use Rattle.shape_list.specs.declared.shape.Shape.{Shape}
 use Rattle.shapes.specs.Shapes.{IsPicture}
 use Rattle.svg_text.specs.Svg.{Draws, svg_head, shapes_svg}
-use Rattle.shapes.specs.Pictures.{AddsText, numbers_below, IsPictureText}
+use Rattle.shapes.specs.Pictures.{AddsText, IsPictureText}
 
 pub picture-added : (e : WaitingView) (pages : List ℕ) (shapes : List Shape) (old new : List ℕ) → IsPicture e pages shapes → Draws shapes old new → AddsText (IsPictureText e pages) old new
 picture-added e pages shapes old new is d = record {
@@ -13,6 +13,3 @@ picture-added e pages shapes old new is d = record {
   is = (shapes, is, record { layout = d.layout; spots = d.spots; each = d.each; behind = refl });
   behind = d.behind;
 }
-
-pub one-number : (n : ℕ) (old new : List ℕ) → old ≡ numbers_below n → new ≡ old ++ n ∷ [] → new ≡ numbers_below (n + 1)
-one-number n old new so e = rw add-one (e ∙ ap (λ xs. xs ++ n ∷ []) so)

@@ -18,8 +18,6 @@ use Rattle.slot_fates.specs.declared.fate.VersionFate.{VersionFate}
 use Rattle.slot_fates.specs.declared.fate.VersionFate.TheVariants.{RolledBack, Deleted, GoesWith, Kept}
 use Rattle.slot_fates.specs.Fates.{IsVersionFate, IsFateOf, IsFate, WasRolledBack, goes}
 use Rattle.slot_fates.proofs.FateLemmas.{fate-one}
-use Rattle.shape_list.specs.declared.shape.VersionShape.{VersionShape}
-use Rattle.shapes.specs.Shapes.{IsVersionShape, AreVersionShapes}
 use Rattle.shapes.specs.Dead.{is_dead_fate}
 
 -- a version that is kept is not dead: else it had another fate
@@ -74,17 +72,6 @@ dead-fate w horizon slots n f is = by (slot_at slots n) f refl is
 
 abbrev pub version_with : Header → Row → Version
 version_with header row = record { header = header; row = row }
-
-pub version-told : (o : Option Version) (header : Header) (row : Row) (told : VersionShape) → Some header ≡ option_map (λ (t : Version). t.header) o
-    → Some row ≡ option_map (λ (t : Version). t.row) o → IsVersionShape (version_with header row) told → AreVersionShapes o (Some told)
-version-told None header row told h r is = absurd (none-some header (sym h))
-version-told (Some t) header row told h r is =
-    subst (λ (g : Header). IsVersionShape (version_with g t.row) told) (same_Some header t.header h)
-    (subst (λ (q : Row). IsVersionShape (version_with header q) told) (same_Some row t.row r) is)
-
-pub nothing-told : (o : Option Version) → None ≡ option_map (λ (t : Version). t.header) o → AreVersionShapes o None
-nothing-told None h = tt
-nothing-told (Some t) h = absurd (none-some t.header h)
 
 pub row-there : (o : Option Version) (header : Header) → Some header ≡ option_map (λ (t : Version). t.header) o → None ≡ option_map (λ (t : Version). t.row) o → ⊥
 row-there None header h r = none-some header (sym h)

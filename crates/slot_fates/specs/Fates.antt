@@ -62,7 +62,5 @@ IsFate w horizon slots n f = IsFateOf w horizon slots n (slot_at slots n) f
 
 -- pruning takes a version of this fate
 abbrev pub goes : VersionFate → Bool
-goes (RolledBack x) = true
-goes (Deleted x) = true
-goes (GoesWith later) = true
 goes (Kept deleter) = false
+goes fate = true

@@ -1,7 +1,7 @@
 -- The earliest of several ids.
 use Rattle.std.proofs.Common.{◌≡◌, ℕ, ◌<◌, ◌≤◌, ◌⊎◌, Bool, true, false, List, [], ◌∷◌, arith, inl, inr, ⊎_elim, refl, sym, ◌∙◌, subst}
 use Rattle.std.specs.List.{Contains}
-use Rattle.std.proofs.lemmas.Bool.{cases_lt, leb-true, le-leb}
+use Rattle.std.proofs.lemmas.Bool.{cases_lt, cases_Bool, leb-true, le-leb}
 use Rattle.xid_circle.specs.Circle.{Precedes}
 use Rattle.commit_status.specs.Window.{Window, IsWindow, IsUpToNext, turns}
 use Rattle.xid_circle.proofs.Order.{precedes-from_far, far-from_precedes}
@@ -15,6 +15,12 @@ before-precedes a b h = precedes-from_far a b (leb-true _ _ h)
 
 pub precedes-before : (a b : ℕ) → Precedes a b → is_before a b ≡ true
 precedes-before a b h = le-leb _ _ (far-from_precedes a b h)
+
+pub precedes-or-not : (a b : ℕ) → Precedes a b ⊎ (¬ Precedes a b)
+precedes-or-not a b = elim (cases_Bool (is_before a b)) [
+  | inl before ↦ inl (before-precedes a b before)
+  | inr after ↦ inr (λ p. let e = precedes-before a b p in cc)
+]
 
 -- of two ids the earlier is one of them, and no later than either
 pub earlier-cases : (a b : ℕ) → ((is_before b a ≡ true) × (earlier a b ≡ b)) ⊎ ((is_before b a ≡ false) × (earlier a b ≡ a))

@@ -11,20 +11,20 @@ use Rattle.snapshot.specs.Snap.{Snap, Sees, SeesAlone, tested, taken}
 use Rattle.snapshot.specs.Laws.{AreOpen, IsBounded}
 use Rattle.snapshot.proofs.Takes.{taken-lists, own-upto, first-in}
 
-tested-top : (s : Snap) (v : Window) (x : ℕ) → s.overflowed ≡ true → tested s v x ≡ top_of v x
+pub tested-top : (s : Snap) (v : Window) (x : ℕ) → s.overflowed ≡ true → tested s v x ≡ top_of v x
 tested-top s v x e = rw e refl
 
-tested-itself : (s : Snap) (v : Window) (x : ℕ) → s.overflowed ≡ false → tested s v x ≡ x
+pub tested-itself : (s : Snap) (v : Window) (x : ℕ) → s.overflowed ≡ false → tested s v x ≡ x
 tested-itself s v x e = rw e refl
 
-by-overflow : {P : Type 0} (s : Snap) → (s.overflowed ≡ true → P) → (s.overflowed ≡ false → P) → P
+pub by-overflow : {P : Type 0} (s : Snap) → (s.overflowed ≡ true → P) → (s.overflowed ≡ false → P) → P
 by-overflow {P} s f g = cases s.overflowed refl
   where
     cases : (b : Bool) → s.overflowed ≡ b → P
     cases true e = f e
     cases false e = g e
 
-listed-unseen : (s : Snap) (y : ℕ) → ¬ Precedes y s.xmin → Contains s.listed y → ¬ SeesAlone s y
+pub listed-unseen : (s : Snap) (y : ℕ) → ¬ Precedes y s.xmin → Contains s.listed y → ¬ SeesAlone s y
 listed-unseen s y late c (SeesAlone.early p) = late p
 listed-unseen s y late c (SeesAlone.unlisted p n) = n c
 

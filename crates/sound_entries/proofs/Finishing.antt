@@ -1,24 +1,23 @@
 -- What becomes of transactions leaves the entries right: chains only break.
-use Rattle.std.proofs.Common.{◌≡◌, ℕ, ℤ, zero, suc, false, List, Option, Some, None, sym, ◌∙◌, ⊎_elim}
+use Rattle.std.proofs.Common.{◌≡◌, ℕ, ℤ, zero, suc, false, List, Option, Some, None, ◌∙◌, ⊎_elim}
 use Rattle.std.specs.List.{Contains}
 use Rattle.std.proofs.lemmas.Bool.{cases_Bool}
 use Rattle.xid_circle.specs.Following.{ReachesIn}
 use Rattle.tuple_header.specs.declared.version.Row.{Row}
 use Rattle.page_sheet.specs.declared.slot.Slot.{Slot}
-use Rattle.commit_status.specs.declared.status.Status.{Status}
-use Rattle.commit_status.specs.declared.status.Status.TheVariants.{InProgress, Committed, Aborted}
+use Rattle.commit_status.specs.declared.status.Status.TheVariants.{Committed, Aborted}
 use Rattle.commit_status.specs.Window.{Window, IsWindow, IsActive, IsCommitted, IsAborted}
 use Rattle.commit_status.specs.Changes.{Gives, Finishes}
 use Rattle.commit_status.proofs.Giving.{gives-status}
-use Rattle.commit_status.proofs.Finishing.{finishes-other}
+use Rattle.commit_status.proofs.Finishing.{finishes-committed_old}
 use Rattle.visibility.specs.Visible.{IsDead}
 use Rattle.hot_chain.specs.Chain.{has_aborted}
 use Rattle.sound_page.specs.Links.{link}
 use Rattle.sound_page.specs.Sound.{IsIn}
-use Rattle.sound_page.proofs.Links.{link-of}
+use Rattle.sound_page.proofs.Links.{link-of, successor-from}
 use Rattle.sound_page.proofs.Undone.{has-aborted, aborted-has}
 use Rattle.tuple_writes.specs.Laws.{DeletedWhatWasMade, AloneDeletedTheirs}
-use Rattle.tuple_writes.proofs.Statuses.{successor-from, replaced-live, giving-sound, committing-sound, aborting-sound, aborted-other}
+use Rattle.tuple_writes.proofs.Statuses.{replaced-live, giving-sound, committing-sound, aborting-sound, aborted-other}
 use Rattle.index_entries.specs.declared.entry.Entry.{Entry}
 use Rattle.index_lookup.specs.Pages.{slots_on}
 use Rattle.sound_entries.specs.Entries.{SoundHeap, EntriesAreSound, StaysSound}
@@ -67,19 +66,16 @@ giving-stays value_of since w v parent pages entries sound before after gives =
     statuses-stay w v (λ x gone. gives-status w v parent x before after gives ∙ gone) (λ x done. gives-status w v parent x before after gives ∙ done) value_of since pages entries sound
     (λ n. giving-sound w v parent (slots_on pages n) before after gives (sound.heap n))
 
-done-other : (w v : Window) (ids : List ℕ) (status : Status) (x : ℕ) → ((y : ℕ) → Contains ids y → IsActive w y) → Finishes w v ids status → IsCommitted w x → IsCommitted v x
-done-other w v ids status x active f done = finishes-other w v ids status x f (λ c. let e : Committed ≡ InProgress = sym done ∙ (active x c).unfinished in cc) ∙ done
-
 pub committing-stays : (value_of : Row → ℤ) (since : Option ℕ) (w v : Window) (ids : List ℕ) (pages : List (List Slot)) (entries : List Entry)
     → EntriesAreSound value_of since w pages entries → ((x : ℕ) → Contains ids x → IsActive w x) → Finishes w v ids Committed
     → ((n : ℕ) → DeletedWhatWasMade w (slots_on pages n) ids) → StaysSound value_of since v pages pages entries entries
 committing-stays value_of since w v ids pages entries sound active f theirs =
-    statuses-stay w v (λ x gone. aborted-other w v ids Committed x active f gone) (λ x done. done-other w v ids Committed x active f done) value_of since pages entries sound
+    statuses-stay w v (λ x gone. aborted-other w v ids Committed x active f gone) (λ x done. finishes-committed_old w v ids Committed x active f done) value_of since pages entries sound
     (λ n. committing-sound w v ids (slots_on pages n) active f (theirs n) (sound.heap n))
 
 pub aborting-stays : (value_of : Row → ℤ) (since : Option ℕ) (w v : Window) (ids : List ℕ) (pages : List (List Slot)) (entries : List Entry)
     → EntriesAreSound value_of since w pages entries → ((x : ℕ) → Contains ids x → IsActive w x) → Finishes w v ids Aborted
     → ((n : ℕ) → AloneDeletedTheirs w (slots_on pages n) ids) → StaysSound value_of since v pages pages entries entries
 aborting-stays value_of since w v ids pages entries sound active f theirs =
-    statuses-stay w v (λ x gone. aborted-other w v ids Aborted x active f gone) (λ x done. done-other w v ids Aborted x active f done) value_of since pages entries sound
+    statuses-stay w v (λ x gone. aborted-other w v ids Aborted x active f gone) (λ x done. finishes-committed_old w v ids Aborted x active f done) value_of since pages entries sound
     (λ n. aborting-sound w v ids (slots_on pages n) active f (theirs n) (sound.heap n))

@@ -1,12 +1,10 @@
 -- Tables as lists of pages: none, one page put, one added; and entries that go.
-use Rattle.std.proofs.Common.{◌≡◌, ℕ, ℤ, zero, suc, ◌<◌, true, false, List, [], Option, Some, sym, ap, ◌∙◌, ⊎_elim, inl, inr, arith}
+use Rattle.std.proofs.Common.{◌≡◌, ℕ, ℤ, ◌<◌, true, false, List, [], Option, Some, sym, ap, ◌∙◌, ⊎_elim, inl, inr, arith}
 use Rattle.std.specs.List.{Contains}
 use Rattle.xid_circle.specs.declared.Tid.{Tid}
-use Rattle.tuple_header.specs.Version.{Version}
 use Rattle.tuple_header.specs.declared.version.Row.{Row}
 use Rattle.page_sheet.specs.declared.slot.Slot.{Slot}
 use Rattle.page_sheet.specs.declared.slot.Slot.TheVariants.{Dead}
-use Rattle.page_sheet.specs.Slots.{version_at}
 use Rattle.commit_status.specs.Window.{Window}
 use Rattle.hot_chain.specs.Chain.{is_root_in}
 use Rattle.index_entries.specs.declared.entry.Entry.{Entry}
@@ -14,16 +12,12 @@ use Rattle.index_entries.specs.Sets.{Loses}
 use Rattle.index_lookup.specs.Pages.{slots_on, slot_in}
 use Rattle.sound_entries.specs.Entries.{EntriesAreSound, StaysSound}
 use Rattle.sound_entries.proofs.Going.{stays-same, in-root}
-use Rattle.sound_page.proofs.Empty.{empty-page}
+use Rattle.sound_page.proofs.Empty.{empty-page, no-version}
 
 -- Nothing.
 
 none-among : {P : Type 0} (e : Entry) → Contains [] e → P
 none-among e there = let below : there.0 < 0 = there.1 in absurd (omega arith)
-
-no-version : {P : Type 0} (n : ℕ) (t : Version) → version_at [] n ≡ Some t → P
-no-version zero t at = absurd (cc)
-no-version (suc n) t at = absurd (cc)
 
 pub nothing-sound : (value_of : Row → ℤ) (since : Option ℕ) (w : Window) → EntriesAreSound value_of since w [] []
 nothing-sound value_of since w = record {

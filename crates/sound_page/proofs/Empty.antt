@@ -14,7 +14,7 @@ none-at : {P : Type 0} (n : ℕ) (s : Slot) → slot_at [] n ≡ Some s → P
 none-at zero s at = absurd (none-some s at)
 none-at (suc n) s at = absurd (none-some s at)
 
-no-version : {P : Type 0} (n : ℕ) (t : Version) → version_at [] n ≡ Some t → P
+pub no-version : {P : Type 0} (n : ℕ) (t : Version) → version_at [] n ≡ Some t → P
 no-version zero t at = absurd (none-some t at)
 no-version (suc n) t at = absurd (none-some t at)
 

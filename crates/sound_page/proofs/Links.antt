@@ -1,7 +1,7 @@
 -- What a step along a chain tells.
 use Rattle.std.proofs.Common.{◌≡◌, ◌≢◌, ℕ, zero, suc, ◌+◌, ◌<◌, Bool, true, false, not, ◌&&◌, ◌==◌, List, length, get_or, Option, Some, None, is_some, arith, sym, ap, ◌∙◌, refl, subst, if◌then◌else◌}
 use Rattle.std.specs.Option.{option_map, option_and_then}
-use Rattle.std.proofs.lemmas.Bool.{and_parts, eqb-true, not-true}
+use Rattle.std.proofs.lemmas.Bool.{and_parts, eqb-true, eq-eqb, not-true}
 use Rattle.std.proofs.lemmas.Option.{slice_get-get_or}
 use Rattle.page_sheet.specs.declared.slot.Slot.{Slot}
 use Rattle.page_sheet.specs.declared.slot.Slot.TheVariants.{Unused, Normal, Redirect, Dead}
@@ -10,6 +10,7 @@ use Rattle.page_sheet.proofs.SlotLemmas.{there-from_slot_at, slot_at-from_versio
 use Rattle.tuple_header.specs.Version.{Version}
 use Rattle.tuple_header.specs.Marks.{is_hot_updated, is_heap_only}
 use Rattle.hot_chain.specs.Chain.{is_replaced, is_made_by, successor, next_in_chain, start_in, first_of, IsChain}
+use Rattle.hot_chain.proofs.SeenWalks.{version-there as some-if}
 
 -- what leads to the next version, and to what
 pub record IsLink (aborted : ℕ → Bool) (slots : List Slot) (n k : ℕ) : Type 0 where
@@ -23,6 +24,15 @@ pub record IsLink (aborted : ℕ → Bool) (slots : List Slot) (n k : ℕ) : Typ
   pub live : aborted old.header.xmax.0 ≡ false
   pub heap_only : is_heap_only new.header ≡ true
   pub made : new.header.xmin.0 ≡ old.header.xmax.0
+
+-- from what a link is made of
+pub successor-from : (aborted : ℕ → Bool) (slots : List Slot) (n k : ℕ) (t u : Version) → version_at slots n ≡ Some t → version_at slots k ≡ Some u
+    → is_replaced aborted t.header ≡ true → t.header.ctid.slot ≡ k → is_heap_only u.header ≡ true → u.header.xmin.0 ≡ t.header.xmax.0
+    → next_in_chain aborted slots n ≡ Some k
+successor-from aborted slots n k t u from to replaced place heap_only made =
+    let at : version_at slots t.header.ctid.slot ≡ Some u = ap (version_at slots) place ∙ to in
+    let same = eq-eqb u.header.xmin.0 t.header.xmax.0 made in
+    rw (from, replaced, at, heap_only, same, place) refl
 
 guarded : {A : Type 0} (b : Bool) (x y : A) → (if b then Some x else None) ≡ Some y → (b ≡ true) × (x ≡ y)
 guarded true x y e = (refl, cc)
@@ -74,10 +84,6 @@ link-of aborted slots n k e = successor-link aborted slots n k (version_at slots
 pub record SomeVersion (slots : List Slot) (n : ℕ) : Type 0 where
   pub version : Version
   pub there : version_at slots n ≡ Some version
-
-some-if : (o : Option Version) → is_some o ≡ true → (t : Version) × (o ≡ Some t)
-some-if None e = absurd (cc)
-some-if (Some t) e = (t, refl)
 
 -- where a chain starts
 pub record Starts (slots : List Slot) (n first : ℕ) (slot : Slot) : Type 0 where

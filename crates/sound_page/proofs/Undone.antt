@@ -16,7 +16,7 @@ use Rattle.commit_status.specs.declared.status.Status.{Status}
 pub aborted-has : (w : Window) (x : ℕ) → IsAborted w x → has_aborted w x ≡ true
 aborted-has w x e = ap is_aborted e
 
-aborted-is : (s : Status) → is_aborted s ≡ true → s ≡ Aborted
+pub aborted-is : (s : Status) → is_aborted s ≡ true → s ≡ Aborted
 aborted-is Aborted e = refl
 aborted-is Committed e = absurd (cc)
 aborted-is InProgress e = absurd (cc)

@@ -13,11 +13,9 @@ use Rattle.tuple_header.specs.declared.version.TheConstants.{MOST_SLOTS}
 
 -- where the chain of a root or a redirect begins
 abbrev pub chain_start_in : ℕ → Option Slot → Option ℕ
-chain_start_in n None = None
-chain_start_in n (Some Unused) = None
 chain_start_in n (Some (Normal t)) = if is_heap_only t.header then None else Some n
 chain_start_in n (Some (Redirect k)) = Some k
-chain_start_in n (Some Dead) = None
+chain_start_in n slot = None
 
 abbrev pub chain_start_of : List Slot → ℕ → Option ℕ
 chain_start_of slots n = chain_start_in n (slot_at slots n)

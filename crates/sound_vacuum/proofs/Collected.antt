@@ -46,6 +46,7 @@ use Rattle.root_index.specs.declared.progress.Progress.TheVariants.{Done}
 use Rattle.vacuum_passes.specs.Visits.{VisitsAt}
 use Rattle.heap_write.specs.Cleaning.{FreesAt, SweepsAt}
 use Rattle.heap_write.proofs.PageLemmas.{slots-kept}
+use Rattle.heap_write.proofs.Plans.{pruned-page}
 use Rattle.sound_vacuum.specs.Freeing.{AreUnled}
 use Rattle.sound_vacuum.specs.Sweeping.{AreDead, IsSweptTo}
 use Rattle.sound_vacuum.specs.Between.{KeepsDeadSlots, StepsBetween}
@@ -123,7 +124,7 @@ pruned-keep : (h h' : HeapView) (number horizon : ℕ) → Prunes h h' number ho
 pruned-keep h h' number horizon p = same-keep h h' (same-entries h.indexes h'.indexes (ap (λ (g : HeapView). g.indexes) p.is))
     (put-dead (slots_of h) (slots_of h') number p.after.slots (prunes-puts h h' number horizon p)
     (subst (λ slots. DeadStay slots p.after.slots) (sym (prunes-on h h' number horizon p))
-    (λ k dead. dead-stays h.statuses horizon p.before.slots p.after.slots k p.pruned dead)))
+    (λ k dead. dead-stays h.statuses horizon p.before.slots p.after.slots k (pruned-page h h' number horizon p) dead)))
 
 applied-keep : (h h' : HeapView) (number horizon change : ℕ) (actions : List (ℕ × Action)) → Applies h h' number horizon change actions → KeepsDeadSlots h h'
 applied-keep h h' number horizon change actions a = same-keep h h' (same-entries h.indexes h'.indexes (ap (λ (g : HeapView). g.indexes) a.is))

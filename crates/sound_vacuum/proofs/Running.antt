@@ -35,6 +35,7 @@ use Rattle.root_index.specs.declared.progress.Progress.{Progress}
 use Rattle.vacuum_passes.specs.View.{VacuumView, places, space, collected, counted, new_vacuum, disturbed}
 use Rattle.vacuum_passes.specs.Visits.{IsNextPage, NoPageLeft, Visits}
 use Rattle.heap_write.specs.Cleaning.{SweepsAt}
+use Rattle.heap_write.proofs.Plans.{pruned-page}
 use Rattle.vacuum_passes.specs.Steps.{Steps, PhaseAfter, Frees, off_page, phase_left}
 use Rattle.vacuum_passes.specs.Keeps.{IsVacuum}
 use Rattle.vacuum_passes.proofs.ListLemmas.{in-filtered, in-filter, in-mapped, in-mapping, in-taken}
@@ -530,7 +531,7 @@ pub pruning-goes_on : (h h' : HeapView) (v : VacuumView) (horizon number at : �
     → KeepsVacuum h horizon v → KeepsVacuum h' horizon (disturbed false v)
 pruning-goes_on h h' v horizon number at can can' p keeps =
     page-goes_on h h' v horizon number p.before p.after can can' (StepsBetween.prunes number at p) (prunes-becomes h h' number at p)
-    (λ settled. settled-idle h.statuses horizon at p.before.slots p.after.slots settled p.pruned) keeps
+    (λ settled. settled-idle h.statuses horizon at p.before.slots p.after.slots settled (pruned-page h h' number at p)) keeps
 
 pub applying-goes_on : (h h' : HeapView) (v : VacuumView) (horizon number at change : ℕ) (actions : List (ℕ × Action)) → CanVacuum h horizon → CanVacuum h' horizon
     → Applies h h' number at change actions → KeepsVacuum h horizon v → KeepsVacuum h' horizon (disturbed false v)

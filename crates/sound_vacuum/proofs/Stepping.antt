@@ -10,7 +10,6 @@ use Rattle.commit_status.specs.Window.{Window, IsActive, turns}
 use Rattle.commit_status.proofs.Places.{precedes-turns, upto-given}
 use Rattle.snapshot.specs.Snap.{Snap}
 use Rattle.space_maps.specs.declared.mark.Mark.{Mark}
-use Rattle.space_maps.specs.declared.mark.Mark.TheVariants.{Nothing, AllVisible, AllFrozen}
 use Rattle.space_maps.specs.View.{says_visible, says_frozen}
 use Rattle.freeze.specs.Laws.{IsCutoff}
 use Rattle.index_entries.specs.declared.entry.Entry.{Entry}
@@ -24,6 +23,7 @@ use Rattle.table_integrity.proofs.Finding.{both}
 use Rattle.table_integrity.proofs.InUse.{used-by, same-come, stays-then}
 use Rattle.calls.specs.declared.vacuum.Mode.{Mode}
 use Rattle.calls.specs.declared.vacuum.Mode.TheVariants.{Normal, Aggressive}
+use Rattle.freeze.proofs.Marks.{frozen-visible}
 use Rattle.root_index.specs.declared.progress.Progress.{Progress}
 use Rattle.vacuum_passes.specs.View.{VacuumView, skips}
 use Rattle.vacuum_passes.specs.Visits.{Visits}
@@ -67,11 +67,6 @@ module _ (h : HeapView) (horizon : ℕ) (v : VacuumView) (can : CanVacuum h hori
   active-young x active = let a = can.earliest x active in let b = keeps.horizon_first in let c = keeps.cutoff_first in omega (arith, a, b, c)
 
 -- Marks.
-
-frozen-visible : (mark : Mark) → says_frozen mark ≡ true → says_visible mark ≡ true
-frozen-visible Nothing e = absurd (cc e)
-frozen-visible AllVisible e = refl
-frozen-visible AllFrozen e = refl
 
 pub skipped-visible : (mode : Mode) (mark : Mark) → skips mode mark ≡ true → says_visible mark ≡ true
 skipped-visible Normal mark e = e

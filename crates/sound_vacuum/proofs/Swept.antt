@@ -12,13 +12,13 @@ use Rattle.hot_chain.specs.Chain.{is_root_in}
 use Rattle.index_entries.specs.declared.entry.Entry.{Entry}
 use Rattle.index_entries.specs.Order.{comparison, EntryPrecedes, IsAscending}
 use Rattle.index_entries.specs.Sets.{IsAfter}
-use Rattle.index_entries.proofs.OrderLemmas.{Precedes-trans}
 use Rattle.index_lookup.specs.Pages.{slots_on, slot_in}
 use Rattle.sound_entries.specs.Entries.{EntriesAreSound, StaysSound}
 use Rattle.sound_entries.proofs.Going.{stays-same, in-root}
 use Rattle.root_index.specs.declared.progress.Progress.{Progress}
 use Rattle.root_index.specs.declared.progress.Progress.TheVariants.{More, Done}
 use Rattle.root_index.specs.Pieces.{RemovesPiece}
+use Rattle.vacuum_passes.proofs.PieceCounts.{after-later}
 use Rattle.sound_vacuum.specs.Sweeping.{AreDead, IsSweptBefore, IsSweptTo, RemovesPieces, KeepsDead, RemovesEntries}
 
 -- Some of the entries to dead slots go.
@@ -88,10 +88,6 @@ record RemovesAfter (old new : List Entry) (dead : List Tid) (from : Option Entr
   ascending : IsAscending new
   members : (e : Entry) → Contains new e ↔ (Contains old e × ¬ (IsAfter from e × Contains dead e.tid))
 
-after-trans : (from : Option Entry) (last e : Entry) → IsAfter from last → EntryPrecedes last e → IsAfter from e
-after-trans None last e first second = tt
-after-trans (Some a) last e first second = Precedes-trans a last e first second
-
 sweeps-after : (dead : List Tid) (from : Option Entry) (old new : List Entry) → RemovesPieces dead from old new → RemovesAfter old new dead from
 sweeps-after dead from old new (RemovesPieces.at_end _ _ _ removes) = record {
   ascending = removes.ascending;
@@ -116,7 +112,7 @@ sweeps-after dead from old new (RemovesPieces.piece _ last _ between _ removes r
             ),
         λ was. (after.members e).1 (
           (removes.members e).1 (was.0, λ all. was.1 (all.0, all.2)),
-          λ both. was.1 (after-trans from last e removes.goes_on.1 both.0, both.1),
+          λ both. was.1 (after-later from last e removes.goes_on.1 both.0, both.1),
         ),
       );
     }

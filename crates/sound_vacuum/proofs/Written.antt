@@ -1,5 +1,5 @@
 -- What is noted of pages, where the steps between those of a vacuum change them.
-use Rattle.std.proofs.Common.{◌≡◌, ℕ, Bool, true, false, List, [], ◌∷◌, ◌++◌, ◌≤◌, refl, sym, ap, ◌∙◌, subst}
+use Rattle.std.proofs.Common.{◌≡◌, ℕ, Bool, true, false, List, [], ◌∷◌, ◌++◌, ◌≤◌, sym, ap, ◌∙◌, subst}
 use Rattle.std.specs.Prelude.{slice_set}
 use Rattle.std.proofs.lemmas.List.{length-set, set-set}
 use Rattle.xid_circle.specs.declared.Tid.{Tid}
@@ -22,7 +22,7 @@ use Rattle.heap_write.specs.Writes.{PutsRoot, SetsXmax, ColdUpdates, UpdatesOnPa
 use Rattle.heap_write.specs.Refusals.{FailsUpdate}
 use Rattle.heap_write.specs.declared.heap.WriteFault.{WriteFault}
 use Rattle.heap_write.specs.declared.heap.WriteFault.TheVariants as fault
-use Rattle.write_ids.proofs.IdLemmas.{same-status}
+use Rattle.write_ids.proofs.IdLemmas.{same-status, same-ids, same-back}
 use Rattle.table_integrity.proofs.Places.{free_place}
 use Rattle.sound_vacuum.specs.Maps.{MapsAreTrue, flagged_as}
 use Rattle.sound_vacuum.specs.Cleaning.{IsNoVisit}
@@ -44,9 +44,6 @@ ids-true w v horizon pages marks same t = record {
   true_marks = λ n page at. true-on w v horizon horizon page.slots (ids-on w v horizon page.slots same) (mark_on marks n) (t.true_marks n page at);
   true_flags = t.true_flags;
 }
-
-same-back : (w v : Window) → SameIds w v → SameIds v w
-same-back w v ids = record { first = sym ids.first; stop_age = sym ids.stop_age; entries = sym ids.entries }
 
 -- What is so of the pages of a table and their marks, while nothing becomes of ids.
 
@@ -108,16 +105,13 @@ module _ (w : Window) (horizon : ℕ) where
   failed-true h h' own place row later fault.NoRoom ids f t = kept-true f.ready h' f.keeps (readied-true h f.ready place later (rounded_size_of row) ids f.readies t)
   failed-true h h' own place row later fault.NoMemory ids f t = kept-true h h' f.2 t
 
-no-more : (w : Window) → SameIds w w
-no-more w = record { first = refl; stop_age = refl; entries = refl }
-
 -- by the ids as they were before the step
 pages-true : (h h' : HeapView) (horizon : ℕ) (step : StepsBetween h h') → IsNoVisit step → MapsAreTrue h.statuses horizon h.pages.pages h.pages.marks → MapsAreTrue h.statuses horizon h'.pages.pages h'.pages.marks
 pages-true h h' horizon (StepsBetween.inserts own own' row x writer i) none t = root-true h.statuses horizon h h' false x row i.number i.root t
 pages-true h h' horizon (StepsBetween.updates own own' place row later x writer u) none t =
-    replaces-true h.statuses horizon u.ready h' place x row u.replaces (readied-true h.statuses horizon h u.ready place later (rounded_size_of row) (no-more h.statuses) u.readies t)
+    replaces-true h.statuses horizon u.ready h' place x row u.replaces (readied-true h.statuses horizon h u.ready place later (rounded_size_of row) (same-ids h.statuses) u.readies t)
 pages-true h h' horizon (StepsBetween.deletes own own' place x writer d) none t = away-true h.statuses horizon h h' place x place d.away t
-pages-true h h' horizon (StepsBetween.fails_update own place row later fault f) none t = failed-true h.statuses horizon h h' own place row later fault (no-more h.statuses) f t
+pages-true h h' horizon (StepsBetween.fails_update own place row later fault f) none t = failed-true h.statuses horizon h h' own place row later fault (same-ids h.statuses) f t
 pages-true h h' horizon (StepsBetween.keeps k) none t = kept-true h.statuses horizon h h' k t
 pages-true h h' horizon (StepsBetween.finishes ids status f) none t = subst (λ (p : PagesView). MapsAreTrue h.statuses horizon p.pages p.marks) (sym f.pages) t
 pages-true h h' horizon (StepsBetween.prunes number later p) none t =

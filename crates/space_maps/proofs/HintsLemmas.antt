@@ -1,9 +1,9 @@
 -- What hints say after one of them changes, one is added, or an epoch ends.
-use Rattle.std.proofs.Common.{◌≡◌, ◌∙◌, ℕ, ◌<◌, ◌≤◌, inl, inr, ⊎_elim, ◌⊎◌, List, [], ◌∷◌, ◌++◌, map, set, length, Option, Some, None, refl, sym, ap, subst, arith, slice_index_or}
+use Rattle.std.proofs.Common.{◌≡◌, ◌≢◌, ◌∙◌, ℕ, ◌<◌, ◌≤◌, inl, inr, ⊎_elim, ◌⊎◌, List, map, set, length, Option, Some, None, refl, sym, ap, subst, arith, slice_index_or}
 use Rattle.std.specs.List.{All}
 use Rattle.std.proofs.lemmas.Bool.{cases_lt, cases_eq, eq-eqb, ne_eqb}
 use Rattle.std.proofs.lemmas.List.{map-set, get_or-map, get_or_past, get_or-set_same, get_or-set_other, get_or_default, length-map, length-set}
-use Rattle.space_maps.specs.Hints.{PageHint, nothing_known, hint_on, hint_in, AddsDoubt}
+use Rattle.space_maps.specs.Hints.{PageHint, nothing_known, hint_on, hint_in, AddsDoubt, Lowers}
 use Rattle.space_maps.specs.declared.prune_hints.PruneHint.{PruneHint}
 
 -- what a hint says in this epoch, and what all of them do
@@ -32,6 +32,29 @@ pub pages-set : (now : ℕ) (hints : List PruneHint) (n : ℕ) (turn : Option �
     → pages_in now (set hints n (record { epoch = now; turn = turn; doubts = doubts })) ≡ set (pages_in now hints) n (record { turn = turn; doubts = doubts })
 pages-set now hints n turn doubts =
     map-set (says now) hints n (record { epoch = now; turn = turn; doubts = doubts }) ∙ ap (set (pages_in now hints) n) (says-now now turn doubts)
+
+-- the hint of a page is changed where it stands, and stays of this epoch
+said : (now : ℕ) (hint : PruneHint) → hint.epoch ≡ now → says now hint ≡ record { turn = hint.turn; doubts = hint.doubts }
+said now hint is = ap (λ epoch. hint_in now epoch hint.turn hint.doubts) is ∙ says-now now hint.turn hint.doubts
+
+hint-here : (now : ℕ) (hints : List PruneHint) (n : ℕ) (hint : PruneHint) → n < length hints → hint ≡ slice_index_or hints n hint → hint.epoch ≡ now
+    → hint_on (pages_in now hints) n ≡ record { turn = hint.turn; doubts = hint.doubts }
+hint-here now hints n hint within is epoch = get_or-map (says now) hints n hint nothing_known within ∙ (ap (says now) (sym is) ∙ said now hint epoch)
+
+pub lowers-here : (now : ℕ) (hints : List PruneHint) (n turn slot : ℕ) (old hint new : PruneHint) → n < length hints → old ≡ slice_index_or hints n old → hint ≡ slice_index_or hints n hint
+    → old.epoch ≡ now → new.epoch ≡ hint.epoch
+    → Lowers (record { turn = hint.turn; doubts = hint.doubts }) turn slot (record { turn = new.turn; doubts = new.doubts })
+    → Lowers (hint_on (pages_in now hints) n) turn slot (hint_on (pages_in now (set hints n new)) n)
+lowers-here now hints n turn slot old hint new within old_is hint_is epoch kept lowers =
+    let same : hint ≡ old = hint_is ∙ get_or_default hints n hint old within ∙ sym old_is in
+    let of_now : hint.epoch ≡ now = ap (λ (h : PruneHint). h.epoch) same ∙ epoch in
+    let placed = subst (λ count. n < count) (sym (length-set hints n new)) within in
+    subst (λ h. Lowers h turn slot (hint_on (pages_in now (set hints n new)) n)) (sym (hint-here now hints n hint within hint_is of_now))
+    (subst (λ h. Lowers (record { turn = hint.turn; doubts = hint.doubts }) turn slot h)
+    (sym (hint-here now (set hints n new) n new placed (sym (get_or-set_same hints n new new within)) (kept ∙ of_now))) lowers)
+
+pub kept-others : (now : ℕ) (hints : List PruneHint) (n m : ℕ) (new : PruneHint) → m ≢ n → hint_on (pages_in now (set hints n new)) m ≡ hint_on (pages_in now hints) m
+kept-others now hints n m new other = ap (λ said. hint_on said m) (map-set (says now) hints n new) ∙ get_or-set_other (pages_in now hints) n m (says now new) nothing_known other
 
 -- in a later epoch all say nothing
 pub pages-later : (now later : ℕ) (hints : List PruneHint) → now < later → All (λ (hint : PruneHint). hint.epoch ≤ now) hints

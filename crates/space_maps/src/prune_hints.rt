@@ -1,6 +1,6 @@
 //! What is known of when pruning a page may take something, and from where.
 
-ghost use Rattle.std.specs.Prelude.{◌≡◌, ◌≢◌, ℕ, ◌+◌, ◌-◌, ◌≤◌, ◌<◌, [], ◌∷◌, ◌++◌, Option, Some, None, length, map, slice_set, vec_len, vec_capacity, OnOk, OnErr};
+ghost use Rattle.std.specs.Prelude.{◌≡◌, ◌≢◌, ℕ, ◌+◌, ◌-◌, ◌≤◌, ◌<◌, [], ◌∷◌, ◌++◌, Option, Some, None, IsTrue, length, map, slice_set, vec_len, vec_capacity, OnOk, OnErr};
 ghost use Rattle.space_maps.specs.Hints.{hint_on, hint_in, nothing_known, AddsDoubt, Lowers};
 
 use std::alloc::{AllocError, Global};
@@ -38,6 +38,16 @@ impl PruneHint {
         }
     }
 
+    /// Lowers what it says to this turn, where that is earlier, and adds a slot to its doubts.
+    fn lower(&mut self, turn: u32, slot: u16)
+        ensures epoch { self.new.epoch ≡ self.old.epoch }
+        ensures lowers { Lowers (record { turn = self.old.turn; doubts = self.old.doubts })
+            turn slot (record { turn = self.new.turn; doubts = self.new.doubts }) }
+    {
+        self.turn = self.turn.map(|known| known.min(turn));
+        add_doubt(&mut self.doubts, slot);
+    }
+
     /// A hint of this epoch that says what this one says in it.
     fn in_epoch(self, epoch: u64) -> PruneHint
         ensures epoch { result.epoch ≡ epoch }
@@ -52,18 +62,39 @@ impl PruneHint {
     }
 }
 
+/// Puts one more slot among these, and answers whether there was a place for it.
+fn put_doubt(numbers: &mut [u16; DOUBT_PLACES], slot: u16) -> bool
+    ensures { IsTrue result → AddsDoubt (Some numbers.old) slot (Some numbers.new) }
+{
+    for place in 0..DOUBT_PLACES {
+        if numbers[place] == 0 || numbers[place] == slot {
+            numbers[place] = slot;
+            return true;
+        }
+    }
+    false
+}
+
+/// Adds one more slot, where there are at most seven then.
+fn add_doubt(doubts: &mut Doubts, slot: u16)
+    ensures { AddsDoubt doubts.old slot doubts.new }
+{
+    let has_place = match doubts {
+        Some(numbers) => put_doubt(numbers, slot),
+        None => true,
+    };
+    if !has_place {
+        *doubts = None;
+    }
+}
+
 /// These slots and one more, where there are at most seven then.
 pub fn with_doubt(doubts: Doubts, slot: u16) -> Doubts
     ensures { AddsDoubt doubts slot result }
 {
-    let mut numbers = doubts?;
-    for place in 0..DOUBT_PLACES {
-        if numbers[place] == 0 || numbers[place] == slot {
-            numbers[place] = slot;
-            return Some(numbers);
-        }
-    }
-    None
+    let mut more = doubts;
+    add_doubt(&mut more, slot);
+    more
 }
 
 /// For each page the turn from which on a version on it may be dead, and the slots whose versions may be, as far as they are known. All
@@ -145,21 +176,10 @@ impl PruneHints {
             → hint_on self.new.pages m ≡ hint_on self.old.pages m }
         ensures spare { self.new.spare ≡ self.old.spare }
     {
-        let mut hint = self.hint(number);
-        hint.turn = hint.turn.map(|known| known.min(turn));
-        hint.doubts = with_doubt(hint.doubts, slot);
-        self.put(number, hint);
-    }
-
-    /// No turn is known of a page any more.
-    pub fn end_turn(&mut self, number: u32)
-        ensures pages { self.new.pages ≡ slice_set self.old.pages number
-            (record (hint_on self.old.pages number) { turn = None }) }
-        ensures spare { self.new.spare ≡ self.old.spare }
-    {
-        let mut hint = self.hint(number);
-        hint.turn = None;
-        self.put(number, hint);
+        let index = number as usize;
+        if index < self.hints.len() && self.hints[index].epoch == self.epoch {
+            self.hints[index].lower(turn, slot);
+        }
     }
 
     /// Nothing is known of a page any more.

@@ -1,17 +1,16 @@
 -- A cache goes on to agree with its table.
-use Rattle.std.proofs.Common.{◌≡◌, ◌≢◌, ℕ, zero, suc, ◌+◌, ◌-◌, ◌<◌, ◌≤◌, ◌⊎◌, List, [], ◌∷◌, length, take, drop, length-drop, Contains, nat_eq, true, false, Some, refl, sym, ap, ◌∙◌, subst, inl, inr, ⊎_elim, arith, slice_get}
+use Rattle.std.proofs.Common.{◌≡◌, ◌≢◌, ℕ, ◌+◌, ◌-◌, ◌<◌, ◌≤◌, ◌⊎◌, List, [], ◌∷◌, length, take, length-drop, Contains, nat_eq, true, false, Some, refl, sym, ap, ◌∙◌, subst, inl, inr, ⊎_elim, arith, slice_get}
 use Rattle.std.proofs.lemmas.Bool.{cases_lt}
-use Rattle.std.proofs.lemmas.Option.{slice_get_past}
 use Rattle.xid_circle.specs.Circle.{given}
 use Rattle.lru.proofs.CallerLemmas.{Contains-take, Contains-lookup}
 use Rattle.lru.proofs.Splits.{Contains-head, Contains-tail, Contains-cons, Contains-nil}
 use Rattle.commit_status.specs.declared.status.Status.{Status}
 use Rattle.commit_status.specs.declared.status.Status.TheVariants.{InProgress}
-use Rattle.commit_status.specs.Window.{IdEntry, Window, IsWindow, IsActive, IsUpToNext, turns, place, status_in, status_of}
+use Rattle.commit_status.specs.Window.{Window, IsWindow, IsActive, IsUpToNext, turns, place, status_in, status_of}
 use Rattle.commit_status.specs.Changes.{Finishes, Truncates}
 use Rattle.commit_status.proofs.Turns.{given-given}
 use Rattle.commit_status.proofs.Places.{at-from_place, given-place, place-given, place-lt, given-upto, upto-place, precedes-turns, some-from_is, is-from_some}
-use Rattle.commit_status.proofs.ChangesLemmas.{entry-at}
+use Rattle.commit_status.proofs.ChangesLemmas.{entry-at, drop-at}
 use Rattle.commit_status.proofs.Giving.{finished-place}
 use Rattle.commit_status.proofs.Finishing.{finishes-given}
 use Rattle.snapshot.specs.Snap.{is_before}
@@ -48,11 +47,6 @@ finishing-keeps w v ids status held ended active f agrees e there =
     let was = state-some w e.0 e.1 (agrees e there) in
     state-is v e.0 e.1 (finishes-given w v ids status e.0 f was.0)
     (⊎_elim (λ mine. absurd (ended e there (sym was.1 ∙ (active e.0 mine.0).unfinished))) (λ other. other.1 ∙ was.1) (f.each e.0))
-
-drop-at : (k j : ℕ) (es : List IdEntry) → slice_get (drop k es) j ≡ slice_get es (k + j)
-drop-at zero j es = let e : j ≡ 0 + j = omega arith in ap (slice_get es) e
-drop-at (suc k) j [] = slice_get_past {X = IdEntry} [] j (omega arith) ∙ sym (slice_get_past {X = IdEntry} [] (suc k + j) (omega arith))
-drop-at (suc k) j (e ∷ es) = drop-at k j es ∙ (let same : suc (k + j) ≡ suc k + j = omega arith in ap (slice_get (e ∷ es)) same)
 
 -- an id that is not before the cutoff is remembered as it was
 late-state : (w v : Window) (c x i : ℕ) (status : Status) → IsWindow w → IsWindow v → IsUpToNext w c → Truncates w v c

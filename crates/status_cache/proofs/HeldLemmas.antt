@@ -41,7 +41,7 @@ pub held-found : (held : List (ℕ × Status)) (x : ℕ) (status : Status) → l
 held-found held x status h = subst IsSome (sym h) refl
 
 -- an id that is first already
-self-number : (x : ℕ) → nat_eq x x ≡ true
+pub self-number : (x : ℕ) → nat_eq x x ≡ true
 self-number x = grind (arith, nat_tests)
 
 pub first-found : (held : List (ℕ × Status)) (x : ℕ) (status : Status) → Some (x, status) ≡ slice_get held 0 → lookup (nat_eq x) held ≡ Some status

@@ -16,6 +16,7 @@ use Rattle.snapshot.specs.Snap.{is_before}
 use Rattle.commit_status.specs.declared.status.Status.TheVariants.{InProgress}
 use Rattle.snapshot.proofs.Earliest.{before-precedes, precedes-before}
 use Rattle.status_cache.specs.Held.{held_from}
+use Rattle.status_cache.proofs.HeldLemmas.{self-number}
 
 at-end : (front : List (ℕ × Status)) (last : ℕ × Status) → slice_get (front ++ last ∷ []) (length front) ≡ Some last
 at-end [] last = refl
@@ -40,9 +41,6 @@ all-end P (e ∷ front) last all = all-end P front last all.1
 
 turned-number : (x y : ℕ) → nat_eq x y ≡ false → nat_eq y x ≡ false
 turned-number x y h = grind (arith, nat_tests)
-
-self-number : (x : ℕ) → nat_eq x x ≡ true
-self-number x = grind (arith, nat_tests)
 
 pub last-found : (front : List (ℕ × Status)) (last : ℕ × Status) → IsDistinct nat_eq (keys_of (front ++ last ∷ [])) → lookup_entry (nat_eq last.0) (front ++ last ∷ []) ≡ Some last
 last-found [] last apart = rw (self-number last.0) refl

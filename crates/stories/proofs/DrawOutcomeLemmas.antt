@@ -22,6 +22,7 @@ use Rattle.viewing.proofs.RunLemmas.{ran_views}
 use Rattle.stories.specs.declared.draw_fault.DrawFault.{DrawFault}
 use Rattle.stories.specs.declared.draw_fault.DrawFault.TheVariants.{Script, TooManyPages, NoSuchPage}
 use Rattle.shapes.specs.Pictures.{AddsText, pages_asked, IsPictureText}
+use Rattle.script.proofs.FirstLemmas.{begun_first}
 use Rattle.stories.specs.Faults.{fault_in_drawing, IsDrawFault}
 use Rattle.stories.specs.DrawOutcomes.{LinesRead, IsFromOutside, IsReadFault, RunsTo, WritesPicture, DrawsFrom, ScriptRead, DrawOutcome, IsDrawCaused}
 
@@ -95,9 +96,6 @@ closed-well st pages text r log w0 w1 a (inr err) is = absurd (rw is at err.0)
 
 -- Behind the lines.
 
-begins-later : (w0 w1 w2 : Option (List ℕ)) (text : List ℕ) → Appends w0 w1 [] → WritesBeginning w1 w2 text → WritesBeginning w0 w2 text
-begins-later w0 w1 w2 text q w = (w.0, (w.1.0, Appends-trans w0 w1 w2 [] w.1.0 q w.1.1, w.1.2))
-
 pub lines-undone : (from to : WaitingView) (most : ℕ) (pages input : List ℕ) (f : DrawFault) (w0 w1 : Option (List ℕ)) → RunsTo from to most input (Err f) → Appends w0 w1 [] → DrawsFrom from most pages (Err f) input w0 w1
 lines-undone from to most pages input (Script (BadLine n)) w0 w1 h q = (q, h)
 lines-undone from to most pages input (Script (BadPage b)) w0 w1 h q = absurd h
@@ -120,7 +118,7 @@ lines-done from to most pages input (Err (Script f)) w0 w1 w2 h q w = by f w.0
         how : Appends w1 w2 [] ⊎ ((picture : List ℕ) × IsPictureText to (pages_asked pages to.engine.core) picture × WritesBeginning w1 w2 picture)
             → Appends w0 w2 [] ⊎ ((read : LinesRead from input) × (picture : List ℕ) × IsPictureText read.last (pages_asked pages read.last.engine.core) picture × WritesBeginning w0 w2 picture)
         how (inl none) = inl (Appends-trans w0 w1 w2 [] [] q none)
-        how (inr some) = inr (h.0, some.0, subst (λ (st : WaitingView). IsPictureText st (pages_asked pages st.engine.core) some.0) (sym h.1) some.1, begins-later w0 w1 w2 some.0 q some.2)
+        how (inr some) = inr (h.0, some.0, subst (λ (st : WaitingView). IsPictureText st (pages_asked pages st.engine.core) some.0) (sym h.1) some.1, begun_first w0 w1 w2 some.0 q some.2)
 
     by : (f : ShellFault) → IsFromOutside f → DrawsFrom from most pages (Err (Script f)) input w0 w2
     by (BadLine n) o = absurd o
@@ -163,7 +161,7 @@ ended-behind : (most : ℕ) (pages : List ℕ) (s : Settings) (e : WaitingView) 
     → input ≡ with_feed (heading s) ++ bytes → Appends w0 w1 [] → Appends w1 w2 [] ⊎ ((read : LinesRead e bytes) × (picture : List ℕ) × IsPictureText read.last (pages_asked pages read.last.engine.core) picture × WritesBeginning w1 w2 picture)
     → Appends w0 w2 [] ⊎ ((read : ScriptRead input) × (picture : List ℕ) × IsPictureText read.run.last (pages_asked pages read.run.last.engine.core) picture × WritesBeginning w0 w2 picture)
 ended-behind most pages s e input bytes w0 w1 w2 fits columns new all q (inl none) = inl (Appends-trans w0 w1 w2 [] [] q none)
-ended-behind most pages s e input bytes w0 w1 w2 fits columns new all q (inr some) = inr (reads-of s e input bytes fits columns new all some.0, some.1, some.2, begins-later w0 w1 w2 some.1 q some.3)
+ended-behind most pages s e input bytes w0 w1 w2 fits columns new all q (inr some) = inr (reads-of s e input bytes fits columns new all some.0, some.1, some.2, begun_first w0 w1 w2 some.1 q some.3)
 
 -- behind a first line
 drawn-behind : (most : ℕ) (pages : List ℕ) (s : Settings) (e : WaitingView) (input bytes : List ℕ) (r : Result (Unit {0}) DrawFault) (w0 w1 w2 : Option (List ℕ)) → AreSettings s → length s.indexed ≡ 4 → IsNewWaiting s e

@@ -2,8 +2,7 @@
 use Rattle.std.proofs.Common.{◌≡◌, ℕ, ◌+◌, ◌<◌, ◌≤◌, inl, inr, List, [], ◌∷◌, ◌++◌, length, take, drop, refl, ap, length-append, ◌∙◌, sym, subst, arith, Option, None, Some, Ok, Err, position, IfSome}
 use Rattle.std.specs.Bool.{◌==◌}
 use Rattle.std.specs.List.{AllByRecursion}
-use Rattle.std.proofs.lemmas.List.{append-nil, length-take-le}
-use Rattle.std.proofs.lemmas.Grind.{flat_map-append}
+use Rattle.std.proofs.lemmas.List.{length-take-le}
 use Rattle.std.proofs.lemmas.Option.{IfSome_then}
 use Rattle.std.proofs.KnownBytes.{Appends-nil, Appends-trans}
 use Rattle.std.specs.Io.KnownBytes.{Appends, IsAtEnd}
@@ -15,29 +14,14 @@ use Rattle.script.specs.Steps.{Uses}
 use Rattle.script.specs.declared.fault.ShellFault.{ShellFault}
 use Rattle.script.specs.declared.fault.ShellFault.TheVariants.{BadLine, BadPage, Input, Output, NoMemory, TooManyLines as NumbersRanOut}
 use Rattle.script.proofs.RunLemmas.{Uses-refl, Uses-Takes, Uses-prefix, Uses-known, position-split}
-use Rattle.viewing.specs.Viewing.{ViewEvent, scripted, looked, view_line, view_lines, IsViewAllowed, ViewMoves, ViewsLead, IsBadView}
+use Rattle.viewing.specs.Viewing.{ViewEvent, view_line, view_lines, IsViewAllowed, ViewMoves, ViewsLead, IsBadView}
 use Rattle.viewing.specs.Steps.{ViewFits, IsNoView}
-use Rattle.viewing.proofs.RunLemmas.{bad_from_none, bad_from_line}
+use Rattle.viewing.proofs.RunLemmas.{bad_from_none, bad_from_line, Leads-push, all-push, lines-push, allowed_from}
 use Rattle.stories.specs.declared.draw_fault.DrawFault.{DrawFault}
 use Rattle.stories.specs.declared.draw_fault.DrawFault.TheVariants.{Script, TooManyPages, NoSuchPage}
 use Rattle.stories.specs.DrawOutcomes.{LinesRead, IsBadNext, IsFromOutside, IsReadFault, RunsTo}
 
 -- One more event.
-
-pub leads-push : (old : WaitingView) (events : List ViewEvent) (mid : WaitingView) (e : ViewEvent) (new : WaitingView) → ViewsLead old events mid → ViewMoves mid e new → ViewsLead old (events ++ e ∷ []) new
-leads-push old [] mid e new led moves = (new, subst (λ (st : WaitingView). ViewMoves st e new) (sym led) moves, refl)
-leads-push old (x ∷ xs) mid e new led moves = (led.0, led.1, leads-push led.0 xs mid e new led.2 moves)
-
-pub all-push : (events : List ViewEvent) (e : ViewEvent) → AllByRecursion IsViewAllowed events → IsViewAllowed e → AllByRecursion IsViewAllowed (events ++ e ∷ [])
-all-push [] e h k = (k, tt)
-all-push (x ∷ xs) e h k = (h.0, all-push xs e h.1 k)
-
-pub lines-push : (events : List ViewEvent) (e : ViewEvent) → view_lines (events ++ e ∷ []) ≡ view_lines events ++ with_feed (view_line e)
-lines-push events e = flat_map-append (λ e. with_feed (view_line e)) events (e ∷ []) ∙ ap (λ x. view_lines events ++ x) (append-nil (with_feed (view_line e)))
-
-pub allowed_from : (e : ViewEvent) → ViewFits e → length (view_line e) ≤ 4096 → IsViewAllowed e
-allowed_from (scripted e) fits short = record { fits = fits; short = short }
-allowed_from (looked look text) fits short = record { fits = fits; short = short }
 
 -- How far the lines have come.
 
@@ -80,7 +64,7 @@ read-line from state state' before now old new w0 w1 n k e h at short within fit
     record {
       events = h.events ++ e ∷ [];
       allowed = all-push h.events e h.allowed (allowed_from e fits (rw (← line) (omega arith)));
-      leads = leads-push from h.events state e state' h.leads moves;
+      leads = Leads-push from h.events state e state' h.leads moves;
       uses = rw (lines-push h.events e) (Uses-prefix before now old (view_lines h.events) new (with_feed (view_line e)) (drop (k + 1) new)
           (position-split new k at ∙ ap (λ x. with_feed x ++ drop (k + 1) new) line) h.uses);
       quiet = h.quiet;

@@ -2,6 +2,7 @@
 use Rattle.std.proofs.Common.{◌≡◌, ◌↔◌, ℕ, zero, suc, ◌+◌, ◌-◌, ◌<◌, ◌≤◌, true, inl, inr, ⊎_elim, Bor, List, [], ◌∷◌, length, get_or, set, Option, Some, None, IsSome, ℤ, pos, nat_abs, sym, ap, subst, refl, ◌∙◌, arith}
 use Rattle.std.specs.Prelude.{is_some, option_copied}
 use Rattle.std.specs.Option.{unwrap_or}
+use Rattle.std.proofs.lemmas.List.Elements.{All-set, All-get_or}
 use Rattle.std.proofs.lemmas.Bool.{cases_lt, cases_eq, true≢false}
 use Rattle.std.proofs.lemmas.List.{get_or_default, get_or_past, get_or-set_same, get_or-set_other, length-set}
 use Rattle.xid_circle.specs.declared.Tid.{Tid}
@@ -12,7 +13,7 @@ use Rattle.root_index.specs.Pieces.{RemovesPiece}
 use Rattle.index_entries.specs.Sets.{AddsEntry}
 use Rattle.root_index.specs.View.{IndexView, room_in}
 use Rattle.tuple_header.specs.IndexValue.{value_in}
-use Rattle.table_indexes.specs.Indexes.{IndexesView, entries_of, entries_at, SameValues, index_entry_of, SameEntries, AddsAny, Enters, HasEntry}
+use Rattle.table_indexes.specs.Indexes.{IndexesView, entries_of, entries_at, SameValues, index_entry_of, SameEntries, AddsAny, Enters, HasEntry, LacksEntry, IsByColumn, AreOfTheirKinds}
 
 -- the index of a number in a list
 abbrev pub listed : List (Option IndexView) → ℕ → Option IndexView
@@ -74,6 +75,25 @@ changed-key P before cols key index view_is size new = subst (λ v. Changed P v 
 pub column-at : (cols : List (Option IndexView)) (c : ℕ) (x : Option IndexView) → c < 4 → length cols ≡ 4 → get_or cols c x ≡ get_or cols c None
 column-at cols c x within size = get_or_default cols c x None (omega (arith, within, size))
 
+-- Each index stays of its kind.
+
+pub key-changed : (key key' : IndexView) (cols : List (Option IndexView)) → AreOfTheirKinds key cols → key'.is_by_key ≡ key.is_by_key → AreOfTheirKinds key' cols
+key-changed key key' cols are same = record { size = are.size; key = same ∙ are.key; columns = are.columns }
+
+pub column-kind : (key : IndexView) (cols : List (Option IndexView)) (c : ℕ) (x : Option IndexView) → AreOfTheirKinds key cols → c < 4 → IsByColumn (get_or cols c x)
+column-kind key cols c x are within = All-get_or IsByColumn cols c x (omega (arith, within, are.size)) are.columns
+
+pub column-put : (key : IndexView) (cols : List (Option IndexView)) (c : ℕ) (index : Option IndexView) → AreOfTheirKinds key cols → IsByColumn index → AreOfTheirKinds key (set cols c index)
+column-put key cols c index are kind = record {
+  size = length-set cols c index ∙ are.size;
+  key = are.key;
+  columns = All-set IsByColumn cols c index kind are.columns;
+}
+
+pub column-changed : (key : IndexView) (cols : List (Option IndexView)) (c : ℕ) (x index : Option IndexView) → AreOfTheirKinds key cols → c < 4
+    → (IsByColumn (get_or cols c x) → IsByColumn index) → AreOfTheirKinds key (set cols c index)
+column-changed key cols c x index are within kept = column-put key cols c index are (kept (column-kind key cols c x are within))
+
 size-after : (key : Option IndexView) (cols : List (Option IndexView)) → length (key ∷ cols) ≡ 5 → length cols ≡ 4
 size-after key cols size = let long : length (key ∷ cols) ≡ suc (length cols) = refl in omega (arith, long, size)
 
@@ -97,6 +117,16 @@ pub reserved-column : (before cols : List (Option IndexView)) (key x index : Opt
 reserved-column before cols key x index c within reserved room same =
     changed-column HasRoom before cols key index c within reserved
     (record { room = room; same = same ∙ ap entries_of (column-at cols c x within (size-after key cols reserved.size)) })
+
+-- one that lacks it lacked it before
+pub reserved-lacks : (before cols : List (Option IndexView)) (key x : Option IndexView) (c : ℕ) → c < 4 → Reserved before (key ∷ cols) (c + 1)
+    → LacksEntry (get_or cols c x) → (n : ℕ) × LacksEntry (listed before n)
+reserved-lacks before cols key x c within reserved lacks =
+    let one : c + 1 ≡ suc c = omega arith in (
+      c + 1,
+      subst LacksEntry (reserved.rest (c + 1) (omega arith))
+          (subst (λ n. LacksEntry (listed (key ∷ cols) n)) (sym one) (subst LacksEntry (column-at cols c x within (size-after key cols reserved.size)) lacks)),
+    )
 
 -- so far, and to the end
 pub reserved-all : (before after : List (Option IndexView)) (i : ℕ) → Reserved before after i → (n : ℕ) → entries_of (listed after n) ≡ entries_of (listed before n)

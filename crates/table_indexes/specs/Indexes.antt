@@ -1,6 +1,7 @@
 -- The indexes of a table by their numbers: index 0 by key, which is always in use, and index c + 1 by column c. (README.HOT:
 -- there is one entry for a chain, in each index; a version that has another value in one of them is a root of its own.)
-use Rattle.std.specs.Prelude.{◌≡◌, ℕ, zero, suc, ◌+◌, ◌<◌, ◌∷◌, length, Bool, false, if◌then◌else◌, List, [], Option, Some, None, IsSome, ℤ, option_map, unwrap_or, slice_index_or}
+use Rattle.std.specs.Prelude.{◌≡◌, ℕ, zero, suc, ◌+◌, ◌<◌, ◌∷◌, length, Bool, true, false, if◌then◌else◌, List, [], Option, Some, None, IsSome, IfSome, ℤ, option_map, unwrap_or, slice_index_or}
+use Rattle.std.specs.List.{All}
 use Rattle.xid_circle.specs.Numbers.{IndexNo, Count}
 use Rattle.xid_circle.specs.declared.Tid.{Tid}
 use Rattle.xid_circle.specs.declared.Xid.{Xid}
@@ -69,6 +70,18 @@ entries_from indexes n (suc count) = length (entries_in indexes n) + entries_fro
 
 abbrev pub all_entries : IndexesView → ℕ
 all_entries indexes = entries_from indexes 0 5
+
+-- Kinds.
+
+-- the index, if it is in use, is one by a column
+abbrev pub IsByColumn : Option IndexView → Type 0
+IsByColumn o = IfSome o (λ index. index.is_by_key ≡ false)
+
+-- there are four columns, and each index is of its kind
+pub record AreOfTheirKinds (by_key : IndexView) (by_column : List (Option IndexView)) : Type 0 where
+  pub size : length by_column ≡ 4
+  pub key : by_key.is_by_key ≡ true
+  pub columns : All IsByColumn by_column
 
 -- What is said of rows.
 

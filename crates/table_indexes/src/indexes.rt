@@ -1,14 +1,16 @@
 //! The indexes of a table: one by key, and one by each column for which it has one.
 
-ghost use Rattle.std.specs.Prelude.{◌≡◌, ℕ, suc, ◌↔◌, ◌<◌, [], Some, None, IsFalse, IsTrue, OnOk, OnErr, if◌then◌else◌, option_copied, FitsSigned, ◌≢◌, ◌^◌, length, MatchOption, IsSome};
-ghost use Rattle.std.specs.Int.{w128};
+ghost use Rattle.std.specs.Prelude.{◌≡◌, pos, false, ℕ, suc, ◌↔◌, ◌<◌, [], Some, None, IsFalse, IsTrue, OnOk, OnErr, if◌then◌else◌, option_copied, FitsSigned, ◌≢◌, ◌^◌, length, MatchOption, IsSome};
+ghost use Rattle.std.specs.Int.{w64, w128};
 ghost use Rattle.std.specs.Option.{option_map, unwrap_or};
 ghost use Rattle.root_index.specs.Pieces.{RemovesPiece};
 ghost use Rattle.index_entries.specs.Sets.{AddsEntry};
 ghost use Rattle.root_index.specs.View.{room_in};
+ghost use Rattle.entry_columns.specs.Fits.{Fits};
+ghost use Rattle.entry_columns.specs.declared.short_tid.TheConstants.{PAGES};
 ghost use Rattle.tuple_header.specs.IndexValue.{value_in};
 ghost use Rattle.xid_circle.specs.declared.Xid.{Xid as Id};
-ghost use Rattle.table_indexes.specs.Indexes.{IsInUse, HasIndexes, IsNextIndex, all_entries, index_at, since_at, since_after, entries_of, entries_at, entries_in, new_entries, without_body, SameValues, SameEntries, AddsAny, Enters, HasEntry, HasEntries, LacksEntry, NeedsEntry};
+ghost use Rattle.table_indexes.specs.Indexes.{IsInUse, HasIndexes, IsNextIndex, all_entries, index_at, since_at, since_after, entries_of, entries_at, entries_in, new_entries, without_body, SameValues, SameEntries, AddsAny, Enters, IsByColumn, HasEntry, HasEntries, LacksEntry, NeedsEntry};
 
 use dead_places::DeadSet;
 use root_index::{Entry, PositionHint, Progress, RootIndex};
@@ -30,14 +32,14 @@ pub struct Indexes {
 }
 
 impl Model for Indexes {
-    ghost use Rattle.std.specs.Prelude.{◌≡◌, Some, ◌∷◌, length};
-    ghost use Rattle.table_indexes.specs.Indexes.{IndexesView};
+    ghost use Rattle.std.specs.Prelude.{Some, ◌∷◌};
+    ghost use Rattle.table_indexes.specs.Indexes.{IndexesView, AreOfTheirKinds};
 
     ghost Value = { IndexesView };
 
     ghost view = { λ x. record { indexes = Some x.by_key ∷ x.by_column; since = x.since } };
 
-    ghost invariant = { λ x. length x.by_column ≡ 4 };
+    ghost invariant = { λ x. AreOfTheirKinds x.by_key x.by_column };
 }
 
 impl Indexes {
@@ -47,7 +49,7 @@ impl Indexes {
         ensures since { (n : ℕ) → since_at result n ≡ None }
     {
         Indexes {
-            by_key: RootIndex::new(alloc),
+            by_key: RootIndex::by_key(alloc),
             by_column: [
                 index_if(alloc, indexed[0]),
                 index_if(alloc, indexed[1]),
@@ -138,7 +140,8 @@ impl Indexes {
 
     /// Puts this index in place by the column, from 0 to 3, exact from this id on. One that was there goes. It takes no memory.
     pub fn put(&mut self, column: u8, index: RootIndex, since: Xid)
-        requires { column < 4 }
+        requires column { column < 4 }
+        requires kind { index.is_by_key ≡ false }
         ensures entries { entries_at self.new (suc column) ≡ Some index.entries }
         ensures since { since_at self.new (suc column) ≡ Some since.0 }
         ensures others { (n : ℕ) → n ≢ suc column → entries_at self.new n ≡ entries_at self.old n }
@@ -204,10 +207,11 @@ impl Indexes {
         self.by_key.expect(near);
     }
 
-    /// Adds an entry to each index in use, for a version at a place of a row with this key and these columns. It takes no
-    /// memory.
+    /// Adds an entry to each index in use, for a version at a place of a row with this key and these columns, on one of the first
+    /// 65,536 pages. It takes no memory.
     pub fn enter(&mut self, key: u64, cols: &[i64; 4], place: Tid)
-        requires { HasEntries self.old }
+        requires room { HasEntries self.old }
+        requires page { place.page < PAGES }
         ensures { Enters self.old self.new (without_body key cols.now) place }
     {
         add_entry(&mut self.by_key, value_in(0, key, cols), key, place);
@@ -251,6 +255,7 @@ fn sweep_column(
     ensures removes { RemovesPiece (unwrap_or (entries_of index.old) [])
         (unwrap_or (entries_of index.new) []) dead.now from result.0 }
     ensures in_use { IsSome (entries_of index.new) }
+    ensures kind { IsByColumn index.old → IsByColumn index.new }
 {
     match index {
         Some(index) => index.remove_where(dead, from, near),
@@ -262,6 +267,8 @@ fn sweep_column(
 fn value_in(number: usize, key: u64, cols: &[i64; 4]) -> i128
     ensures value { result ≡ value_in number (without_body key cols.now) }
     ensures fits { FitsSigned w128 result }
+    ensures key { number ≡ 0 → result ≡ pos key }
+    ensures column { 0 < number → FitsSigned w64 result }
 {
     if number == 0 {
         return key as i128;
@@ -274,7 +281,8 @@ fn value_in(number: usize, key: u64, cols: &[i64; 4]) -> i128
 
 /// An index without entries, if one is asked for.
 fn index_if(alloc: Global, wanted: bool) -> Option<RootIndex>
-    ensures { entries_of result ≡ (if wanted then Some [] else None) }
+    ensures entries { entries_of result ≡ (if wanted then Some [] else None) }
+    ensures kind { IsByColumn result }
 {
     if wanted {
         Some(RootIndex::new(alloc))
@@ -288,6 +296,7 @@ fn reserve_entry(index: &mut Option<RootIndex>) -> Result<(), AllocError>
     ensures room { OnOk result (HasEntry index.new) }
     ensures refused { OnErr result (LacksEntry index.old) }
     ensures same { entries_of index.new ≡ entries_of index.old }
+    ensures kind { IsByColumn index.old → IsByColumn index.new }
 {
     match index {
         Some(index) => index.make_room(1),
@@ -297,9 +306,12 @@ fn reserve_entry(index: &mut Option<RootIndex>) -> Result<(), AllocError>
 
 /// Adds an entry to an index, if it is in use. There is memory for it.
 fn enter_in(index: &mut Option<RootIndex>, value: i128, key: u64, tid: Tid)
-    requires { HasEntry index.old }
-    ensures { AddsAny (entries_of index.old) (entries_of index.new)
+    requires room { HasEntry index.old }
+    requires kind { IsByColumn index.old }
+    requires fits { Fits false (record { value = value; key = key; tid = tid }) }
+    ensures adds { AddsAny (entries_of index.old) (entries_of index.new)
         (record { value = value; key = key; tid = tid }) }
+    ensures kind { IsByColumn index.new }
 {
     if let Some(index) = index {
         add_entry(index, value, key, tid);
@@ -308,9 +320,11 @@ fn enter_in(index: &mut Option<RootIndex>, value: i128, key: u64, tid: Tid)
 
 /// Adds an entry to an index, which has memory for it.
 fn add_entry(index: &mut RootIndex, value: i128, key: u64, tid: Tid)
-    requires { 0 < room_in index.old }
-    ensures { AddsEntry index.old.entries index.new.entries
+    requires room { 0 < room_in index.old }
+    requires fits { Fits index.old.is_by_key (record { value = value; key = key; tid = tid }) }
+    ensures adds { AddsEntry index.old.entries index.new.entries
         (record { value = value; key = key; tid = tid }) }
+    ensures kind { index.new.is_by_key ≡ index.old.is_by_key }
 {
     match index.insert(Entry { value, key, tid }) {
         Ok(()) => {}

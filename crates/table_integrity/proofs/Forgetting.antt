@@ -21,9 +21,9 @@ use Rattle.visibility.specs.Visible.{IsDead}
 use Rattle.hot_chain.specs.Chain.{has_aborted}
 use Rattle.sound_page.specs.Links.{link}
 use Rattle.sound_page.specs.Sound.{IsIn}
-use Rattle.sound_page.proofs.Links.{link-of}
+use Rattle.sound_page.proofs.Links.{link-of, successor-from}
 use Rattle.sound_page.proofs.Undone.{aborted-has, has-aborted, committed-some}
-use Rattle.tuple_writes.proofs.Statuses.{successor-from, replaced-live}
+use Rattle.tuple_writes.proofs.Statuses.{replaced-live}
 use Rattle.forgetting.specs.Pages.{AreYoung}
 use Rattle.forgetting.proofs.Stays.{place-stays, stays-place, stays-known}
 use Rattle.forgetting.proofs.Tops.{upto-kept}
@@ -40,13 +40,13 @@ use Rattle.table_integrity.specs.Table.{SoundTable}
 
 -- Ids.
 
-committed-ended : Committed ≢ InProgress
+pub committed-ended : Committed ≢ InProgress
 committed-ended e = absurd (cc)
 
-aborted-ended : Aborted ≢ InProgress
+pub aborted-ended : Aborted ≢ InProgress
 aborted-ended e = absurd (cc)
 
-aborted-some : (w : Window) (x : ℕ) → IsAborted w x → x ≢ 0
+pub aborted-some : (w : Window) (x : ℕ) → IsAborted w x → x ≢ 0
 aborted-some w x gone same = let e : Aborted ≡ InProgress = sym gone ∙ ap (status_of w) same in aborted-ended e
 
 -- what is left of a window is one

@@ -31,11 +31,13 @@ use Rattle.table_indexes.specs.Indexes.{entries_in, since_at, IsInUse, SameEntri
 use Rattle.table_indexes.proofs.IndexLemmas.{same-entries, entries-kept}
 use Rattle.heap_write.specs.Heap.{HeapView, Keeps, slots_of}
 use Rattle.write_ids.specs.Ids.{SameIds, TakesIds}
+use Rattle.write_ids.proofs.IdLemmas.{same-back}
 use Rattle.heap_write.specs.Writes.{PrunesIfFull, Prunes, Applies}
 use Rattle.heap_write.specs.Refusals.{FailsUpdate}
 use Rattle.heap_write.specs.declared.heap.WriteFault.{WriteFault}
 use Rattle.heap_write.specs.declared.heap.WriteFault.TheVariants as fault
 use Rattle.heap_write.proofs.PageLemmas.{slots-kept}
+use Rattle.heap_write.proofs.Plans.{pruned-page}
 use Rattle.table_integrity.specs.Table.{SoundTable, StaysSoundTable}
 use Rattle.table_integrity.specs.Laws.{FinishesInTable}
 use Rattle.table_integrity.proofs.Memory.{same-status, same-sound}
@@ -62,7 +64,7 @@ thinned-stays h h' number horizon before page s b thinned = subst (λ (g : HeapV
 pub pruned-stays : (h h' : HeapView) (number horizon : ℕ) → SoundTable h → Prunes h h' number horizon → StaysSoundTable h h'
 pruned-stays h h' number horizon s p = thinned-stays h h' number horizon p.before p.after s (prunes-becomes h h' number horizon p)
     (pruned-thins h.statuses horizon (slots_on (slots_of h) number) p.after.slots
-    (subst (λ slots. IsPruned h.statuses horizon slots p.after.slots) (sym (prunes-on h h' number horizon p)) p.pruned) (s.heap number))
+    (subst (λ slots. IsPruned h.statuses horizon slots p.after.slots) (sym (prunes-on h h' number horizon p)) (pruned-page h h' number horizon p)) (s.heap number))
 
 pub applied-stays : (h h' : HeapView) (number horizon change : ℕ) (actions : List (ℕ × Action)) → SoundTable h → Applies h h' number horizon change actions → StaysSoundTable h h'
 applied-stays h h' number horizon change actions s a =
@@ -105,9 +107,6 @@ kept-stays h h' s k = slots-stay h h' (slots-kept h h' k) k.entries still
     still n = same-sound h.statuses h'.statuses k.statuses (slots_on (slots_of h) n) (s.heap n)
 
 -- A page is made ready, with the ids as they were.
-
-same-back : (w v : Window) → SameIds w v → SameIds v w
-same-back w v ids = record { first = sym ids.first; stop_age = sym ids.stop_age; entries = sym ids.entries }
 
 abbrev pub with_table : HeapView → Window → HeapView
 with_table h w = record h { statuses = w }

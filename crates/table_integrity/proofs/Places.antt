@@ -28,6 +28,7 @@ use Rattle.snapshot.specs.Own.{Own}
 use Rattle.heap_write.specs.Heap.{HeapView, slots_of, unused_page, page_on, PutsPage}
 use Rattle.heap_write.specs.Writes.{PutsRoot, SetsXmax, HotUpdates, ColdUpdates, UpdatesOnPage, Replaces, PrunesIfFull, Prunes, Applies, Inserts, Updates, Deletes}
 use Rattle.heap_write.proofs.PageLemmas.{slots-kept}
+use Rattle.heap_write.proofs.Plans.{pruned-cut}
 use Rattle.table_integrity.proofs.Memory.{cut-back}
 
 -- Changes of what stands at each place.
@@ -325,7 +326,7 @@ prunes-puts h h' n horizon p = becomes-puts h h' n p.before p.after (prunes-beco
 
 pub prunes-stand : (h h' : HeapView) (n horizon : ℕ) → Prunes h h' n horizon
     → RemovesOn (version_in (slots_of h)) (version_in (slots_of h')) n (IsCut h.statuses horizon (slots_on (slots_of h) n))
-prunes-stand h h' n horizon p = becomes-stand h h' n horizon p.before p.after (prunes-becomes h h' n horizon p) p.removes
+prunes-stand h h' n horizon p = becomes-stand h h' n horizon p.before p.after (prunes-becomes h h' n horizon p) (pruned-cut h h' n horizon p)
 
 -- A plan is applied to a page.
 

@@ -67,7 +67,7 @@ pub fn take_next(
             }
             Ok(Some((rows, Scan::Index(left))))
         }
-        Scan::Heap(from) => match take_page(alloc, heap, reader, from)? {
+        Scan::Heap(from) => match rows_of_page(alloc, heap, reader, from)? {
             Some((rows, page)) => Ok(Some((rows, Scan::Heap(start_of(page + 1))))),
             None => Ok(None),
         },
@@ -101,7 +101,7 @@ fn take_rows(
 }
 
 /// The rows of the first page from this place on, on which the reader sees any, and that page's number, below 65536.
-fn take_page(
+fn rows_of_page(
     alloc: Global,
     heap: &HeapState,
     reader: &Reader<'_>,

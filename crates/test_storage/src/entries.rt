@@ -18,6 +18,10 @@ enum IndexStep {
     /// That is refused.
     NoRoomFor(usize),
     Insert(Parts),
+    /// Such an entry can't be in the index.
+    NotFor(Parts),
+    /// The first entry behind this one, or of all, is that one, or there is none.
+    Next(Option<Parts>, Option<Parts>),
     /// Entries are inserted, from this key on so many, and each key is so far behind the one before; after 29999 comes 0.
     InsertRun(u16, u16, u16),
     /// A piece of a removal of none, behind an entry, comes so far, or to the end.
@@ -47,16 +51,27 @@ fn key_of(first: u16, number: u16, stride: u16) -> u32 {
     (u32::from(first) + u32::from(number) * u32::from(stride)) % 30000
 }
 
+/// Inserts an entry, and says whether it can be in the index.
+fn insert(index: &mut RootIndex, entry: Entry) -> Result<bool, AllocError> {
+    if !index.fits(&entry) {
+        return Ok(false);
+    }
+    index.insert(entry)?;
+    Ok(true)
+}
+
 fn insert_run(
     index: &mut RootIndex,
     first: u16,
     count: u16,
     stride: u16,
-) -> Result<(), AllocError> {
+) -> Result<bool, AllocError> {
     for number in 0..count {
-        index.insert(entry_of_key(key_of(first, number, stride)))?;
+        if !insert(index, entry_of_key(key_of(first, number, stride)))? {
+            return Ok(false);
+        }
     }
-    Ok(())
+    Ok(true)
 }
 
 /// How far a piece of a removal comes that removes nothing.
@@ -75,8 +90,14 @@ impl Step for IndexStep {
         match *self {
             IndexStep::MakeRoom(count) => index.make_room(count)?,
             IndexStep::NoRoomFor(count) => return Ok(index.make_room(count).is_err()),
-            IndexStep::Insert(parts) => index.insert(entry(parts))?,
-            IndexStep::InsertRun(first, count, stride) => insert_run(index, first, count, stride)?,
+            IndexStep::Insert(parts) => return insert(index, entry(parts)),
+            IndexStep::InsertRun(first, count, stride) => {
+                return insert_run(index, first, count, stride);
+            }
+            IndexStep::NotFor(parts) => return Ok(!index.fits(&entry(parts))),
+            IndexStep::Next(from, next) => {
+                return Ok(index.next_after(from.map(entry)).map(parts) == next);
+            }
             IndexStep::Piece(from, last) => return Ok(piece_end(index, from) == last),
             IndexStep::Count(count) => return Ok(index.len() == count),
         }
@@ -123,10 +144,11 @@ static NEW_ENTRY_IN_THE_SECOND_LEAF: [IndexStep; 4] = [
 #[test]
 fn of_a_full_leaf_and_one_more_the_first_64_stay(rt: HostRuntime) -> Result<(), Fail> {
     run(rt.alloc(), RootIndex::new(rt.alloc()), &LEAVES_UPWARD)?;
+    run(rt.alloc(), RootIndex::by_key(rt.alloc()), &LEAVES_UPWARD)?;
     run(rt.alloc(), RootIndex::new(rt.alloc()), &LEAVES_DOWNWARD)?;
     run(
         rt.alloc(),
-        RootIndex::new(rt.alloc()),
+        RootIndex::by_key(rt.alloc()),
         &NEW_ENTRY_IN_THE_FIRST_LEAF,
     )?;
     run(
@@ -134,6 +156,45 @@ fn of_a_full_leaf_and_one_more_the_first_64_stay(rt: HostRuntime) -> Result<(), 
         RootIndex::new(rt.alloc()),
         &NEW_ENTRY_IN_THE_SECOND_LEAF,
     )
+}
+
+/// The least and the greatest key, and the greatest place.
+static KEYS: [IndexStep; 6] = [
+    IndexStep::Insert((18446744073709551615, 18446744073709551615, 65535, 65535)),
+    IndexStep::Insert((0, 0, 0, 1)),
+    IndexStep::NotFor((1, 2, 0, 1)),
+    IndexStep::NotFor((1, 1, 65536, 1)),
+    IndexStep::Next(None, Some((0, 0, 0, 1))),
+    IndexStep::Next(
+        Some((0, 0, 0, 1)),
+        Some((18446744073709551615, 18446744073709551615, 65535, 65535)),
+    ),
+];
+
+/// The least and the greatest value of a column, and two of one value.
+static VALUES: [IndexStep; 10] = [
+    IndexStep::Insert((9223372036854775807, 3, 1, 1)),
+    IndexStep::Insert((-1, 18446744073709551615, 65535, 65535)),
+    IndexStep::Insert((-1, 5, 2, 7)),
+    IndexStep::Insert((-9223372036854775808, 4, 0, 9)),
+    IndexStep::NotFor((9223372036854775808, 3, 1, 1)),
+    IndexStep::NotFor((-9223372036854775809, 3, 1, 1)),
+    IndexStep::Next(None, Some((-9223372036854775808, 4, 0, 9))),
+    IndexStep::Next(Some((-2, 0, 0, 0)), Some((-1, 5, 2, 7))),
+    IndexStep::Next(
+        Some((-1, 5, 2, 7)),
+        Some((-1, 18446744073709551615, 65535, 65535)),
+    ),
+    IndexStep::Next(
+        Some((-1, 18446744073709551615, 65535, 65535)),
+        Some((9223372036854775807, 3, 1, 1)),
+    ),
+];
+
+#[test]
+fn entries_are_read_as_they_were_inserted(rt: HostRuntime) -> Result<(), Fail> {
+    run(rt.alloc(), RootIndex::by_key(rt.alloc()), &KEYS)?;
+    run(rt.alloc(), RootIndex::new(rt.alloc()), &VALUES)
 }
 
 /// Also where any one allocation fails, the first entry and each split have their leaf.
@@ -151,5 +212,6 @@ static PROMISED: [IndexStep; 9] = [
 
 #[test]
 fn promised_entries_take_no_memory(rt: HostRuntime) -> Result<(), Fail> {
-    run(rt.alloc(), RootIndex::new(rt.alloc()), &PROMISED)
+    run(rt.alloc(), RootIndex::new(rt.alloc()), &PROMISED)?;
+    run(rt.alloc(), RootIndex::by_key(rt.alloc()), &PROMISED)
 }

@@ -1,20 +1,17 @@
 -- A transcript is cut just where an exchange is spelled.
-use Rattle.std.proofs.Common.{◌≡◌, ℕ, ◌+◌, ◌<◌, ◌≤◌, suc, List, [], ◌∷◌, ◌++◌, length, take, drop, get_or, refl, ap, append_assoc, length-append, ◌∙◌, sym, subst, arith, Option, None, Some, Bool, true, false, cond, eqb, eq-eqb, nat_lt, ◌&&◌, ◌||◌, ◌⊎◌, inl, inr, codes, position, drop-cons, add-one}
+use Rattle.std.proofs.Common.{◌≡◌, ℕ, ◌+◌, ◌<◌, ◌≤◌, suc, List, [], ◌∷◌, ◌++◌, length, take, drop, get_or, refl, ap, append_assoc, length-append, ◌∙◌, sym, subst, arith, Option, None, Some, Bool, true, false, cond, eqb, eq-eqb, nat_lt, ◌&&◌, ◌||◌, inl, inr, codes, position, drop-cons, add-one}
 use Rattle.std.specs.Option.{option_map}
 use Rattle.std.proofs.lemmas.Option.{none-some, same_Some}
 use Rattle.std.proofs.lemmas.Bool.Decides.{nat_tests}
-use Rattle.std.proofs.lemmas.Bool.{cases_lt}
+use Rattle.std.proofs.lemmas.Bool.{cases_lt, and_parts}
 use Rattle.std.proofs.lemmas.List.{append-nil, drop_all, length-take-le, take_more}
 use Rattle.script_text.specs.Grammar.{with_feed}
 use Rattle.script_text.specs.Reading.{cut_at}
 use Rattle.script_text.proofs.ByteLemmas.{Free, place, place-append_found, position_found, position_none}
-use Rattle.script_text.proofs.NumberLaws.{guarded, mapped, both_true, cut_at_says, cut_at-free}
+use Rattle.script_text.proofs.NumberLaws.{guarded, mapped, cut_at_says, cut_at-free}
+use Rattle.script_text.proofs.PlanLaws.{chosen}
 use Rattle.transcript.specs.Transcripts.{is_prompted, is_next_or_end, IsOneAnswer}
 use Rattle.transcript.specs.Cutting.{question_in, answer_in}
-
-chosen : {A : Type 0} (b : Bool) (x y z : A) → cond b x y ≡ z → ((b ≡ true) × (x ≡ z)) ⊎ ((b ≡ false) × (y ≡ z))
-chosen true x y z h = inl (refl, h)
-chosen false x y z h = inr (refl, h)
 
 -- A line has no feed in it.
 
@@ -62,8 +59,8 @@ two_are a b rest e f = cc
 
 pub prompted_is : (text : List ℕ) → is_prompted text ≡ true → text ≡ 62 ∷ 32 ∷ drop 2 text
 prompted_is [] h = absurd (let e = h in cc e)
-prompted_is (a ∷ []) h = let t = both_true (eqb a 62) (eqb 0 32) h in absurd (let e = t.1 in cc e)
-prompted_is (a ∷ b ∷ rest) h = let t = both_true (eqb a 62) (eqb b 32) h in two_are a b rest (is_62 a t.0) (is_32 b t.1)
+prompted_is (a ∷ []) h = let t = and_parts (eqb a 62) (eqb 0 32) h in absurd (let e = t.1 in cc e)
+prompted_is (a ∷ b ∷ rest) h = let t = and_parts (eqb a 62) (eqb b 32) h in two_are a b rest (is_62 a t.0) (is_32 b t.1)
 
 pub feed_behind : (asked more : List ℕ) → with_feed asked ++ more ≡ asked ++ 10 ∷ more
 feed_behind asked more = append_assoc asked (10 ∷ []) more
@@ -81,7 +78,7 @@ question_in-text asked more line = ap (cut_at 10) (feed_behind asked more) ∙ c
 
 prompted-append : (text more : List ℕ) → is_prompted text ≡ true → is_prompted (text ++ more) ≡ true
 prompted-append [] more h = absurd (let e = h in cc e)
-prompted-append (a ∷ []) more h = let t = both_true (eqb a 62) (eqb 0 32) h in absurd (let e = t.1 in cc e)
+prompted-append (a ∷ []) more h = let t = and_parts (eqb a 62) (eqb 0 32) h in absurd (let e = t.1 in cc e)
 prompted-append (a ∷ b ∷ rest) more h = h
 
 or_second : (a b : Bool) → b ≡ true → (a || b) ≡ true
@@ -113,7 +110,7 @@ unfolding answer_in
 answer_says [] answer rest h = absurd (none-some (answer, rest) h)
 answer_says (b ∷ bs) answer rest h = elim (chosen (eqb b 10 && is_next_or_end bs) (Some ([], bs)) (option_map (λ (p : List ℕ × List ℕ). (b ∷ p.0, p.1)) (answer_in bs)) (Some (answer, rest)) h) [
   | inl a ↦
-      let t = both_true (eqb b 10) (is_next_or_end bs) a.0 in
+      let t = and_parts (eqb b 10) (is_next_or_end bs) a.0 in
       let feed : b ≡ 10 = let e = t.0 in grind (arith, nat_tests) in
       subst (λ (p : List ℕ × List ℕ). (b ∷ bs ≡ with_feed p.0 ++ p.1) × (is_next_or_end p.1 ≡ true) × IsOneAnswer p.0) (same_Some ([], bs) (answer, rest) a.1) (ap (λ x. x ∷ bs) feed, t.1, empty_one')
   | inr a ↦
@@ -133,13 +130,13 @@ or_first n b h e = let none : eqb n 0 ≡ false = grind (arith, nat_tests) in rw
 -- only what stands before the feed can be a prompt
 prompted_before : (bs rest : List ℕ) → is_prompted (bs ++ 10 ∷ rest) ≡ true → is_prompted bs ≡ true
 prompted_before [] rest h = absurd (let e = h in cc e)
-prompted_before (a ∷ []) rest h = let t = both_true (eqb a 62) (eqb 10 32) h in absurd (let e = t.1 in cc e)
+prompted_before (a ∷ []) rest h = let t = and_parts (eqb a 62) (eqb 10 32) h in absurd (let e = t.1 in cc e)
 prompted_before (a ∷ b ∷ bs) rest h = h
 
 goes_past : (b : ℕ) (bs rest : List ℕ) (t : Bool) → (eqb b 10 && is_next_or_end (with_feed bs ++ rest)) ≡ t → IsOneAnswer (b ∷ bs) → t ≡ false
 goes_past b bs rest false e one = refl
 goes_past b bs rest true e one =
-    let t = both_true (eqb b 10) (is_next_or_end (with_feed bs ++ rest)) e in
+    let t = and_parts (eqb b 10) (is_next_or_end (with_feed bs ++ rest)) e in
     let feed : b ≡ 10 = let e = t.0 in grind (arith, nat_tests) in
     let ends : is_next_or_end (bs ++ 10 ∷ rest) ≡ true = rw (feed_behind bs rest) at t.1 in
     let some : 0 < length (bs ++ 10 ∷ rest) = rw (length-append bs (10 ∷ rest)) (omega arith) in

@@ -13,6 +13,7 @@ use Rattle.script_text.specs.Grammar.{with_feed}
 use Rattle.judge.specs.declared.due.Due.{Due}
 use Rattle.judge.specs.declared.why.Why.{Why}
 use Rattle.judge.specs.Reasons.{Breaks, TellsDue}
+use Rattle.judge.proofs.RunsLemmas.{run-push, after-push}
 use Rattle.transcript.specs.declared.begins.Begins.{Begins}
 use Rattle.transcript.specs.declared.exchanges.Heard.TheVariants.{Went, Wrong}
 use Rattle.transcript.specs.declared.exchanges.Past.{Past}
@@ -170,18 +171,6 @@ bad_answer begins w new step text asked left answer rest at n is asks a told n_i
     )
 
 -- A run, one exchange further.
-
-run-push : (w : World) (steps : List Step) (replies : List Reply) (s : Step) (r : Reply) → IsRun w steps replies → AllowsReply (after w steps replies) s r → IsRun w (steps ++ s ∷ []) (replies ++ r ∷ [])
-run-push w [] [] s r run allows = (allows, tt)
-run-push w [] (b ∷ replies) s r run allows = absurd run
-run-push w (a ∷ steps) [] s r run allows = absurd run
-run-push w (a ∷ steps) (b ∷ replies) s r run allows = (run.0, run-push (after_reply w a b) steps replies s r run.1 allows)
-
-after-push : (w : World) (steps : List Step) (replies : List Reply) (s : Step) (r : Reply) → IsRun w steps replies → after w (steps ++ s ∷ []) (replies ++ r ∷ []) ≡ after_reply (after w steps replies) s r
-after-push w [] [] s r run = refl
-after-push w [] (b ∷ replies) s r run = absurd run
-after-push w (a ∷ steps) [] s r run = absurd run
-after-push w (a ∷ steps) (b ∷ replies) s r run = after-push (after_reply w a b) steps replies s r run.1
 
 run-more : (w now new : World) (steps : List Step) (replies : List Reply) (judged : Option (Step × Reply)) → IsRun w steps replies → now ≡ after w steps replies → GoesOnBy now judged new
     → IsRun w (steps ++ step_said judged) (replies ++ reply_said judged) × (new ≡ after w (steps ++ step_said judged) (replies ++ reply_said judged))

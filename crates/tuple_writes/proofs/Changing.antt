@@ -12,10 +12,9 @@ use Rattle.commit_status.specs.Window.{Window}
 use Rattle.hot_chain.specs.Chain.{has_aborted, is_replaced}
 use Rattle.sound_page.specs.Links.{link}
 use Rattle.sound_page.specs.Sound.{SomeNext, SoundPage}
-use Rattle.sound_page.proofs.Links.{IsLink, link-of}
+use Rattle.sound_page.proofs.Links.{IsLink, link-of, successor-from}
 use Rattle.sound_page.proofs.Undone.{aborted-has}
 use Rattle.tuple_writes.specs.Keeps.{IsMade, HasNoXmax}
-use Rattle.tuple_writes.proofs.Statuses.{successor-from}
 use Rattle.tuple_writes.proofs.Growth.{IsSameVersion, HadVersion, HasVersion, IsNew, IsNewLink, IsWrite, none-some}
 
 -- the version in slot n, taken away by an id in progress, leads on to nothing or to the new version in slot k

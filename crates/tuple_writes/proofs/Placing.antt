@@ -12,8 +12,8 @@ use Rattle.tuple_header.specs.Marks.{is_frozen, is_heap_only, is_hot_updated}
 use Rattle.commit_status.specs.Window.{Window, IsInProgress}
 use Rattle.hot_chain.specs.Chain.{has_aborted, is_replaced}
 use Rattle.sound_page.specs.Links.{link}
+use Rattle.sound_page.proofs.Links.{successor-from}
 use Rattle.tuple_writes.specs.Keeps.{IsMade, HasNoXmax}
-use Rattle.tuple_writes.proofs.Statuses.{successor-from}
 use Rattle.tuple_writes.proofs.Growth.{IsSameVersion, HasVersion, IsNew, none-some}
 use Rattle.tuple_writes.proofs.Changing.{IsAltered, IsChange, same-version}
 

@@ -13,12 +13,12 @@ use Rattle.commit_status.specs.Window.{Window, IsActive, place}
 use Rattle.hot_chain.specs.Chain.{has_aborted, is_aborted}
 use Rattle.sound_page.specs.Links.{link}
 use Rattle.sound_page.specs.Sound.{IsIn, SoundPage}
+use Rattle.sound_page.proofs.Links.{successor-from}
 use Rattle.tuple_writes.specs.Headers.{replaced_header, root_header, heap_only_header}
 use Rattle.tuple_writes.specs.Writes.{replaced_slot, with_replaced, with_root, with_updated}
 use Rattle.tuple_writes.specs.Keeps.{IsDeletable, NoNew, NewRoot, NewIn}
 use Rattle.tuple_writes.specs.Laws.{AddsRoot, SetsXmaxOnPage, HotUpdatesPage}
 use Rattle.tuple_writes.proofs.Bits.{replaced-hot, replaced-heap_only, replaced-frozen, root-plain, root-thawed}
-use Rattle.tuple_writes.proofs.Statuses.{successor-from}
 use Rattle.tuple_writes.proofs.Growth.{IsWrite, IsInBy, none-some, entry-normal, in-forth, in-on, in-back, write-sound, write-entries}
 use Rattle.tuple_writes.proofs.Changing.{change-write}
 use Rattle.tuple_writes.proofs.Placing.{Adds, Takes, Replaces, IsTaken, LeadsOn, adding, taking, replacing, version-as}

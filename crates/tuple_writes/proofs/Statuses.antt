@@ -1,5 +1,5 @@
 -- What becomes of transactions leaves a page sound.
-use Rattle.std.proofs.Common.{◌≡◌, ◌≢◌, ◌⊎◌, ℕ, zero, suc, Bool, true, false, not, ◌&&◌, ◌==◌, eq-eqb, List, Option, Some, inl, inr, ⊎_elim, sym, ap, ◌∙◌, refl, subst}
+use Rattle.std.proofs.Common.{◌≡◌, ◌≢◌, ◌⊎◌, ℕ, zero, suc, Bool, true, false, not, ◌&&◌, ◌==◌, List, Option, Some, inl, inr, ⊎_elim, sym, ap, ◌∙◌, refl, subst}
 use Rattle.std.specs.List.{Contains}
 use Rattle.std.proofs.lemmas.Bool.{cases_Bool, and_parts, not-true}
 use Rattle.std.proofs.lemmas.Option.{same_Some}
@@ -19,7 +19,7 @@ use Rattle.visibility.specs.Visible.{IsFrozen}
 use Rattle.hot_chain.specs.Chain.{has_aborted, is_replaced, next_in_chain}
 use Rattle.sound_page.specs.Links.{link, Reaches}
 use Rattle.sound_page.specs.Sound.{IsIn, SomeRoot, SomeNext, SoundPage}
-use Rattle.sound_page.proofs.Links.{IsLink, link-of}
+use Rattle.sound_page.proofs.Links.{IsLink, link-of, successor-from}
 use Rattle.sound_page.proofs.Undone.{has-aborted, aborted-has, IsUndoneAt}
 use Rattle.tuple_writes.specs.Laws.{DeletedWhatWasMade, AloneDeletedTheirs}
 
@@ -32,15 +32,6 @@ pub record GoesOn (w v : Window) (slots : List Slot) : Type 0 where
   pub made : (n : ℕ) (t : Version) → version_at slots n ≡ Some t → IsCommitted v t.header.xmax.0 → IsFrozen t.header ⊎ IsCommitted v t.header.xmin.0
   pub undone : (n : ℕ) (t : Version) → version_at slots n ≡ Some t → ¬ IsFrozen t.header → IsAborted v t.header.xmin.0
       → t.header.xmax.0 ≢ 0 → IsAborted v t.header.xmax.0
-
--- from what a link is made of
-pub successor-from : (aborted : ℕ → Bool) (slots : List Slot) (n k : ℕ) (t u : Version) → version_at slots n ≡ Some t → version_at slots k ≡ Some u
-    → is_replaced aborted t.header ≡ true → t.header.ctid.slot ≡ k → is_heap_only u.header ≡ true → u.header.xmin.0 ≡ t.header.xmax.0
-    → next_in_chain aborted slots n ≡ Some k
-successor-from aborted slots n k t u from to replaced place heap_only made =
-    let at : version_at slots t.header.ctid.slot ≡ Some u = ap (version_at slots) place ∙ to in
-    let same = eq-eqb u.header.xmin.0 t.header.xmax.0 made in
-    rw (from, replaced, at, heap_only, same, place) refl
 
 pub replaced-live : (a b : ℕ → Bool) (h : Header) → is_replaced a h ≡ true → b h.xmax.0 ≡ false → is_replaced b h ≡ true
 replaced-live a b h e live =

@@ -11,17 +11,13 @@ use Rattle.tuple_header.specs.declared.version.Row.{Row}
 use Rattle.tuple_writes.specs.Headers.{replaced_header, root_header, heap_only_header}
 
 abbrev pub replaced_slot : ℕ → ℕ → ℕ → Bool → Slot → Slot
-replaced_slot x page place hot Unused = Unused
 replaced_slot x page place hot (Normal t) = Normal (record t { header = replaced_header t.header x page place hot })
-replaced_slot x page place hot (Redirect target) = Redirect target
-replaced_slot x page place hot Dead = Dead
+replaced_slot x page place hot slot = slot
 
 -- whether that changes hints alone, as where an aborted id takes the same version away again
 abbrev pub was_replaced : ℕ → ℕ → ℕ → Bool → Slot → Bool
-was_replaced x page place hot Unused = true
 was_replaced x page place hot (Normal t) = same_but_hints t.header (replaced_header t.header x page place hot)
-was_replaced x page place hot (Redirect target) = true
-was_replaced x page place hot Dead = true
+was_replaced x page place hot slot = true
 
 -- the change number afterwards
 abbrev pub replaced_change : List Slot → SlotNo → (x : Id) → PageNo → (place : SlotNo) → (hot : Bool) → (change : Count) → Count

@@ -9,7 +9,7 @@ use Rattle.page_sheet.specs.Slots.{version_at}
 use Rattle.page_slots.specs.View.{PageView}
 use Rattle.commit_status.specs.declared.status.Status.{Status}
 use Rattle.commit_status.specs.declared.status.Status.TheVariants.{InProgress, Committed, Aborted}
-use Rattle.commit_status.specs.Window.{Window, IsWindow, IsGiven, IsActive, IsCommitted, IsAborted, IsUpToNext, place, status_of, top_of, turns}
+use Rattle.commit_status.specs.Window.{Window, IsWindow, IsGiven, IsActive, IsCommitted, IsUpToNext, place, status_of, top_of, turns}
 use Rattle.commit_status.specs.Changes.{Truncates}
 use Rattle.commit_status.proofs.Places.{at-from_place, some-from_is, is-from_some}
 use Rattle.commit_status.proofs.Giving.{finished-place}
@@ -45,7 +45,7 @@ use Rattle.session_steps.specs.State.{State, session_at, seen, seen_in, reader_o
 use Rattle.sessions.specs.Session.{kept_by, held_back}
 use Rattle.session_steps.specs.Agrees.{SessionKeeps, SessionScans, Agrees, KeepsAllTargets}
 use Rattle.sound_entries.specs.Since.{IsExactSince, MayScanSince}
-use Rattle.table_integrity.proofs.Forgetting.{truncated-window, forgotten-table, forgotten-since, forgotten-scan}
+use Rattle.table_integrity.proofs.Forgetting.{truncated-window, forgotten-table, forgotten-since, forgotten-scan, committed-ended}
 use Rattle.table_indexes.specs.Indexes.{IndexesView, entries_at, since_at, since_after, IsInUse}
 use Rattle.index_entries.specs.declared.entry.Entry.{Entry}
 use Rattle.session_steps.proofs.InUse.{marks-stay, agree}
@@ -55,19 +55,11 @@ use Rattle.session_steps.proofs.Horizons.{below-xmin}
 use Rattle.vacuum_passes.specs.View.{VacuumView}
 use Rattle.sound_vacuum.specs.Maps.{MapsAreTrue}
 use Rattle.sound_vacuum.specs.Vacuuming.{KeepsVacuum, IsVacuumed}
+use Rattle.session_steps.proofs.MakingLemmas.{given-from}
 use Rattle.vacuum_engine.specs.Laws.{TrueMaps, with_heap}
-use Rattle.vacuum_engine.proofs.Agreeing.{active-late, given-from}
+use Rattle.vacuum_engine.proofs.Agreeing.{active-late}
 
 -- Ids.
-
-committed-ended : Committed ≢ InProgress
-committed-ended e = absurd (cc)
-
-aborted-ended : Aborted ≢ InProgress
-aborted-ended e = absurd (cc)
-
-aborted-some : (w : Window) (x : ℕ) → IsAborted w x → x ≢ 0
-aborted-some w x gone same = let e : Aborted ≡ InProgress = sym gone ∙ ap (status_of w) same in aborted-ended e
 
 module _ (w v : Window) (c : ℕ) (is : IsWindow w) (iv : IsWindow v) (t : Truncates w v c) (up : IsUpToNext w c) where
   -- an id that is not before the cutoff stays

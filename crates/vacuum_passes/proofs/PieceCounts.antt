@@ -3,13 +3,12 @@ use Rattle.std.proofs.Common.{◌≡◌, ℕ, zero, suc, ◌+◌, ◌-◌, ◌<�
 use Rattle.std.specs.Prelude.{IsSome, unwrap_or}
 use Rattle.std.specs.List.{AllPairs, filter}
 use Rattle.std.specs.Ordering.{is_lt}
-use Rattle.std.specs.declared.cmp.Ordering.{Ordering}
-use Rattle.std.specs.declared.cmp.Ordering.TheVariants.{Less, Equal, Greater}
 use Rattle.std.proofs.lemmas.List.{take-append-drop, drop_more}
 use Rattle.std.proofs.lemmas.List.Elements.{All-contains, filter_passes, Contains-append_left, Contains-append_right, Contains-append_cases}
 use Rattle.std.proofs.lemmas.List.Kept.{AllPairs-cons, AllPairs-filter}
 use Rattle.xid_circle.specs.declared.Tid.{Tid}
 use Rattle.xid_circle.proofs.Members.{Contains-first, Contains-rest, Contains-cases, Contains-none}
+use Rattle.dead_places.proofs.PlaceLemmas.{less_from_test}
 use Rattle.index_entries.specs.declared.entry.Entry.{Entry}
 use Rattle.index_entries.specs.Order.{comparison, EntryPrecedes, IsAscending}
 use Rattle.index_entries.specs.Sets.{IsAfter}
@@ -45,11 +44,6 @@ no-longer {A} R apart (y ∷ ys) xs up all =
 
 -- The entries after one.
 
-less-is : (o : Ordering) → is_lt o ≡ true → o ≡ Less
-less-is Less e = refl
-less-is Equal e = absurd (cc e)
-less-is Greater e = absurd (cc e)
-
 after-passes : (from e : Entry) → EntryPrecedes from e → is_lt (comparison from e) ≡ true
 after-passes from e before = ap is_lt before
 
@@ -60,12 +54,12 @@ after-there (Some a) entries e there after = in-filter (λ f. is_lt (comparison 
 pub after-is : (last : Entry) (entries : List Entry) (e : Entry) → Contains (entries_after (Some last) entries) e → Contains entries e × EntryPrecedes last e
 after-is last entries e there = (
   in-filtered (λ f. is_lt (comparison last f)) entries e there,
-  less-is (comparison last e) (All-contains (λ f. is_lt (comparison last f) ≡ true) (filter (λ f. is_lt (comparison last f)) entries) e (filter_passes (λ f. is_lt (comparison last f)) entries) there),
+  less_from_test (comparison last e) (All-contains (λ f. is_lt (comparison last f) ≡ true) (filter (λ f. is_lt (comparison last f)) entries) e (filter_passes (λ f. is_lt (comparison last f)) entries) there),
 )
 
 -- A piece.
 
-after-later : (from : Option Entry) (last e : Entry) → IsAfter from last → EntryPrecedes last e → IsAfter from e
+pub after-later : (from : Option Entry) (last e : Entry) → IsAfter from last → EntryPrecedes last e → IsAfter from e
 after-later None last e first second = tt
 after-later (Some a) last e first second = Precedes-trans a last e first second
 

@@ -39,9 +39,8 @@ skips Aggressive mark = says_frozen mark
 
 -- the next step goes through an index
 abbrev pub is_sweeping : Phase → Bool
-is_sweeping phase.Heap = false
 is_sweeping (phase.Index i from) = true
-is_sweeping phase.Free = false
+is_sweeping phase = false
 
 -- another step came between
 abbrev pub disturbed : Bool → VacuumView → VacuumView

@@ -1,5 +1,5 @@
 -- What is read is spelled so, and what is spelled so is read.
-use Rattle.std.proofs.Common.{◌≡◌, ℕ, ◌-◌, ◌^◌, ◌<◌, ◌≤◌, List, ◌∷◌, ◌++◌, refl, ap, ◌∙◌, sym, arith, Option, None, Some, Bool, true, false, cond, ◌⊎◌, inl, inr, codes}
+use Rattle.std.proofs.Common.{◌≡◌, ℕ, ◌-◌, ◌^◌, ◌<◌, ◌≤◌, List, ◌∷◌, ◌++◌, refl, ap, ◌∙◌, sym, arith, Option, None, Some, false, cond, inl, inr, codes}
 use Rattle.std.specs.Str.{bytes_eq}
 use Rattle.std.specs.Fmt.{decimal}
 use Rattle.std.proofs.lemmas.Option.{none-some, same_Some}
@@ -7,15 +7,12 @@ use Rattle.script_text.specs.Grammar.{spaced, key_words}
 use Rattle.script_text.specs.Reading.{◌>>=◌, cut, number_of, number_then}
 use Rattle.script_text.proofs.ByteLemmas.{Free, Free-append, free_text}
 use Rattle.script_text.proofs.NumberLaws.{bound, cut_says, cut-free, number_of_says, number_of-decimal, number_then_says, number_then-decimal, decimal_free}
-use Rattle.script_text.proofs.GrammarLaws.{verb_is}
+use Rattle.script_text.proofs.GrammarLaws.{verb_is, one_free}
+use Rattle.script_text.proofs.PlanLaws.{chosen}
 use Rattle.view_text.specs.declared.look.Look.{Look}
 use Rattle.view_text.specs.declared.look.Look.TheVariants.{Explain, Session, Horizon, Fate, Plan, Vacuum}
 use Rattle.view_text.specs.Looks.{look_text, LookFits, SpellsLook}
 use Rattle.view_text.specs.Reading.{explain_of, fate_of, session_of, plan_of, look_of, look_at}
-
-chosen : {A : Type 0} (b : Bool) (x y z : A) → cond b x y ≡ z → ((b ≡ true) × (x ≡ z)) ⊎ ((b ≡ false) × (y ≡ z))
-chosen true x y z h = inl (refl, h)
-chosen false x y z h = inr (refl, h)
 
 -- what is read is in range, and spelled so behind this word
 abbrev IsSpelled : List ℕ → List ℕ → Look → Type 0
@@ -131,17 +128,14 @@ pub spells_look : (text : List ℕ) (o : Option Look) → o ≡ look_at text →
 spells_look text None e = λ look fits is. none-some look (e ∙ ap look_at is ∙ look_read look fits)
 spells_look text (Some look) e = line_says text look (sym e)
 
-number_free : (n : ℕ) → n < 2 ^ 64 → Free 10 (spaced (decimal n))
-number_free n h = (refl, decimal_free 10 n (omega arith) (omega arith))
-
 pair_free : (a b : ℕ) → a < 2 ^ 64 → b < 2 ^ 64 → Free 10 (spaced (key_words a b))
-pair_free a b ha hb = (refl, Free-append 10 (decimal a) (spaced (decimal b)) (decimal_free 10 a (omega arith) (omega arith)) (number_free b hb))
+pair_free a b ha hb = (refl, Free-append 10 (decimal a) (spaced (decimal b)) (decimal_free 10 a (omega arith) (omega arith)) (one_free b hb))
 
 -- no line feed is in a look's text
 pub look_free : (look : Look) → LookFits look → Free 10 (look_text look)
 look_free (Explain s key) h = Free-append 10 (codes "explain") (spaced (key_words s key)) (free_text 10 (codes "explain") refl) (pair_free s key (omega (arith, h.0)) h.1)
-look_free (Session s) h = Free-append 10 (codes "session") (spaced (decimal s)) (free_text 10 (codes "session") refl) (number_free s (omega arith))
+look_free (Session s) h = Free-append 10 (codes "session") (spaced (decimal s)) (free_text 10 (codes "session") refl) (one_free s (omega arith))
 look_free Horizon h = free_text 10 (codes "horizon") refl
 look_free (Fate p n) h = Free-append 10 (codes "fate") (spaced (key_words p n)) (free_text 10 (codes "fate") refl) (pair_free p n (omega (arith, h.0)) (omega (arith, h.1)))
-look_free (Plan p) h = Free-append 10 (codes "plan") (spaced (decimal p)) (free_text 10 (codes "plan") refl) (number_free p (omega arith))
+look_free (Plan p) h = Free-append 10 (codes "plan") (spaced (decimal p)) (free_text 10 (codes "plan") refl) (one_free p (omega arith))
 look_free Vacuum h = free_text 10 (codes "vacuum") refl

@@ -1,24 +1,22 @@
 -- The entries of a key and the versions of a chain, one more, and at their end.
 use Rattle.std.proofs.Common.{◌≡◌, ℕ, zero, suc, ◌+◌, ◌<◌, ◌≤◌, ◌⊎◌, ⊎_elim, List, [], ◌∷◌, ◌++◌, length, map, take, get_or, Option, Some, None, Result, Ok, Err, IfOk, refl, sym, ap, subst, ◌∙◌, arith, slice_get, length-append}
 use Rattle.std.specs.Prelude.{pos}
-use Rattle.std.specs.Option.{option_map, unwrap_or}
+use Rattle.std.specs.Option.{option_map}
 use Rattle.std.specs.List.{AllByRecursion}
 use Rattle.std.proofs.lemmas.Bool.{cases_lt}
 use Rattle.std.proofs.lemmas.List.{append-nil, map-append, take_more, take_all}
 use Rattle.std.proofs.lemmas.Option.{none-some, same_Some, slice_get_within, slice_get_past}
 use Rattle.xid_circle.specs.declared.Tid.{Tid}
 use Rattle.page_sheet.specs.declared.slot.Slot.{Slot}
-use Rattle.page_slots.specs.View.{PageView}
 use Rattle.hot_chain.specs.Chain.{has_aborted}
 use Rattle.hot_chain.proofs.Chains.{chain-one}
 use Rattle.hot_chain.proofs.SeenWalks.{has-chain}
 use Rattle.index_entries.specs.Order.{IsAscending}
 use Rattle.index_entries.specs.declared.entry.Entry.{Entry}
 use Rattle.index_lookup.specs.Pages.{slots_on}
-use Rattle.index_lookup.proofs.PageLists.{slots-there, slots-none}
-use Rattle.index_lookup.proofs.Turns.{Looked, looked-first, looked-next}
-use Rattle.root_index.specs.View.{IndexView}
-use Rattle.table_indexes.specs.Indexes.{IndexesView, index_at, entries_of, entries_in}
+use Rattle.index_lookup.proofs.PageLists.{slots-none}
+use Rattle.index_lookup.proofs.Turns.{Looked, looked-next}
+use Rattle.table_indexes.specs.Indexes.{entries_in}
 use Rattle.heap_write.specs.Heap.{slots_of}
 use Rattle.explanations.specs.declared.versions.ShownVersion.{ShownVersion}
 use Rattle.explanations.specs.Shown.{entry_to}
@@ -26,6 +24,7 @@ use Rattle.calls.specs.declared.step.TheConstants.{MOST_SESSIONS}
 use Rattle.calls.specs.declared.reply.Refusal.{Refusal}
 use Rattle.calls.specs.declared.reply.Refusal.TheVariants as refusal
 use Rattle.calls.specs.Bars.{BarsOpen}
+use Rattle.history.proofs.Places.{slice_get-push_new}
 use Rattle.session_steps.specs.State.{State, session_at, engine_sessions}
 use Rattle.sessions.specs.declared.session.Session.{Session}
 use Rattle.session_looks.specs.Explaining.{IsNextEntry, IsExplained}
@@ -41,10 +40,6 @@ get-front [] ys n h = absurd (omega arith)
 get-front (x ∷ xs) ys zero h = refl
 get-front (x ∷ xs) ys (suc n) h = get-front xs ys n (omega arith)
 
-get-end : {A : Type 0} (xs : List A) (x : A) → slice_get (xs ++ x ∷ []) (length xs) ≡ Some x
-get-end [] x = refl
-get-end (y ∷ xs) x = get-end xs x
-
 get-there : {A : Type 0} (xs : List A) (n : ℕ) → n < length xs → (x : A) × (slice_get xs n ≡ Some x)
 get-there [] n h = absurd (omega arith)
 get-there (x ∷ xs) zero h = (x, refl)
@@ -55,9 +50,6 @@ all-push P [] x h k = (k, tt)
 all-push P (y ∷ xs) x h k = (h.0, all-push P xs x h.1 k)
 
 -- Slots of a page.
-
-pub few-there : (st : State) (p : ℕ) (page : PageView) → slice_get st.heap.pages.pages p ≡ Some page → length page.slots ≤ 291 → length (slots_on (slots_of st.heap) p) ≤ 291
-few-there st p page at few = subst (λ (slots : List Slot). length slots ≤ 291) (sym (slots-there st.heap.pages.pages p page at)) few
 
 pub few-nowhere : (st : State) (p : ℕ) → slice_get st.heap.pages.pages p ≡ None → length (slots_on (slots_of st.heap) p) ≤ 291
 few-nowhere st p at = subst (λ (slots : List Slot). length slots ≤ 291) (sym (slots-none st.heap.pages.pages p at)) (omega arith)
@@ -74,15 +66,6 @@ pub record ArePart (st : State) (e : Session) (place : Tid) (versions : List Ver
 
 abbrev pub IsPart : State → ℕ → Tid → List VersionLook → ℕ → Type 0
 IsPart st s place versions n = (length versions ≡ n) × ((e : Session) → session_at st s ≡ Some e → ArePart st e place versions n)
-
-pub part-none : (st : State) (s : ℕ) (place : Tid) (versions : List VersionLook) → versions ≡ [] → IsPart st s place versions 0
-part-none st s place versions none = (
-  ap (λ (vs : List VersionLook). length vs) none,
-  λ e here. record {
-    shown = λ k lt. absurd (omega arith);
-    owners = subst (λ (vs : List VersionLook). AllByRecursion (AreOwners st) vs) (sym none) tt;
-  },
-)
 
 -- what is told of the open session is told of this one
 same-session : (st : State) (s : ℕ) (place : Tid) (n : ℕ) (answer : Option ShownVersion) → (f : Session) × (session_at st s ≡ Some f) × IsExplained st f place n answer
@@ -107,7 +90,7 @@ part-more st s place versions n v after h told owners is = subst (λ (vs : List 
     at_end e here k lt ge =
         let last : k ≡ length versions = omega (arith, h.0) in
         subst (λ (i : ℕ). IsExplained st e place i (shown_at (versions ++ v ∷ []) i)) (sym last)
-        (subst (λ (o : Option VersionLook). IsExplained st e place (length versions) (option_map (λ (u : VersionLook). u.shown) o)) (sym (get-end versions v))
+        (subst (λ (o : Option VersionLook). IsExplained st e place (length versions) (option_map (λ (u : VersionLook). u.shown) o)) (sym (slice_get-push_new versions v))
         (subst (λ (i : ℕ). IsExplained st e place i (Some v.shown)) (sym h.0) (same-session st s place n (Some v.shown) told e here)))
 
 -- the next of the chain, as it is told
@@ -160,12 +143,6 @@ not-full st s place versions n few all h e here =
 
 -- Entries.
 
-pub count-there : (indexes : IndexesView) (index : IndexView) → index_at indexes 0 ≡ Some index → (P : List Entry → Type 0) → P index.entries → P (entries_in indexes 0)
-count-there indexes index at P is = subst (λ (o : Option IndexView). P (unwrap_or (entries_of o) [])) (sym at) is
-
-pub count-nowhere : (indexes : IndexesView) → index_at indexes 0 ≡ None → (P : List Entry → Type 0) → P [] → P (entries_in indexes 0)
-count-nowhere indexes at P is = subst (λ (o : Option IndexView). P (unwrap_or (entries_of o) [])) (sym at) is
-
 abbrev pub Anything : Entry → Type 0
 Anything e = Unit {0}
 
@@ -186,13 +163,6 @@ opt-first (Some place) = refl
 opt-end : (xs : List Tid) (next : Option Tid) → slice_get (xs ++ opt next) (length xs) ≡ next
 opt-end [] next = opt-first next
 opt-end (x ∷ xs) next = opt-end xs next
-
-pub placed-none : (st : State) (key : ℕ) (places : List Tid) (next : Option Tid) → places ≡ [] → IsNextEntry st key None next → ArePlaced st key places next 0
-placed-none st key places next none is = subst (λ (xs : List Tid). ArePlaced st key xs next 0) (sym none) (record {
-  looked = looked-first (entries_in st.heap.indexes 0) (pos key) key Anything (option_map (entry_to key) next) is;
-  first = subst (λ (o : Option Tid). IsNextEntry st key None o) (sym (opt-first next)) is;
-  links = λ n place at. absurd (let lt = slice_get_within [] n place at in omega arith);
-})
 
 pub placed-more : (st : State) (key : ℕ) (places : List Tid) (next : Option Tid) (turn : ℕ) (place : Tid) (after : List Tid) (then : Option Tid) → IsAscending (entries_in st.heap.indexes 0)
     → ArePlaced st key places next turn → next ≡ Some place → after ≡ places ++ place ∷ [] → IsNextEntry st key (Some place) then → ArePlaced st key after then (turn + 1)
@@ -217,7 +187,7 @@ placed-more st key places next turn place after then up h is pushed later = subs
     latest n p at ge =
         let lt = slice_get_within (places ++ place ∷ []) n p at in
         let last : n ≡ length places = omega (arith, size, lt, ge) in
-        let here : place ≡ p = same_Some place p (sym (get-end places place) ∙ sym (ap (λ k. slice_get (places ++ place ∷ []) k) last) ∙ at) in
+        let here : place ≡ p = same_Some place p (sym (slice_get-push_new places place) ∙ sym (ap (λ k. slice_get (places ++ place ∷ []) k) last) ∙ at) in
         let end : n + 1 ≡ length (places ++ place ∷ []) = omega (arith, size, last) in
         subst (λ (q : Tid). IsNextEntry st key (Some q) (slice_get ((places ++ place ∷ []) ++ opt then) (n + 1))) here
         (subst (λ (o : Option Tid). IsNextEntry st key (Some place) o)
@@ -247,9 +217,6 @@ placed-over st key places next turn all h = placed-ends st key places next turn 
 
 abbrev pub AreLooks : State → ℕ → List Tid → List EntryLook → Type 0
 AreLooks st s places looks = (e : Session) → session_at st s ≡ Some e → AreEntryLooks st e places looks
-
-pub looks-none : (st : State) (s : ℕ) (looks : List EntryLook) → looks ≡ [] → AreLooks st s [] looks
-looks-none st s looks none e here = subst (λ (xs : List EntryLook). AreEntryLooks st e [] xs) (sym none) (record { same = refl; each = tt })
 
 pub looks-more : (st : State) (s : ℕ) (places : List Tid) (looks after : List EntryLook) (place : Tid) (look : EntryLook) → AreLooks st s places looks → look.place ≡ place
     → ((e : Session) → session_at st s ≡ Some e → IsEntryLook st e look) → after ≡ looks ++ look ∷ [] → AreLooks st s (places ++ place ∷ []) after

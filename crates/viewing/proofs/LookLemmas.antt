@@ -4,20 +4,17 @@ use Rattle.std.specs.Option.{option_map}
 use Rattle.std.specs.List.Sorted.{IsPermutation, IsNonDecreasingBy}
 use Rattle.xid_circle.specs.Circle.{distance_of}
 use Rattle.snapshot.specs.Snap.{Snap}
-use Rattle.xid_circle.specs.declared.Xid.{Xid}
 use Rattle.script_text.specs.Grammar.{with_feed}
 use Rattle.script_text.specs.Answers.{reply_text}
 use Rattle.calls.specs.declared.reply.Refusal.{Refusal}
 use Rattle.calls.specs.declared.reply.Reply.TheVariants as reply
-use Rattle.session_steps.specs.State.{session_at, horizon_of}
+use Rattle.session_steps.specs.State.{session_at}
 use Rattle.sessions.specs.Session.{kept_by}
 use Rattle.sessions.specs.declared.session.Session.{Session}
-use Rattle.session_looks.specs.Holders.{IsHolder}
-use Rattle.session_looks.specs.declared.holder.HorizonHolder.{HorizonHolder}
 use Rattle.session_core.specs.State.{WaitingView, wait_at}
 use Rattle.view_text.specs.declared.look.Look.{Look}
 use Rattle.view_text.specs.declared.look.Look.TheVariants as look
-use Rattle.view_text.specs.Answers.{session_text, horizon_text}
+use Rattle.view_text.specs.Answers.{session_text}
 use Rattle.viewing.specs.Showing.{Answers, AreListed}
 use Rattle.viewing.specs.Steps.{ShowsLook}
 
@@ -31,11 +28,6 @@ pub session_told : (st : WaitingView) (s : ℕ) (e : Session) (listed : List ℕ
     → waits ≡ wait_at st s → Answers st (look.Session s) (session_text s e listed waits)
 session_told st s e listed waits here order is =
     inr (e, listed, here, order, subst (λ (w : Option ℕ). session_text s e listed waits ≡ session_text s e listed w) is refl)
-
--- the horizon's line
-pub horizon_told : (st : WaitingView) (x : Xid) (holder : Option HorizonHolder) → x.0 ≡ horizon_of st.engine.core → IsHolder st.engine.core holder
-    → Answers st look.Horizon (horizon_text x.0 holder)
-horizon_told st x holder at is = (holder, is, subst (λ (n : ℕ). horizon_text x.0 holder ≡ horizon_text n holder) at refl)
 
 -- the ids of the snapshot that is kept
 pub listed_some : (kept : Option Snap) (snap : Snap) (listed : List ℕ) (x : ℕ) → kept ≡ Some snap → x ≡ snap.xmin → IsPermutation snap.listed listed → IsNonDecreasingBy (distance_of x) listed

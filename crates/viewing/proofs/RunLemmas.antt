@@ -31,15 +31,15 @@ use Rattle.viewing.specs.Steps.{ViewFits, ShowsLook, NotesView, DoesView, IsNoVi
 
 -- One more event.
 
-Leads-push : (old : WaitingView) (events : List ViewEvent) (mid : WaitingView) (e : ViewEvent) (new : WaitingView) → ViewsLead old events mid → ViewMoves mid e new → ViewsLead old (events ++ e ∷ []) new
+pub Leads-push : (old : WaitingView) (events : List ViewEvent) (mid : WaitingView) (e : ViewEvent) (new : WaitingView) → ViewsLead old events mid → ViewMoves mid e new → ViewsLead old (events ++ e ∷ []) new
 Leads-push old [] mid e new led moves = (new, subst (λ (st : WaitingView). ViewMoves st e new) (sym led) moves, refl)
 Leads-push old (x ∷ xs) mid e new led moves = (led.0, led.1, Leads-push led.0 xs mid e new led.2 moves)
 
-all-push : (events : List ViewEvent) (e : ViewEvent) → AllByRecursion IsViewAllowed events → IsViewAllowed e → AllByRecursion IsViewAllowed (events ++ e ∷ [])
+pub all-push : (events : List ViewEvent) (e : ViewEvent) → AllByRecursion IsViewAllowed events → IsViewAllowed e → AllByRecursion IsViewAllowed (events ++ e ∷ [])
 all-push [] e h k = (k, tt)
 all-push (x ∷ xs) e h k = (h.0, all-push xs e h.1 k)
 
-lines-push : (events : List ViewEvent) (e : ViewEvent) → view_lines (events ++ e ∷ []) ≡ view_lines events ++ with_feed (view_line e)
+pub lines-push : (events : List ViewEvent) (e : ViewEvent) → view_lines (events ++ e ∷ []) ≡ view_lines events ++ with_feed (view_line e)
 lines-push events e = flat_map-append (λ e. with_feed (view_line e)) events (e ∷ []) ∙ ap (λ x. view_lines events ++ x) (append-nil (with_feed (view_line e)))
 
 -- what is written for one line
@@ -82,7 +82,7 @@ Progress-more notes from state before now now' old new new' w0 w1 w2 text left l
   number_is = h.number_is;
 }
 
-allowed_from : (e : ViewEvent) → ViewFits e → length (view_line e) ≤ 4096 → IsViewAllowed e
+pub allowed_from : (e : ViewEvent) → ViewFits e → length (view_line e) ≤ 4096 → IsViewAllowed e
 allowed_from (scripted e) fits short = record { fits = fits; short = short }
 allowed_from (looked look text) fits short = record { fits = fits; short = short }
 

@@ -14,6 +14,12 @@ use Rattle.write_ids.specs.Ids.{SameIds, NewestIsGiven, GivesUnder, TakesIds, Sa
 pub same-ids : (w : Window) → SameIds w w
 same-ids w = record { first = refl; stop_age = refl; entries = refl }
 
+pub same-back : (w v : Window) → SameIds w v → SameIds v w
+same-back w v same = record { first = sym same.first; stop_age = sym same.stop_age; entries = sym same.entries }
+
+pub same-then : (u v w : Window) → SameIds u v → SameIds v w → SameIds u w
+same-then u v w a b = record { first = b.first ∙ a.first; stop_age = b.stop_age ∙ a.stop_age; entries = b.entries ∙ a.entries }
+
 same-next : (w v : Window) → SameIds w v → next_id v ≡ next_id w
 same-next w v same = rw (same.first, same.entries) refl
 

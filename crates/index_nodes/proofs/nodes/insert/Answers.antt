@@ -12,8 +12,8 @@ use Rattle.index_nodes.proofs.nodes.insert.Goals as goal
 
 -- what is called for
 
-pub insert_first-requires : goal.insert_first-requires
-insert_first-requires g c =
+pub insert_first-requires-clause-none : goal.insert_first-requires-clause-none
+insert_first-requires-clause-none g c =
     let none : vec_len c.args.nodes.now ≡ 0 = grind (arith, nat_tests, c.if-is_empty.true, c.is_empty.ensures) in
     nil_from_length c.args.nodes.now.items (omega (arith, none))
 
@@ -39,6 +39,7 @@ insert-requires g c =
       room = there.1.0;
       neat = (all_at (λ n. g.N.Node.IsNeat n × (0 < g.N.Node.size n)) new position.node node c.open.ensures.neat there.0).0;
       position = there.1.1;
+      fits = c.requires.fits;
     }
 
 -- the first entry of all

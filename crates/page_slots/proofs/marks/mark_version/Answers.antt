@@ -6,8 +6,9 @@ use Rattle.page_layout.specs.Layout.{pointer_in}
 use Rattle.page_layout.specs.Sound.{IsExtent}
 use Rattle.page_layout.specs.Units.{AreMarked, SomeIsMarked}
 use Rattle.page_sheet.proofs.Shown.{extent-good, taken-shown}
-use Rattle.page_sheet.proofs.PackLemmas.{rounded_even}
-use Rattle.page_slots.proofs.CoverLemmas.{at-span, bare-taken, eighths, fresh-none, stale-some, covered-normal, covered-bare}
+use Rattle.page_sheet.proofs.PackLemmas.{none-taken}
+use Rattle.page_sheet.proofs.Added.{rounded_even}
+use Rattle.page_slots.proofs.CoverLemmas.{at-span, eighths, fresh-none, stale-some, covered-normal, covered-bare}
 use Rattle.page_slots.proofs.marks.mark_version.Goals as goal
 
 pub returns-then-mark-clause-taken : goal.returns-then-mark-clause-taken
@@ -49,7 +50,7 @@ returns-in_default c =
     let bytes = c.args.bytes.now in
     let i = c.args.index in
     record {
-      taken = sym (bare-taken bytes i c.pointer_at.result c.pointer_at.ensures c.in_default.not-Normal);
+      taken = sym (none-taken bytes i c.pointer_at.result c.pointer_at.ensures c.in_default.not-Normal);
       counted = omega arith;
       covered = covered-bare bytes i c.args.marks.now (λ e there. c.in_default.not-Normal e (c.pointer_at.ensures ∙ there)) c.requires.covered;
     }

@@ -1,13 +1,11 @@
-use Rattle.std.proofs.Common.{rules, ◌≡◌, length, sym, ap, ◌∙◌, subst}
+use Rattle.std.proofs.Common.{rules, ◌≡◌, length, set, sym, ap, ◌∙◌, subst}
 use Rattle.page_slots.specs.View.{PageView}
 use Rattle.heap_pages.specs.View.{PagesView, with_page}
 use Rattle.prune.specs.Actions.{CanApply, applied}
-use Rattle.prune.specs.Glances.{AreDoubts}
 use Rattle.heap_write.specs.Heap.{HeapView, page_on}
 use Rattle.heap_write.specs.Steps.{with_applied}
 use Rattle.heap_write.proofs.PageLemmas.{page-at}
-use Rattle.heap_write.proofs.DoubtLemmas.{doubts-applied}
-use Rattle.heap_write.proofs.HintLemmas.{hints-turn_ended}
+use Rattle.heap_write.proofs.HintLemmas.{hints-applied}
 use Rattle.heap_write.proofs.heap.HeapState.do_actions.Goals as goal
 
 pub invariant_of-self : goal.invariant_of-self
@@ -22,8 +20,7 @@ invariant_of-self c =
     subst (λ (p : PageView). CanApply (length p.slots) actions) (page-at pages n e.0 e.2)
     (subst (λ (h : HeapView). CanApply (length (page_on h n).slots) actions) (sym c.self.view_is) c.requires.can_apply) in (
       c.self.invariant.0,
-      hints-turn_ended w pages c.edit.new.self.pages c.self.inside.hints.pages c.end_turn.new.self.pages n e.0 e.1 e.2 (ap (λ (p : PagesView). p.pages) e.4) c.end_turn.ensures.pages
-          (λ doubts true. subst (λ (p : PageView). AreDoubts w p.slots doubts) (sym done) (doubts-applied w actions e.0 doubts can true)) c.self.invariant.1,
+      hints-applied w pages c.edit.new.self.pages c.self.inside.hints.pages n actions e.0 e.2 (ap (λ (p : PagesView). p.pages) e.4 ∙ ap (λ (p : PageView). set pages n p) done) can c.self.invariant.1,
     )
 
 pub returns : goal.returns

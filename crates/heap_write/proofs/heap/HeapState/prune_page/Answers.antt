@@ -19,6 +19,7 @@ returns c =
     let h = c.args.self.now in
     let n = c.args.number in
     let actions = c.plan_page.new.plan.actions.items in
-    let is : c.apply_plan.new.self ≡ with_applied h n actions =
-    subst (λ (v : HeapView). c.apply_plan.new.self ≡ with_applied v n actions) c.plan_page.ensures.same c.apply_plan.ensures in
-    applied-prunes h c.apply_plan.new.self n c.args.horizon.0 actions c.requires.within c.plan_page.ensures.exact is
+    let is : c.do_actions.new.self ≡ with_applied h n actions =
+    subst (λ (v : HeapView). c.do_actions.new.self ≡ with_applied v n actions) c.plan_page.ensures.same
+    (subst (λ names. c.do_actions.new.self ≡ with_applied c.plan_page.new.self n names) c.as_slice.ensures.value c.do_actions.ensures) in
+    applied-prunes h c.do_actions.new.self n c.args.horizon.0 actions c.requires.within c.plan_page.ensures.exact is

@@ -62,26 +62,28 @@ update_on_pruned-requires-clause-around c =
     let h = c.args.self.now in
     let place = c.args.place in
     let actions = c.plan_page.new.plan.actions.items in
-    subst (λ (v : HeapView). IsPlanAround v place actions) (sym c.plan_page.ensures.same)
-    (plan-around place c.args.horizon.0 actions c.names.result c.plan_page.ensures.exact c.plan_page.ensures.can_apply c.names.ensures c.if-names.false c.requires.may.there)
+    subst (λ (v : HeapView). IsPlanAround v place c.as_slice-actions.result.now) (sym c.plan_page.ensures.same) (subst (λ names. IsPlanAround h place names) (sym c.as_slice-actions.ensures.value)
+    (plan-around place c.args.horizon.0 actions c.names.result c.plan_page.ensures.exact c.plan_page.ensures.can_apply c.names.ensures c.if-names.false c.requires.may.there))
 
 pub update_off_pruned-requires-clause-around : goal.update_off_pruned-requires-clause-around
 update_off_pruned-requires-clause-around c =
     let h = c.args.self.now in
     let place = c.args.place in
     let actions = c.plan_page.new.plan.actions.items in
-    subst (λ (v : HeapView). IsPlanAround v place actions) (sym c.plan_page.ensures.same)
-    (plan-around place c.args.horizon.0 actions c.names.result c.plan_page.ensures.exact c.plan_page.ensures.can_apply c.names.ensures c.if-names.false c.requires.may.there)
+    subst (λ (v : HeapView). IsPlanAround v place c.as_slice-actions.result.now) (sym c.plan_page.ensures.same) (subst (λ names. IsPlanAround h place names) (sym c.as_slice-actions.ensures.value)
+    (plan-around place c.args.horizon.0 actions c.names.result c.plan_page.ensures.exact c.plan_page.ensures.can_apply c.names.ensures c.if-names.false c.requires.may.there))
 
 pub update_on_pruned-requires-clause-fits : goal.update_on_pruned-requires-clause-fits
 update_on_pruned-requires-clause-fits c =
     let h = c.args.self.now in
     let n = c.args.place.page in
     let page = c.in-Some.page.now in
-    let actions = c.plan_page.new.plan.actions.items in
+    let actions = c.as_slice-actions.result.now in
     let at : slice_get h.pages.pages n ≡ Some page =
     subst (λ (v : HeapView). slice_get v.pages.pages n ≡ Some page) (c.self-2.view_is ∙ c.plan_page.ensures.same) (sym c.page.ensures ∙ ap option_copied c.in-Some.is) in
-    let here : rounded_size_of c.args.row.now ≤ room_of (applied actions page).slots = omega (arith, c.row_size.ensures.value, c.room_after.ensures, c.if-row_size-room_after.true) in
+    let here : rounded_size_of c.args.row.now ≤ room_of (applied actions page).slots =
+    subst (λ names. rounded_size_of c.args.row.now ≤ room_of (applied names page).slots) (sym c.as_slice-actions.ensures.value)
+    (omega (arith, c.row_size.ensures.value, c.room_after.ensures, c.if-row_size-room_after.true)) in
     subst (λ (v : HeapView). rounded_size_of c.args.row.now ≤ room_of (applied actions (page_on v n)).slots) (sym c.plan_page.ensures.same)
     (subst (λ (p : PageView). rounded_size_of c.args.row.now ≤ room_of (applied actions p).slots) (sym (page-at h.pages.pages n page at)) here)
 
@@ -90,10 +92,12 @@ update_off_pruned-requires-clause-full c =
     let h = c.args.self.now in
     let n = c.args.place.page in
     let page = c.in-Some.page.now in
-    let actions = c.plan_page.new.plan.actions.items in
+    let actions = c.as_slice-actions.result.now in
     let at : slice_get h.pages.pages n ≡ Some page =
     subst (λ (v : HeapView). slice_get v.pages.pages n ≡ Some page) (c.self-2.view_is ∙ c.plan_page.ensures.same) (sym c.page.ensures ∙ ap option_copied c.in-Some.is) in
-    let here : room_of (applied actions page).slots < rounded_size_of c.args.row.now = omega (arith, c.row_size.ensures.value, c.room_after.ensures, c.if-row_size-room_after.false) in
+    let here : room_of (applied actions page).slots < rounded_size_of c.args.row.now =
+    subst (λ names. room_of (applied names page).slots < rounded_size_of c.args.row.now) (sym c.as_slice-actions.ensures.value)
+    (omega (arith, c.row_size.ensures.value, c.room_after.ensures, c.if-row_size-room_after.false)) in
     subst (λ (v : HeapView). room_of (applied actions (page_on v n)).slots < rounded_size_of c.args.row.now) (sym c.plan_page.ensures.same)
     (subst (λ (p : PageView). room_of (applied actions p).slots < rounded_size_of c.args.row.now) (sym (page-at h.pages.pages n page at)) here)
 
@@ -101,16 +105,16 @@ pub returns-then-row_size-room_after : goal.returns-then-row_size-room_after
 returns-then-row_size-room_after c =
     let horizon = c.args.horizon.0 in
     let n = c.args.place.page in
-    let actions = c.plan_page.new.plan.actions.items in
+    let actions = c.as_slice-actions.result.now in
     let done = c.update_on_pruned in
     subst (λ (v : HeapView). IsPlanOn v n horizon actions → AnswersUpdate v done.new.self c.args.own.now done.new.own c.args.place c.args.row.now horizon done.result) c.plan_page.ensures.same
-    (done.ensures horizon) c.plan_page.ensures.exact
+    (done.ensures horizon) (subst (λ names. IsPlanOn c.args.self.now n horizon names) (sym c.as_slice-actions.ensures.value) c.plan_page.ensures.exact)
 
 pub returns-else-row_size-room_after : goal.returns-else-row_size-room_after
 returns-else-row_size-room_after c =
     let horizon = c.args.horizon.0 in
     let n = c.args.place.page in
-    let actions = c.plan_page.new.plan.actions.items in
+    let actions = c.as_slice-actions.result.now in
     let done = c.update_off_pruned in
     subst (λ (v : HeapView). IsPlanOn v n horizon actions → AnswersUpdate v done.new.self c.args.own.now done.new.own c.args.place c.args.row.now horizon done.result) c.plan_page.ensures.same
-    (done.ensures horizon) c.plan_page.ensures.exact
+    (done.ensures horizon) (subst (λ names. IsPlanOn c.args.self.now n horizon names) (sym c.as_slice-actions.ensures.value) c.plan_page.ensures.exact)

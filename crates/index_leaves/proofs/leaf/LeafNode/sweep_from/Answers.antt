@@ -1,5 +1,4 @@
-use Rattle.std.proofs.Common.{◌≡◌, ◌∙◌, ◌+◌, ◌-◌, ◌<◌, ◌++◌, ℕ, List, length, take, drop, false, sym, refl, subst, arith}
-use Rattle.std.specs.List.{filter}
+use Rattle.std.proofs.Common.{◌≡◌, ◌∙◌, ◌+◌, ◌-◌, ◌<◌, ℕ, List, length, false, sym, refl, subst, arith}
 use Rattle.index_entries.specs.declared.entry.Entry.{Entry}
 use Rattle.index_entries.specs.declared.node.Swept.{Swept}
 use Rattle.index_entries.specs.Lists.{stays}
@@ -9,33 +8,31 @@ use Rattle.index_leaves.proofs.LeafLemmas.{swept_leaf}
 use Rattle.index_leaves.proofs.leaf.LeafNode.sweep_from.Goals as goal
 
 pub returns-then-goes-count-clause-swept : goal.returns-then-goes-count-clause-swept
-returns-then-goes-count-clause-swept c =
-    let xs = c.self.inside.entries.items in
+returns-then-goes-count-clause-swept g c =
+    let xs = c.self.inside.entries in
     let dead = c.args.dead.now in
     let near = c.on_pages-near.result.now in
     let n = c.next_to_go-goes.result in
     let swept : Swept ℕ = record { last = c.self.inside.last; at = c.len-count.result - 1; removed = 0; more = false } in
-    let within : c.args.position < length xs = omega (arith, c.len-count.ensures, c.if-position-count.false) in
+    let within : c.args.position < length xs = omega (arith, c.len-count.ensures.value, c.if-position-count.false) in
     let last = c.self.invariant.last_apart (omega (arith, within)) in
-    let stay = subst (λ (xs : List Entry). take n xs ++ filter (stays near) (drop n xs) ≡ take c.args.position xs ++ filter (stays near) (drop c.args.position xs)) c.deref.ensures.value
-    c.next_to_go-goes.ensures.kept in
+    let stay = c.next_to_go-goes.ensures.kept in
     let left = part_left c.self.inside.pages dead near xs c.args.position c.self.invariant.bounded c.on_pages-near.ensures in
     let none : 0 + length xs ≡ length xs = omega arith in
     subst (λ (xs : List Entry). IsSwept xs xs c.args.position dead swept) c.self.view_is
-    (swept_leaf xs xs c.args.position dead swept within (sym (at_end (stays near) xs n (omega (arith, c.len-count.ensures, c.if-goes-count.true))) ∙ stay ∙ left) last none refl)
+    (swept_leaf xs xs c.args.position dead swept within (sym (at_end (stays near) xs n (omega (arith, c.len-count.ensures.value, c.if-goes-count.true))) ∙ stay ∙ left) last none refl)
 
 pub returns-clause-swept : goal.returns-clause-swept
-returns-clause-swept c =
-    let xs = c.self.inside.entries.items in
+returns-clause-swept g c =
+    let xs = c.self.inside.entries in
     let dead = c.args.dead.now in
     let near = c.on_pages-near.result.now in
     let n = c.next_to_go-goes.result in
     let swept : Swept ℕ = record { last = c.self.inside.last; at = c.saturating_sub.result; removed = c.len-count.result - c.len.result; more = false } in
-    let within : c.args.position < length xs = omega (arith, c.len-count.ensures, c.if-position-count.false) in
+    let within : c.args.position < length xs = omega (arith, c.len-count.ensures.value, c.if-position-count.false) in
     let last = c.self.invariant.last_apart (omega (arith, within)) in
-    let stay = subst (λ (xs : List Entry). take n xs ++ filter (stays near) (drop n xs) ≡ take c.args.position xs ++ filter (stays near) (drop c.args.position xs)) c.deref.ensures.value
-    c.next_to_go-goes.ensures.kept in
+    let stay = c.next_to_go-goes.ensures.kept in
     let left = part_left c.self.inside.pages dead near xs c.args.position c.self.invariant.bounded c.on_pages-near.ensures in
-    let gone : c.len-count.result - c.len.result + length c.remove_from.new.entries.items ≡ length xs = omega (arith, c.len-count.ensures, c.len.ensures, c.remove_from.ensures.shorter) in
-    subst (λ (xs : List Entry). IsSwept xs c.remove_from.new.entries.items c.args.position dead swept) c.self.view_is
-    (swept_leaf xs c.remove_from.new.entries.items c.args.position dead swept within (c.remove_from.ensures.items ∙ stay ∙ left) last gone refl)
+    let gone : c.len-count.result - c.len.result + length c.remove_dead.new.self ≡ length xs = omega (arith, c.len-count.ensures.value, c.len.ensures.value, c.remove_dead.ensures.shorter) in
+    subst (λ (xs : List Entry). IsSwept xs c.remove_dead.new.self c.args.position dead swept) c.self.view_is
+    (swept_leaf xs c.remove_dead.new.self c.args.position dead swept within (c.remove_dead.ensures.entries ∙ stay ∙ left) last gone refl)

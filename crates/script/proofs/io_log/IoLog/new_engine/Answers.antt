@@ -1,4 +1,4 @@
-use Rattle.script.proofs.FirstLemmas.{out_of_range}
+use Rattle.calls.proofs.SettingsLemmas.{out_of_range}
 use Rattle.script.proofs.io_log.IoLog.new_engine.Goals as goal
 
 pub returns-in_default-clause-made : goal.returns-in_default-clause-made

@@ -6,7 +6,8 @@ use Rattle.session_steps.specs.State.{State, horizon_of}
 use Rattle.session_steps.specs.Writes.{outcome_of, worded}
 use Rattle.session_steps.specs.Replies.{reply_to}
 use Rattle.session_steps.specs.Exact.{AnswersStep}
-use Rattle.session_steps.proofs.Giving.{with_write, with_own}
+use Rattle.session_steps.proofs.StateLemmas.{with_own}
+use Rattle.session_steps.proofs.Giving.{with_write}
 use Rattle.session_steps.proofs.Trying.{MayTryAt, no_place, newest-given, tries-insert, keeps-tried, answers-tried}
 use Rattle.session_steps.proofs.engine.SessionEngine.add.Goals as goal
 

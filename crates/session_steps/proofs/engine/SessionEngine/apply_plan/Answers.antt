@@ -33,8 +33,7 @@ returns c =
     (subst (λ x. U g x plan.actions) horizon (subst (U g c.horizon-horizon.result.0) actions (subst (λ f. U f c.horizon-horizon.result.0 c.as_slice-actions.result.now) is u)), refl) in
     subst (λ st. P c.args.plan.now st) c.self.view_is (subst (λ plan. P plan before) c.plan.view_is (elim c.match-apply_if_checked.branch [
       | in-Ok w ↦ (let a : AppliesPlan before after c.args.page plan = record {
-        settings = refl;
-        sessions = refl;
+        is = refl;
         heap = subst (λ x. H x plan.actions) horizon (subst (H c.horizon-horizon.result.0) actions w.in-Ok.ensures.ok);
       } in subst R (sym w.result-is) (record { follows = Follows-apply before after c.args.page plan a; exact = a }))
       | in-Err-NoSuchPage w ↦ subst R (sym w.result-is) (subst (G apply_fault.NoSuchPage) (sym w.in-Err-NoSuchPage.ensures.err) (record {

@@ -23,7 +23,7 @@ returns c = record {
       let R : Result Ack Refusal → Type 0 = λ r. Follows before (step.Prune c.args.page) (reply_to r) after in
       let H : ℕ → Type 0 = λ x. Prunes before.heap after.heap c.args.page x in
       subst P c.self.view_is (elim c.match-prune.branch [
-        | in-Ok w ↦ subst R (sym w.result-is) (Follows-prune before after c.args.page (record { settings = refl; sessions = refl; heap = subst H horizon w.in-Ok.ensures.ok }))
+        | in-Ok w ↦ subst R (sym w.result-is) (Follows-prune before after c.args.page (record { is = refl; heap = subst H horizon w.in-Ok.ensures.ok }))
         | in-Err-NoSuchPage w ↦ subst R (sym w.result-is)
             (let G : HeapView → Type 0 = λ h. Follows before (step.Prune c.args.page) (reply.Refused refusal.NoSuchPage) (record before { heap = h }) in subst G (sym w.in-Err-NoSuchPage.ensures.err) (Follows-no_such_page before c.args.page))
       ]));

@@ -1,4 +1,4 @@
-use Rattle.std.proofs.Common.{rules, Some, refl, sym, ap, ◌∙◌}
+use Rattle.std.proofs.Common.{rules, Some, sym, ap, ◌∙◌}
 use Rattle.sessions.specs.declared.session.Session.{Session}
 use Rattle.session_steps.specs.State.{State, session_at, put_session}
 use Rattle.session_steps.specs.Changes.{Releases}
@@ -37,8 +37,8 @@ returns c =
     let now : Session = record e { own = c.release.new.self } in
     let there = ap (λ (st : State). session_at st c.args.s) (sym c.self.view_is) ∙ c.open_mut.ensures.value in
     let is = ap (λ (st : State). put_session st c.args.s (Some now)) c.self.view_is in
-    let releases : Releases e now = record { isolation = refl; ids = c.release.ensures.ids; saved = c.release.ensures.saved; failed = refl; cursor = refl; too_new = refl } in
+    let releases : Releases e.own c.release.new.self = record { ids = c.release.ensures.ids; saved = c.release.ensures.saved } in
     record {
-      follows = Follows-forgotten c.args.self.now _ c.args.s c.in_ok-free.field-0.now e now c.in_ok-free.ensures there (λ none. c.if-savepoints-eq0.false (c.savepoints.ensures ∙ none)) is releases;
-      exact = record { session = e; at = there; now = now; is = is; change = releases };
+      follows = Follows-forgotten c.args.self.now _ c.args.s c.in_ok-free.field-0.now e c.release.new.self c.in_ok-free.ensures there (λ none. c.if-savepoints-eq0.false (c.savepoints.ensures ∙ none)) is releases;
+      exact = record { session = e; at = there; own = c.release.new.self; is = is; change = releases };
     }

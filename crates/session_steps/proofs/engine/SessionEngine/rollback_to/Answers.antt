@@ -1,17 +1,18 @@
-use Rattle.std.proofs.Common.{rules, ℕ, List, Option, false, sym, ap, ◌∙◌, refl, subst}
+use Rattle.std.proofs.Common.{rules, ℕ, List, ◌++◌, Option, sym, ap, ◌∙◌, refl, subst}
 use Rattle.std.specs.Prelude.{Contains, IsSome}
 use Rattle.std.proofs.lemmas.List.Elements.{Contains-append_right}
 use Rattle.commit_status.specs.Changes.{numbers}
 use Rattle.snapshot.specs.Own.{newest}
 use Rattle.table_scans.specs.declared.progress.CursorScan.{CursorScan}
-use Rattle.sessions.specs.declared.session.Session.{Session}
+use Rattle.heap_write.specs.Heap.{HeapView}
 use Rattle.session_steps.specs.State.{State, session_at}
 use Rattle.session_steps.specs.Changes.{RollsBack}
 use Rattle.sessions.proofs.Taking.{none-unless}
 use Rattle.session_steps.proofs.Giving.{with_write}
 use Rattle.session_steps.proofs.Outcomes.{handed-on}
 use Rattle.session_steps.proofs.Savepoints.{Follows-nowhere_to_return, Follows-closed_roll_back_to, Follows-barred_roll_back_to}
-use Rattle.session_steps.proofs.Noting.{none-saved, some-there, rolls-back-on, keeps-returned, Follows-returned}
+use Rattle.session_steps.proofs.Returning.{returned}
+use Rattle.session_steps.proofs.Noting.{none-saved, some-there, only-statuses, keeps-returned, Follows-returned}
 use Rattle.session_steps.proofs.engine.SessionEngine.rollback_to.Goals as goal
 
 pub returns-in_err-session : goal.returns-in_err-session
@@ -60,8 +61,8 @@ invariant_of-self c =
     let own = c.roll_back.new.self in
     let f = c.finish in
     let since = numbers c.since_savepoint.result.now in
-    let back = rolls-back-on c.self.inside.heap f.new.self e own since f.ensures.pages f.ensures.indexes f.ensures.max_pages c.since_savepoint.ensures c.roll_back.ensures.ids c.roll_back.ensures.saved f.ensures.finishes f.ensures.window in
-    keeps-returned c.self.inside.sessions c.self.inside.heap f.new.self c.args.s e (record e { own = own; failed = false }) c.open_mut-session.ensures.value back c.self.invariant
+    keeps-returned c.self.inside.sessions c.self.inside.heap f.new.self c.args.s e (returned e own) since c.open_mut-session.ensures.value (c.since_savepoint.ensures ∙ ap (λ xs. xs ++ since) (sym c.roll_back.ensures.ids)) f.ensures.finishes
+    c.self.invariant
 
 pub returns : goal.returns
 returns c =
@@ -69,12 +70,21 @@ returns c =
     let own = c.roll_back.new.self in
     let f = c.finish in
     let since = numbers c.since_savepoint.result.now in
-    let back = rolls-back-on c.self.inside.heap f.new.self e own since f.ensures.pages f.ensures.indexes f.ensures.max_pages c.since_savepoint.ensures c.roll_back.ensures.ids c.roll_back.ensures.saved f.ensures.finishes f.ensures.window in
-    let now : Session = record e { own = own; failed = false } in
     let before : State = record { settings = c.self.inside.settings; heap = c.self.inside.heap; sessions = c.self.inside.sessions } in
-    let after = with_write before f.new.self c.args.s now in
+    let after = with_write before f.new.self c.args.s (returned e own) in
     let R : State → Type 0 = λ st. RollsBack st after c.args.s in
-    let rolls = subst R c.self.view_is (record { session = e; at = c.open_mut-session.ensures.value; now = now; settings = refl; sessions = refl; back = back }) in
+    let rolls = subst R c.self.view_is (record {
+      session = e;
+      at = c.open_mut-session.ensures.value;
+      own = own;
+      is = ap (λ (h : HeapView). with_write before h c.args.s (returned e own)) (only-statuses before.heap f.new.self f.ensures.pages f.ensures.indexes f.ensures.max_pages);
+      ids = c.roll_back.ensures.ids;
+      saved = c.roll_back.ensures.saved;
+      since = since;
+      were = c.since_savepoint.ensures ∙ ap (λ xs. xs ++ since) (sym c.roll_back.ensures.ids);
+      finishes = f.ensures.finishes;
+      window = f.ensures.window;
+    }) in
     let found = c.in_ok-session.session.now in
     record {
       follows = Follows-returned c.args.self.now after c.args.s found c.in_ok-session.ensures.1 (none-unless found.cursor c.in_default.not-Some) (λ none. c.if-savepoints-eq0.false (c.savepoints.ensures ∙ none)) rolls;

@@ -41,10 +41,10 @@ returns c =
     let R : Result Ack Refusal → Type 0 = λ r. D (reply_to r) after in
     elim c.match-save.branch [
       | in-Ok w ↦ (let is = ap (λ (st : State). put_session st c.args.s (Some now)) c.self.view_is in
-          let sets : SetsSavepoint e now = record { isolation = refl; ids = c.save.ensures.ids; saved = w.in-Ok.ensures.saved; failed = refl; cursor = refl; too_new = refl } in
+          let sets : SetsSavepoint e.own c.save.new.self = record { ids = c.save.ensures.ids; saved = w.in-Ok.ensures.saved } in
           subst R (sym w.result-is) (record {
-            follows = Follows-noted c.args.self.now after c.args.s c.in_ok-free.field-0.now e now c.in_ok-free.ensures there w.in-Ok.ensures.room is sets;
-            exact = record { session = e; at = there; now = now; is = is; change = sets };
+            follows = Follows-noted c.args.self.now after c.args.s c.in_ok-free.field-0.now e c.save.new.self c.in_ok-free.ensures there w.in-Ok.ensures.room is sets;
+            exact = record { session = e; at = there; own = c.save.new.self; is = is; change = sets };
           }))
       | in-Err-TooDeep w ↦ (let same = unnoted before c.args.self.now c.args.s e c.save.new.self c.self.view_is c.open_mut.ensures.value w.in-Err-TooDeep.ensures.refused in
           let full = subst P w.in-Err-TooDeep.field-0-is w.in-Err-TooDeep.ensures.fault in

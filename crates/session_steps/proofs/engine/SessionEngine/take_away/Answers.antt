@@ -7,7 +7,8 @@ use Rattle.session_steps.specs.Writes.{outcome_of}
 use Rattle.session_steps.specs.Replies.{reply_to}
 use Rattle.session_steps.specs.Exact.{AnswersStep}
 use Rattle.heap_write.specs.Refusals.{VersionIsThere}
-use Rattle.session_steps.proofs.Giving.{with_write, with_own}
+use Rattle.session_steps.proofs.StateLemmas.{with_own}
+use Rattle.session_steps.proofs.Giving.{with_write}
 use Rattle.session_steps.proofs.Trying.{MayTryAt, newest-given, change-there, tries-delete, keeps-tried, answers-tried}
 use Rattle.session_steps.proofs.engine.SessionEngine.take_away.Goals as goal
 

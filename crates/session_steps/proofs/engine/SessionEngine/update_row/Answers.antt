@@ -20,15 +20,15 @@ use Rattle.session_steps.proofs.engine.SessionEngine.update_row.Goals as goal
 pub returns-in_err-session : goal.returns-in_err-session
 returns-in_err-session c = rw (handed-on c.from_residual.result c.from_residual.ensures.1) (answers-unready c.args.self.now c.args.s (updates (worded c.args.row.now)) c.in_err-session.field-0.0 c.in_err-session.ensures)
 
-pub replace_on_page-requires-clause-may : goal.replace_on_page-requires-clause-may
-replace_on_page-requires-clause-may c =
+pub update_with_room-requires-clause-may : goal.update_with_room-requires-clause-may
+update_with_room-requires-clause-may c =
     subst (λ (st : State). MayTryAt st c.args.s (updates (worded c.args.row.now)) c.in-Ok.place) (sym c.expect_entry.ensures) (c.in_ok-session.session.now, c.in_ok-session.ensures, c.in-Ok.ensures)
 
 pub returns-in-Some : goal.returns-in-Some
-returns-in-Some c = subst (λ (st : State). AnswersStep st (step.Update c.args.s (worded c.args.row.now)) (reply_to c.replace_on_page.result) c.replace_on_page.new.self) c.expect_entry.ensures c.replace_on_page.ensures
+returns-in-Some c = subst (λ (st : State). AnswersStep st (step.Update c.args.s (worded c.args.row.now)) (reply_to c.update_with_room.result) c.update_with_room.new.self) c.expect_entry.ensures c.update_with_room.ensures
 
 pub returns-in-None : goal.returns-in-None
-returns-in-None c = subst (λ (st : State). AnswersStep st (step.Update c.args.s (worded c.args.row.now)) (reply_to c.replace_on_full_page.result) c.replace_on_full_page.new.self) c.expect_entry.ensures c.replace_on_full_page.ensures
+returns-in-None c = subst (λ (st : State). AnswersStep st (step.Update c.args.s (worded c.args.row.now)) (reply_to c.update_on_full_page.result) c.update_on_full_page.new.self) c.expect_entry.ensures c.update_on_full_page.ensures
 
 pub returns-in-Err : goal.returns-in-Err
 returns-in-Err c =

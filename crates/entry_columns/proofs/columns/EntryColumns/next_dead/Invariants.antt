@@ -1,0 +1,8 @@
+use Rattle.std.proofs.Common.{◌≡◌, ◌++◌, take, drop}
+use Rattle.std.specs.List.{filter}
+use Rattle.index_entries.specs.Lists.{stays}
+use Rattle.entry_columns.proofs.columns.EntryColumns.next_dead.Given as goal
+
+-- the entries so far stay
+abbrev pub invariant-loop-place : goal.invariant-loop-place
+invariant-loop-place g l = take l.place l.self ++ filter (stays l.dead) (drop l.place l.self) ≡ take l.from l.self ++ filter (stays l.dead) (drop l.from l.self)
