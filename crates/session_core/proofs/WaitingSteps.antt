@@ -120,6 +120,7 @@ busy-stays old (step.VacuumBegin mode) s o below is exact = absurd exact
 busy-stays old step.VacuumStep s o below is exact = absurd exact
 busy-stays old step.VacuumCancel s o below is exact = absurd exact
 busy-stays old (step.CreateIndex c) s o below is exact = absurd (none-some s is)
+busy-stays old (step.TakePage reader p) s o below is exact = absurd exact.core.0
 busy-stays old step s o below is exact = (exact.core, exact.vacuum)
 
 blocked-agrees : (old : WaitingView) (step : Step) (s o : ℕ) (below : EngineView) → session_of step ≡ Some s → EngineFollows old.engine step (reply.Refused (refusal.Busy o)) below
