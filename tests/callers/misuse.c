@@ -147,22 +147,70 @@ static void apply_at_random(uint32_t page) {
     CHECK(sandpiper_prune(&t, page) == none);
 }
 
+static void close_ticket(struct sandpiper_ticket *ticket) {
+    uint32_t status = ticket->is_taken ? SANDPIPER_DONE : SANDPIPER_NO_TICKET;
+    CHECK(sandpiper_close_ticket(ticket) == status && !ticket->is_taken);
+}
+
 /* Takes a page for one of eight tickets that live on, or reads one, or closes it. */
 static void use_ticket(uint8_t session, uint32_t page, struct sandpiper_row *rows, bool closes_all) {
     static struct sandpiper_ticket tickets[8];
-    size_t count;
+    size_t count, capacity = below(PLACES + 1);
     struct sandpiper_ticket *ticket = tickets + below(8);
-    sandpiper_take_page(&t, session, page, ticket);
-    sandpiper_ticket_rows(ticket, rows, below(PLACES + 1), &count);
-    if (below(2)) sandpiper_close_ticket(ticket);
-    for (int i = 0; closes_all && i < 8; i++) sandpiper_close_ticket(tickets + i);
+    bool was_taken = ticket->is_taken;
+    uint32_t status = sandpiper_take_page(&t, session, page, ticket);
+    CHECK(was_taken ? status == SANDPIPER_HAS_TICKET : told(session, status) == status && ticket->is_taken == (status == SANDPIPER_DONE));
+    status = sandpiper_ticket_rows(ticket, rows, capacity, &count);
+    if (!ticket->is_taken) CHECK(status == SANDPIPER_NO_TICKET && count == 0);
+    else if (status == SANDPIPER_NO_ROW) CHECK(count == 0);
+    else CHECK(status == (count > capacity ? SANDPIPER_NO_PLACE : SANDPIPER_ROWS) && count > 0 && count <= SANDPIPER_PAGE_ROWS);
+    if (below(2)) close_ticket(ticket);
+    for (int i = 0; closes_all && i < 8; i++) close_ticket(tickets + i);
+}
+
+static struct sandpiper_state state(void) {
+    struct sandpiper_state now;
+    CHECK(sandpiper_state_of(&t, &now) == SANDPIPER_DONE);
+    return now;
+}
+
+static void look_at_slot(uint32_t page, uint16_t number) {
+    struct sandpiper_page head = {0};
+    struct sandpiper_slot slot;
+    sandpiper_page_at(&t, page, &head);
+    uint32_t status = number >= 1 && number <= head.slots ? SANDPIPER_FOUND : SANDPIPER_NO_ROW;
+    CHECK(sandpiper_slot_at(&t, page, number, &slot) == status && (status == SANDPIPER_NO_ROW || slot.kind <= SANDPIPER_DEAD));
+}
+
+/* A vacuum begins, goes on or is dropped just where none runs, or one does. */
+static void vacuum_at_random(void) {
+    struct sandpiper_piece piece;
+    bool runs = state().vacuum != 0;
+    uint32_t kind = below(96), status;
+    if (kind < 32) {
+        CHECK(sandpiper_vacuum_begin(&t, below(2)) == (runs ? SANDPIPER_VACUUM_RUNNING : SANDPIPER_DONE));
+    } else if (kind == 32) {
+        CHECK(sandpiper_vacuum_cancel(&t) == (runs ? SANDPIPER_DONE : SANDPIPER_NO_VACUUM));
+    } else {
+        status = sandpiper_vacuum_step(&t, &piece);
+        CHECK(runs ? status == SANDPIPER_WORKED || status == SANDPIPER_ENDED : status == SANDPIPER_NO_VACUUM);
+        CHECK(!runs || (piece.kind == SANDPIPER_NO_PIECE) == (status == SANDPIPER_ENDED));
+    }
+}
+
+/* An index is made where there is such a column, and neither a vacuum nor who has written is in the way. */
+static void make_index(uint8_t column) {
+    struct sandpiper_state before = state();
+    uint32_t status = sandpiper_create_index(&t, column);
+    if (column > 3) CHECK(status == SANDPIPER_NO_SUCH_INDEX);
+    else if (before.has_index[column + 1]) CHECK(status == SANDPIPER_DONE);
+    else if (before.vacuum) CHECK(status == SANDPIPER_VACUUM_RUNNING);
+    else CHECK(status == SANDPIPER_INDEX_BUSY ? before.open_sessions != 0 : status == SANDPIPER_DONE && state().has_index[column + 1]);
 }
 
 /* Calls in no order, on keys below 1000. */
 static void call_at_random(int calls) {
     static struct sandpiper_row rows[PLACES];
-    struct sandpiper_slot slot;
-    struct sandpiper_piece piece;
     for (int i = 0; i < calls; i++) {
         uint8_t session = (uint8_t)below(below(8) ? 8 : 256);
         uint64_t key = below(1000);
@@ -186,14 +234,13 @@ static void call_at_random(int calls) {
         case 11: next_told(session, rows, below(PLACES + 1)); break;
         case 12: told(session, sandpiper_close_cursor(&t, session)); break;
         case 13: apply_at_random(below(64)); break;
-        case 14: sandpiper_slot_at(&t, below(64), (uint16_t)below(400), &slot); break;
-        case 15: sandpiper_vacuum_begin(&t, below(2)); break;
-        case 16:
-            if (below(64) == 0) sandpiper_vacuum_cancel(&t);
-            if (below(64) == 0) sandpiper_create_index(&t, (uint8_t)below(6));
+        case 14: look_at_slot(below(64), (uint16_t)below(400)); break;
+        case 15:
+            if (below(64) == 0) make_index((uint8_t)below(6));
             break;
+        case 16:
         case 17:
-        case 18: sandpiper_vacuum_step(&t, &piece); break;
+        case 18: vacuum_at_random(); break;
         case 19: use_ticket(session, below(64), rows, false); break;
         default: told(session, sandpiper_begin(&t, session));
         }
