@@ -31,7 +31,7 @@ GATE_BEGAN=$(date +%s.%N)
 export GATE_BEGAN
 # (tools/release.sh asks the same later)
 echo "test.sh: began $GATE_BEGAN"
-rt ci
+python3 tools/ci.py
 python3 tools/check_docs.py crates/heapsh/out/heapsh
 python3 tests/scripts/test_scripts.py crates/heapsh/out/heapsh
 python3 tests/cuts/test_cuts.py crates/heapsh/out/heapsh
