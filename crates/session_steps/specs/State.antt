@@ -14,7 +14,6 @@ use Rattle.heap_write.specs.Heap.{HeapView, slots_of}
 use Rattle.calls.specs.declared.settings.Settings.{Settings}
 use Rattle.calls.specs.declared.step.Step.{Step}
 use Rattle.calls.specs.declared.step.Step.TheVariants as step
-use Rattle.calls.specs.Steps.{is_vacuum_step}
 use Rattle.calls.specs.declared.reply.Refusal.{Refusal}
 use Rattle.calls.specs.declared.reply.Refusal.TheVariants as refusal
 use Rattle.calls.specs.Bars.{SessionLooks}
@@ -111,5 +110,8 @@ refused_state st s refusal = st
 -- whether a step is answered above the sessions: each of a vacuum's, which is kept there; and the making of an index, which none
 -- may run beside
 abbrev pub is_answered_above : Step → Bool
+is_answered_above (step.VacuumBegin mode) = true
+is_answered_above step.VacuumStep = true
+is_answered_above step.VacuumCancel = true
 is_answered_above (step.CreateIndex c) = true
-is_answered_above step = is_vacuum_step step
+is_answered_above step = false
