@@ -55,8 +55,7 @@ isolation_seen (ByStatement kept) = relation.seen_by_statement kept
 
 -- how far the cursor has got, as the relation has it
 abbrev pub seen_position : Option IndexPosition → Option relation.RowPosition
-seen_position None = None
-seen_position (Some m) = Some (record { value = m.value; key = m.key })
+seen_position last = option_map (λ (m : IndexPosition). record { value = m.value; key = m.key }) last
 
 abbrev pub position_of : Option CursorScan → Option relation.Position
 position_of None = None
@@ -95,12 +94,9 @@ with_cursor cursor e = record e { cursor = cursor }
 abbrev pub with_kept : Option Snap → Session → Session
 with_kept kept e = record e { isolation = keeping kept e.isolation }
 
-abbrev pub failed_session : Session → Session
-failed_session e = record e { failed = true }
-
 -- the session has failed, if it is open
 abbrev pub with_failed : State → ℕ → State
-with_failed st s = put_session st s (option_map failed_session (session_at st s))
+with_failed st s = put_session st s (option_map (λ (e : Session). record e { failed = true }) (session_at st s))
 
 -- the engine after the refusal of a write: a conflict makes the session fail
 abbrev pub refused_state : State → ℕ → Refusal → State
