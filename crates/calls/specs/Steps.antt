@@ -1,5 +1,5 @@
 -- Whose a step is.
-use Rattle.std.specs.Prelude.{ℕ, Bool, true, false, Option, Some, None}
+use Rattle.std.specs.Prelude.{ℕ, Option, Some, None}
 use Rattle.calls.specs.declared.step.Step.{Step}
 use Rattle.calls.specs.declared.step.Step.TheVariants as step
 
@@ -22,16 +22,4 @@ session_of (step.OpenKeys s low high) = Some s
 session_of (step.Next s n) = Some s
 session_of (step.Close s) = Some s
 session_of (step.TakePage s p) = Some s
-session_of (step.Prune p) = None
-session_of (step.ApplyPlan p plan) = None
-session_of (step.VacuumBegin mode) = None
-session_of step.VacuumStep = None
-session_of step.VacuumCancel = None
-session_of (step.CreateIndex c) = None
-
--- whether it is a vacuum's
-abbrev pub is_vacuum_step : Step → Bool
-is_vacuum_step (step.VacuumBegin mode) = true
-is_vacuum_step step.VacuumStep = true
-is_vacuum_step step.VacuumCancel = true
-is_vacuum_step step = false
+session_of step = None

@@ -30,9 +30,8 @@ HasBody step = ⊥
 
 -- it puts a row into the table
 abbrev pub IsPut : WriteStep → Type 0
-IsPut (inserts row) = Unit {0}
-IsPut (updates row) = Unit {0}
 IsPut (deletes k) = ⊥
+IsPut write = Unit {0}
 
 -- the row that is found of its key, or that there is none, is what it asks for, and the row that it puts fits
 abbrev pub Asks : WriteStep → Option Row → Type 0

@@ -1,13 +1,13 @@
 -- What a commit and a write change in what is read.
 use Rattle.std.proofs.Common.{◌≡◌, ◌≢◌, ℕ, zero, suc, ◌<◌, ◌≤◌, List, [], ◌∷◌, ◌++◌, length, Option, Some, None, cond, refl, sym, ap, ◌∙◌, subst, arith, ◌⊎◌, inl, inr, nat_eq, append_assoc}
 use Rattle.std.specs.Prelude.{IsSome, Contains}
-use Rattle.std.specs.Option.{option_or, option_flatten}
+use Rattle.std.specs.Option.{option_or, option_flatten, unwrap_or}
 use Rattle.std.proofs.lemmas.List.{take-append-le, take_all}
 use Rattle.std.proofs.lemmas.List.Elements.{Contains-push, Contains-append_left, Contains-append_right}
 use Rattle.std.proofs.lemmas.Bool.{cases_eq, cond-true, cond-false, eq-eqb, ne_eqb}
 use Rattle.std.proofs.lemmas.Option.{slice_get_within}
 use Rattle.tuple_header.specs.declared.version.Row.{Row}
-use Rattle.history.specs.History.{Write, Transaction, said, written, latest, committed, own_or, reading, IsLate}
+use Rattle.history.specs.History.{Write, Transaction, said, written, latest, committed, reading, IsLate}
 use Rattle.history.specs.World.{joined}
 use Rattle.history.specs.Moves.{add_write, join_newest}
 use Rattle.history.proofs.Places.{slice_get-push_old, slice_get-push_new, slice_get-push_cases}
@@ -48,20 +48,20 @@ committed-push_before history t n key le = committed-append history (t ∷ []) n
 pub committed_all : (history : List Transaction) (key : ℕ) → committed history (length history) key ≡ option_flatten (latest history key)
 committed_all history key = ap (λ ts. option_flatten (latest ts key)) (take_all (length history) history (omega arith))
 
-pub flatten_or : (o p : Option (Option Row)) → option_flatten (option_or o p) ≡ own_or o (option_flatten p)
+pub flatten_or : (o p : Option (Option Row)) → option_flatten (option_or o p) ≡ unwrap_or o (option_flatten p)
 flatten_or None p = refl
 flatten_or (Some r) p = refl
 
 -- and adds its writes for those who begin after it
 pub committed-push_all : (history : List Transaction) (t : Transaction) (key : ℕ)
-    → committed (history ++ t ∷ []) (length (history ++ t ∷ [])) key ≡ own_or (written t key) (committed history (length history) key)
+    → committed (history ++ t ∷ []) (length (history ++ t ∷ [])) key ≡ unwrap_or (written t key) (committed history (length history) key)
 committed-push_all history t key =
     committed_all (history ++ t ∷ []) key ∙ (ap option_flatten (latest-push history t key)
-    ∙ (flatten_or (written t key) (latest history key) ∙ ap (own_or (written t key)) (sym (committed_all history key))))
+    ∙ (flatten_or (written t key) (latest history key) ∙ ap (unwrap_or (written t key)) (sym (committed_all history key))))
 
 pub reading-append_history : (history more : List Transaction) (start : ℕ) (writes : List Write) (key : ℕ) → start ≤ length history
     → reading (history ++ more) start writes key ≡ reading history start writes key
-reading-append_history history more start writes key le = ap (own_or (written writes key)) (committed-append history more start key le)
+reading-append_history history more start writes key le = ap (unwrap_or (written writes key)) (committed-append history more start key le)
 
 pub IsLate-push_old : (history : List Transaction) (t : Transaction) (n key : ℕ) → IsLate history n key → IsLate (history ++ t ∷ []) n key
 IsLate-push_old history t n key late = (late.0, late.1, late.2, slice_get-push_old history t late.0 late.1 late.3, late.4)

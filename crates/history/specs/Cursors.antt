@@ -35,8 +35,7 @@ pub record AreOf (row : ℕ → Option Row) (rows : List Row) : Type 0 where
 -- some rows of the rest, none of them twice
 pub record ArePart (rest : ℕ → Option Row) (rows : List Row) : Type 0 where
   pub some : 0 < length rows
-  pub theirs : (i : ℕ) (row : Row) → slice_get rows i ≡ Some row → rest row.key ≡ Some row
-  pub once : (i j : ℕ) (a b : Row) → slice_get rows i ≡ Some a → slice_get rows j ≡ Some b → a.key ≡ b.key → i ≡ j
+  pub of : AreOf rest rows
 
 -- the next n rows of the rest in the order of the index, or all that are left; asking for none counts as one
 pub record AreNext (index n : ℕ) (rest : ℕ → Option Row) (rows : List Row) : Type 0 where

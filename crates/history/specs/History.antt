@@ -2,7 +2,7 @@
 -- A history that is never cleaned: what has committed, and what is read of it. After Berenson et al. 1995, "A
 -- Critique of ANSI SQL Isolation Levels", section 4.2 (snapshot isolation). The data item is the key.
 use Rattle.std.specs.Prelude.{◌≡◌, ℕ, ◌≤◌, ◌==◌, if◌then◌else◌, List, [], ◌∷◌, take, Option, Some, None, IsSome, slice_get}
-use Rattle.std.specs.Option.{option_or, option_flatten}
+use Rattle.std.specs.Option.{option_or, option_flatten, unwrap_or}
 use Rattle.tuple_header.specs.declared.version.Row.{Row}
 
 -- a key with a row, or with nothing where the row is deleted, and how many transactions had committed when the snapshot was
@@ -35,15 +35,10 @@ latest (transaction ∷ later) key = option_or (latest later key) (written trans
 abbrev pub committed : List Transaction → ℕ → ℕ → Option Row
 committed history n key = option_flatten (latest (take n history) key)
 
--- an own write stands before what was there
-abbrev pub own_or : Option (Option Row) → Option Row → Option Row
-own_or None before = before
-own_or (Some row) before = row
-
 -- what is read by one who began after the first start transactions and has written this: the own write, else what
 -- was committed at the start ("Transaction Isolation" in the manual's chapter "Concurrency Control")
 abbrev pub reading : List Transaction → ℕ → List Write → ℕ → Option Row
-reading history start writes key = own_or (written writes key) (committed history start key)
+reading history start writes key = unwrap_or (written writes key) (committed history start key)
 
 -- a transaction that committed since the start wrote the key
 abbrev pub IsLate : List Transaction → ℕ → ℕ → Type 0

@@ -39,7 +39,7 @@ next_iff index n rest rows b order says = (
   where
     some_left : (rest rows : List Row) → ArePart (row_of_key rest) rows → 0 < length rest
     some_left [] [] part = absurd (let some : 0 < length {A = Row} [] = part.some in omega arith)
-    some_left [] (x ∷ rows) part = absurd (none-some x (part.theirs zero x refl))
+    some_left [] (x ∷ rows) part = absurd (none-some x (part.of.theirs zero x refl))
     some_left (r ∷ rest) rows part = omega arith
 
 pub next_keys_iff : (n : ℕ) (rest : List Row) (keys : List ℕ) (b : Bool) → IsInOrder 0 rest → (IsTrue b ↔ ((0 < length rest) × (keys ≡ keys_of (take (max 1 n) rest))))
@@ -54,7 +54,7 @@ next_keys_iff n rest keys b order says = (
   where
     some_left : (rest rows : List Row) → ArePart (row_of_key rest) rows → 0 < length rest
     some_left [] [] part = absurd (let some : 0 < length {A = Row} [] = part.some in omega arith)
-    some_left [] (x ∷ rows) part = absurd (none-some x (part.theirs zero x refl))
+    some_left [] (x ∷ rows) part = absurd (none-some x (part.of.theirs zero x refl))
     some_left (r ∷ rest) rows part = omega arith
 
 pub over_iff : (rest : List Row) (b : Bool) → (IsTrue b ↔ (rest ≡ [])) → (IsTrue b ↔ IsOver (row_of_key rest))

@@ -93,8 +93,8 @@ one_front index k rest (x ∷ a) (y ∷ b) front front' =
 
 front_of : (index n : ℕ) (rest : ℕ → Option Row) (rows : List Row) → AreNext index n rest rows → IsFront index (max 1 n) rest rows
 front_of index n rest rows next = record {
-  theirs = next.part.theirs;
-  once = next.part.once;
+  theirs = next.part.of.theirs;
+  once = next.part.of.once;
   in_order = next.in_order;
   before_rest = next.before_rest;
   at_most = next.at_most;

@@ -36,7 +36,7 @@ rows_or_keys by_keys n rest r k hands hands' = hands
 
 part_left : (rest : ℕ → Option Row) (rows : List Row) → ArePart rest rows → ¬ IsOver rest
 part_left rest [] part over = let some : 0 < length {A = Row} [] = part.some in omega arith
-part_left rest (x ∷ rows) part over = none-some x (sym (over x.key) ∙ part.theirs zero x refl)
+part_left rest (x ∷ rows) part over = none-some x (sym (over x.key) ∙ part.of.theirs zero x refl)
 
 rows_left : (order : Order) (n : ℕ) (rest : ℕ → Option Row) (r : List Row) → HandsOutPart order n rest r → ¬ IsOver rest
 rows_left (by_index index) n rest r hands = part_left rest r hands.part

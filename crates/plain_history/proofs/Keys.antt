@@ -1,13 +1,13 @@
 -- The rows of the keys that a session may read.
 use Rattle.std.proofs.Common.{◌≡◌, ◌≢◌, ℕ, zero, suc, ◌+◌, ◌<◌, List, [], ◌∷◌, ◌++◌, length, take, Option, Some, None, Bool, true, false, ◌||◌, nat_eq, refl, sym, ap, ◌∙◌, subst, arith, inl, inr, get_or}
 use Rattle.std.specs.Prelude.{IsSome, IfSome, IsTrue, ◌↔◌}
-use Rattle.std.specs.Option.{option_or, option_flatten}
+use Rattle.std.specs.Option.{option_or, option_flatten, unwrap_or}
 use Rattle.std.proofs.lemmas.Bool.{cases_eq, cases_lt, cond-true, cond-false, eq-eqb, ne_eqb, or_right}
 use Rattle.std.proofs.lemmas.List.{take_all}
 use Rattle.std.proofs.lemmas.Option.{none-some, same_Some}
 use Rattle.tuple_header.specs.declared.version.Row.{Row}
 use Rattle.history.specs.Cursors.{kept_where}
-use Rattle.history.specs.History.{Write, Transaction, said, written, latest, own_or}
+use Rattle.history.specs.History.{Write, Transaction, said, written, latest}
 use Rattle.history.specs.World.{OpenSession, joined, own_write, start_now, view}
 use Rattle.history.proofs.HistoryLemmas.{written-append, said-same, said-other}
 use Rattle.plain_cursor.specs.Order.{row_of_key, IsInOrder, placed}
@@ -126,7 +126,7 @@ passes_not : (test : Row → Bool) (o : Option Row) → ((row : Row) → o ≡ S
 passes_not test None out = refl
 passes_not test (Some row) out = cond-false (test row) (Some row) None (out row refl)
 
-unwanted_view : (test : Row → Bool) (o p : Option (Option Row)) → IsUnwanted test o → IsUnwanted test p → (row : Row) → own_or o (option_flatten p) ≡ Some row → test row ≡ false
+unwanted_view : (test : Row → Bool) (o p : Option (Option Row)) → IsUnwanted test o → IsUnwanted test p → (row : Row) → unwrap_or o (option_flatten p) ≡ Some row → test row ≡ false
 unwanted_view test (Some r) p out out' row e = out row (ap Some e)
 unwanted_view test None (Some r) out out' row e = out' row (ap Some e)
 unwanted_view test None None out out' row e = absurd (none-some row e)

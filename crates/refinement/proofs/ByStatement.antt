@@ -1,14 +1,14 @@
 -- A session by statement: it counts its own ids and all that has committed. What another's commit does to it.
 use Rattle.std.proofs.Common.{◌≡◌, ℕ, List, [], ◌∷◌, ◌++◌, length, Option, Some, None, false, refl, sym, subst, inl, inr, arith}
 use Rattle.std.specs.Prelude.{IsSome, Contains}
-use Rattle.std.specs.Option.{is_some}
+use Rattle.std.specs.Option.{is_some, unwrap_or}
 use Rattle.std.proofs.lemmas.Bool.{both_ways}
 use Rattle.xid_circle.specs.declared.Tid.{Tid}
 use Rattle.tuple_header.specs.declared.version.Row.{Row}
 use Rattle.tuple_header.specs.Version.{Version}
 use Rattle.commit_status.specs.declared.status.Status.{Status}
 use Rattle.commit_status.specs.declared.status.Status.TheVariants.{Committed}
-use Rattle.history.specs.History.{Write, Transaction, committed, written, own_or}
+use Rattle.history.specs.History.{Write, Transaction, committed, written}
 use Rattle.history.specs.World.{OpenSession, joined, own_write}
 use Rattle.refinement.specs.Heap.{SeenSession}
 use Rattle.history.proofs.HistoryLemmas.{written-append, IsSome-or_second, IsLate-now}
@@ -28,11 +28,11 @@ use Rattle.visibility.proofs.Verdicts.{VisibleBy-same}
 
 -- what was written counts before what has committed
 
-pub own_or-some : (o : Option (Option Row)) (p q : Option Row) → IsSome o → own_or o p ≡ own_or o q
+pub own_or-some : (o : Option (Option Row)) (p q : Option Row) → IsSome o → unwrap_or o p ≡ unwrap_or o q
 own_or-some None p q some = cc
 own_or-some (Some r) p q some = refl
 
-pub own_or-none : (o : Option (Option Row)) (p : Option Row) → ¬ IsSome o → own_or o p ≡ p
+pub own_or-none : (o : Option (Option Row)) (p : Option Row) → ¬ IsSome o → unwrap_or o p ≡ p
 own_or-none None p none = refl
 own_or-none (Some r) p none = absurd (none refl)
 

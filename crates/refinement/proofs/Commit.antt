@@ -2,14 +2,14 @@
 use Rattle.std.proofs.Common.{◌≡◌, ◌≢◌, ℕ, List, [], ◌∷◌, ◌++◌, length, Option, Some, None, false, refl, sym, ap, ◌∙◌, subst, ◌⊎◌, inl, inr}
 use Rattle.std.specs.Prelude.{IsSome, Contains}
 use Rattle.std.proofs.lemmas.Bool.{both_ways}
-use Rattle.std.specs.Option.{is_some}
+use Rattle.std.specs.Option.{is_some, unwrap_or}
 use Rattle.std.proofs.lemmas.Option.{same_Some, none-some}
 use Rattle.xid_circle.specs.declared.Tid.{Tid}
 use Rattle.tuple_header.specs.Version.{Version}
 use Rattle.commit_status.specs.declared.status.Status.{Status}
 use Rattle.commit_status.specs.declared.status.Status.TheVariants.{Committed}
 use Rattle.snapshot.specs.Snap.{Snap}
-use Rattle.history.specs.History.{Transaction, committed, written, own_or}
+use Rattle.history.specs.History.{Transaction, committed, written}
 use Rattle.history.specs.World.{World, Isolation, by_snapshot, by_statement, OpenSession, joined, own_write, start_now, start_by}
 use Rattle.history.specs.Moves.{aborted, committed_by, appended}
 use Rattle.history.proofs.HistoryLemmas.{at_same, at_other, committed-push_all}
@@ -96,7 +96,7 @@ Agrees-commit h w s e m status' sees' session' only at there finishes same decid
     carries : Traced h.version (λ x. Contains e.own x) (joined m.levels)
     carries = own_traced mine
 
-    rows-after : (k : ℕ) → committed w'.history (length w'.history) k ≡ own_or (own_write m k) (committed w.history (length w.history) k)
+    rows-after : (k : ℕ) → committed w'.history (length w'.history) k ≡ unwrap_or (own_write m k) (committed w.history (length w.history) k)
     rows-after k = committed-push_all w.history (joined m.levels) k
 
     -- the versions of a key that the session wrote: a new session sees those that it saw itself

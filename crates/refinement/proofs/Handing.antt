@@ -31,14 +31,16 @@ module _ {store : Tid → Option Version} {seen : Version → Type 0} {index : �
   part_met : 0 < length rows → ArePart c.rest rows
   part_met some = record {
     some = some;
-    theirs = λ i row at. h.sound row (meets.theirs i row at).0;
-    once = λ i j a b at bt key. let is : a ≡ b = same_row h a b (meets.theirs i a at).0 (meets.theirs j b bt).0 key in elim (cases_lt i j) [
-      | inl lt ↦ absurd (ComesBefore-irrefl index b (subst (λ (r : Row). ComesBefore index r b) is (meets.in_order i j a b at bt lt)))
-      | inr le ↦ elim (cases_lt j i) [
-        | inl lt ↦ absurd (ComesBefore-irrefl index b (subst (λ (r : Row). ComesBefore index b r) is (meets.in_order j i b a bt at lt)))
-        | inr le' ↦ omega arith
-      ]
-    ];
+    of = record {
+      theirs = λ i row at. h.sound row (meets.theirs i row at).0;
+      once = λ i j a b at bt key. let is : a ≡ b = same_row h a b (meets.theirs i a at).0 (meets.theirs j b bt).0 key in elim (cases_lt i j) [
+        | inl lt ↦ absurd (ComesBefore-irrefl index b (subst (λ (r : Row). ComesBefore index r b) is (meets.in_order i j a b at bt lt)))
+        | inr le ↦ elim (cases_lt j i) [
+          | inl lt ↦ absurd (ComesBefore-irrefl index b (subst (λ (r : Row). ComesBefore index b r) is (meets.in_order j i b a bt at lt)))
+          | inr le' ↦ omega arith
+        ]
+      ];
+    };
   }
 
   pub next_met : (n : ℕ) → 0 < length rows → length rows ≤ max 1 n → (length rows < max 1 n → (row : Row) → ¬ Comes store seen (in_index index low high to) row) → HandsOutPart c.order n c.rest rows
@@ -92,14 +94,16 @@ module _ {store : Tid → Option Version} {seen : Version → Type 0} {from to :
       part : ArePart c.rest rows
       part = record {
         some = some;
-        theirs = λ i row at. let was = gathers.theirs i row at in h.sound row (Stands-comes was.1 was.3);
-        once = λ i j a b at bt key. elim (cases_lt i j) [
-          | inl lt ↦ absurd (apart i j a b at bt key lt)
-          | inr le ↦ elim (cases_lt j i) [
-            | inl lt ↦ absurd (apart j i b a bt at (sym key) lt)
-            | inr le' ↦ omega arith
-          ]
-        ];
+        of = record {
+          theirs = λ i row at. let was = gathers.theirs i row at in h.sound row (Stands-comes was.1 was.3);
+          once = λ i j a b at bt key. elim (cases_lt i j) [
+            | inl lt ↦ absurd (apart i j a b at bt key lt)
+            | inr le ↦ elim (cases_lt j i) [
+              | inl lt ↦ absurd (apart j i b a bt at (sym key) lt)
+              | inr le' ↦ omega arith
+            ]
+          ];
+        };
       }
 
   pub rest_gathered : Remains store seen (in_heap to) (past (keys_of rows) c)

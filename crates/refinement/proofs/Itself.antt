@@ -17,14 +17,14 @@ use Rattle.visibility.specs.Seeing.{HasCommitted, IsRunning, Reads, by_itself, b
 use Rattle.refinement.specs.Visible.{IsFreshSnapshot, ReaderSees, At}
 use Rattle.snapshot.specs.Own.{saved_with}
 use Rattle.refinement.specs.Changes.{AddsVersion, Alters, GivesNext, SameSight, with_id}
-use Rattle.refinement.specs.Agrees.{Shows, ReaderAgrees, LevelsAgree, IsOfNewest, IsSameIsolation, SessionAgrees}
+use Rattle.refinement.specs.Agrees.{Shows, ReaderAgrees, LevelsAgree, IsSameIsolation, SessionAgrees}
 use Rattle.refinement.proofs.ShowsLemmas.{Shows-same}
 use Rattle.refinement.proofs.Statuses.{keeps-give, none_given, IsCommitted-give}
 use Rattle.visibility.proofs.Verdicts.{VisibleBy-same}
 use Rattle.refinement.proofs.Versions.{own-untouched}
 use Rattle.refinement.proofs.CursorsLemmas.{CursorAgrees-keeps, CursorAgrees-bare, CursorAgrees-none, KeepsSeen-same, bare_position}
 use Rattle.refinement.proofs.Readers.{IsNew, IsDeleted, ReaderAgrees-same, ReaderAgrees-add_other, ReaderAgrees-delete_other, ReaderAgrees-insert, ReaderAgrees-delete, Levels-map, Levels-within, Levels-count, wrote_before}
-use Rattle.refinement.proofs.LevelTraces.{Traced-none, Traced-add_other, Traced-delete_other, Traced-insert, Traced-delete, nested_of, LevelTraces-write, LevelTraces-give}
+use Rattle.refinement.proofs.LevelTraces.{Traced-none, Traced-add_other, Traced-delete_other, Traced-insert, Traced-delete, nested_of, IsOfNewest, LevelTraces-write, LevelTraces-give}
 use Rattle.refinement.proofs.Traces.{TracesAgree-same, TracesAgree-add, TracesAgree-delete}
 use Rattle.refinement.proofs.Isolations.{CursorReads-map}
 use Rattle.refinement.proofs.Others.{same_reader, reads_before, unseen-given}

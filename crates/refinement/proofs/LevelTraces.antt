@@ -16,7 +16,7 @@ use Rattle.visibility.specs.Seeing.{Touches, made_by, deleted_by, deleter}
 use Rattle.refinement.specs.Visible.{IsBy, At}
 use Rattle.snapshot.specs.Own.{saved_with}
 use Rattle.refinement.specs.Changes.{AddsVersion, Alters}
-use Rattle.refinement.specs.Agrees.{Traced, IsOfNewest, LevelTraces, LevelsAgree}
+use Rattle.refinement.specs.Agrees.{Traced, LevelTraces, LevelsAgree}
 use Rattle.refinement.proofs.Versions.{SomeVersion-adds, SomeVersion-alters, Adds-cases, Alters-cases, own-untouched}
 use Rattle.refinement.proofs.Readers.{IsNew, IsDeleted, touches_new, wrote_same, wrote_before, wrote_still}
 
@@ -134,6 +134,11 @@ pub nested_of : (status : ℕ → Option Status) (store : Tid → Option Version
 nested_of _ _ _ _ _ own [] levels h = tt
 nested_of _ _ _ _ _ own (before ∷ saved) [] h = absurd h
 nested_of status store history sees start own (before ∷ saved) (ws ∷ levels) h = (h.1, nested_of status store history sees start before saved levels h.2)
+
+-- the id is of the newest level: the session has it, and had it not at its newest savepoint
+abbrev pub IsOfNewest : List ℕ → List (List ℕ) → ℕ → Type 0
+IsOfNewest own [] x = Contains own x
+IsOfNewest own (before ∷ saved) x = Contains own x × (¬ Contains before x)
 
 -- level by level
 pub LevelTraces-map : {store store' : Tid → Option Version} (own : List ℕ) (saved : List (List ℕ)) (levels : List (List Write)) → Nested own saved

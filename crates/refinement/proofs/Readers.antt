@@ -7,10 +7,10 @@ use Rattle.xid_circle.specs.declared.Tid.{Tid}
 use Rattle.tuple_header.specs.declared.version.Row.{Row}
 use Rattle.tuple_header.specs.Version.{Version}
 use Rattle.commit_status.specs.declared.status.Status.{Status}
-use Rattle.history.specs.History.{Write, Transaction, committed, written, own_or, reading}
+use Rattle.history.specs.History.{Write, Transaction, committed, written, reading}
 use Rattle.history.specs.World.{joined}
 use Rattle.history.proofs.HistoryLemmas.{written-push, said-same, said-other}
-use Rattle.std.specs.Option.{option_or}
+use Rattle.std.specs.Option.{option_or, unwrap_or}
 use Rattle.visibility.specs.Seeing.{HasCommitted, IsRunning, Reads, by_itself, by_others, Touches, made_by, deleted_by, inserter, deleter}
 use Rattle.refinement.specs.Visible.{ReaderSees, At}
 use Rattle.refinement.specs.Changes.{AddsVersion, Alters}
@@ -28,7 +28,7 @@ pub ReaderAgrees-same : {status status' : ℕ → Option Status} {store : Tid �
     → ReaderAgrees status store history sees start own writes → ReaderAgrees status' store history' sees' start own' writes'
 ReaderAgrees-same {status} {status'} {store} {history} {history'} {sees} {sees'} {start} {own} {own'} {writes} {writes'} to back still alike before h = record {
   rows = Shows-same (λ p v at seen. VisibleBy-same (λ x touch. to p x v at touch) (λ x touch. back p x v at touch) seen) (λ p v at seen. VisibleBy-same (λ x touch. back p x v at touch) (λ x touch. to p x v at touch) seen)
-      (λ k. ap (λ o. own_or o (committed history' start k)) (alike k) ∙ ap (λ r. own_or (written writes k) r) (before k)) h.rows;
+      (λ k. ap (λ o. unwrap_or o (committed history' start k)) (alike k) ∙ ap (λ r. unwrap_or (written writes k) r) (before k)) h.rows;
   whole = λ p y v at is reads x made. to p x v at (made_by made) (h.whole p y v at is (back p y v at (deleted_by is) reads) x made);
   covers = λ p v at seen wrote.
       let made = h.covers p v at (VisibleBy-same (λ x touch. back p x v at touch) (λ x touch. to p x v at touch) seen) (subst (λ o. IsSome o) (alike v.row.key) wrote) in
@@ -129,8 +129,8 @@ pub ReaderAgrees-insert : {status : ℕ → Option Status} {store store' : Tid �
 ReaderAgrees-insert {status} {store} {store'} {history} {sees} {start} {own} {writes} since x place new adds is_new mine none h = record {
   rows = Shows-add_seen adds (λ p v at seen. seen) (λ p v at seen. seen)
       (record { made = λ y is. by_itself (subst (λ z. Contains own z) (same_Some x y (sym is_new.made ∙ is)) mine); kept = λ y is. absurd (none-some y (sym is_new.kept ∙ is)) }) none
-      (ap (λ o. own_or o (committed history start new.row.key)) (written-push_same writes write))
-      (λ k ne. ap (λ o. own_or o (committed history start k)) (written-push_other writes write k ne))
+      (ap (λ o. unwrap_or o (committed history start new.row.key)) (written-push_same writes write))
+      (λ k ne. ap (λ o. unwrap_or o (committed history start k)) (written-push_other writes write k ne))
       h.rows;
   whole = λ p y u at is reads. elim (Adds-cases adds p u at) [
     | inl old ↦ h.whole p y u old is reads
@@ -155,8 +155,8 @@ pub ReaderAgrees-delete : {status : ℕ → Option Status} {store store' : Tid �
     → ReaderAgrees status store history sees start own writes → ReaderAgrees status store' history sees start own (writes ++ record { start = since; key = old.row.key; row = None } ∷ [])
 ReaderAgrees-delete {status} {store} {store'} {history} {sees} {start} {own} {writes} since x place old new alters deleted mine seen_old h = record {
   rows = Shows-alter_hidden alters seen_old (λ seen. seen.kept x deleted.by (by_itself mine))
-      (ap (λ o. own_or o (committed history start old.row.key)) (written-push_same writes write))
-      (λ k ne. ap (λ o. own_or o (committed history start k)) (written-push_other writes write k ne))
+      (ap (λ o. unwrap_or o (committed history start old.row.key)) (written-push_same writes write))
+      (λ k ne. ap (λ o. unwrap_or o (committed history start k)) (written-push_other writes write k ne))
       (λ p u bt seen. seen) (λ p u bt seen. seen) h.rows;
   whole = λ p y u bt is reads z made. elim (Alters-cases alters p u bt) [
     | inl same ↦ seen_old.made z (sym deleted.same_maker ∙ (ap (λ (u : Version). inserter u.header) (sym same.1) ∙ made))

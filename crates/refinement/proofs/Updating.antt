@@ -1,13 +1,14 @@
 -- A session writes a row in place of one that it sees: it deletes the one and inserts the other, and the model is told of one write.
 use Rattle.std.proofs.Common.{◌≡◌, ◌≢◌, ℕ, List, [], ◌∷◌, ◌++◌, Option, Some, None, true, refl, sym, ap, ◌∙◌, subst, ◌⊎◌, inl, inr}
 use Rattle.std.specs.Prelude.{IsSome}
+use Rattle.std.specs.Option.{unwrap_or}
 use Rattle.std.proofs.lemmas.Bool.{cases_eq}
 use Rattle.std.proofs.lemmas.Option.{same_Some, none-some}
 use Rattle.xid_circle.specs.declared.Tid.{Tid}
 use Rattle.xid_circle.proofs.Tids.{cases-tid}
 use Rattle.tuple_header.specs.Version.{Version}
 use Rattle.commit_status.specs.declared.status.Status.{Status}
-use Rattle.history.specs.History.{Write, Transaction, committed, written, own_or, IsLate}
+use Rattle.history.specs.History.{Write, Transaction, committed, written, IsLate}
 use Rattle.history.specs.World.{World, OpenSession, joined, own_write, view, Holds, start_now}
 use Rattle.history.specs.Moves.{put, add_write, with_row, without_row}
 use Rattle.history.proofs.HistoryLemmas.{at_same, at_other, joined-add_write}
@@ -147,7 +148,7 @@ Agrees-replace h w s e m x place q old old' new between store' alters deleted ad
     deleted_now = ap (λ ws. written ws old.row.key) (joined-add_write (record { start = start_now w.history m; key = old.row.key; row = None }) m.levels) ∙ written-push_same (joined m.levels) (record { start = start_now w.history m; key = old.row.key; row = None })
 
     none : view w.history m₁ new.row.key ≡ None
-    none = subst (λ k. view w.history m₁ k ≡ None) (sym key) (ap (λ o. own_or o (committed w.history (start_now w.history m) old.row.key)) deleted_now)
+    none = subst (λ k. view w.history m₁ k ≡ None) (sym key) (ap (λ o. unwrap_or o (committed w.history (start_now w.history m) old.row.key)) deleted_now)
 
     unheld₁ : (o : ℕ) → o ≢ s → ¬ Holds w₁ o new.row.key
     unheld₁ o ne held = unheld o ne (subst (λ k. Holds w o k) key (held.0, sym (at_other o s (Some m₁) (w.session o) ne) ∙ held.1, held.2))

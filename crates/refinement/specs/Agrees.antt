@@ -39,15 +39,11 @@ pub record Traced (store : Tid → Option Version) (P : ℕ → Type 0) (writes 
   pub written_there : (k : ℕ) → IsSome (written writes k) → SomeVersion store k (IsBy P)
   pub there_written : (p : Tid) (v : Version) → At store p v → IsBy P v → IsSome (written writes v.row.key)
 
--- the id is of the newest level: the session has it, and had it not at its newest savepoint
-abbrev pub IsOfNewest : List ℕ → List (List ℕ) → ℕ → Type 0
-IsOfNewest own [] x = Contains own x
-IsOfNewest own (before ∷ saved) x = Contains own x × (¬ Contains before x)
-
--- a key stands in a level exactly where an id of that level made or deleted a version of it
+-- a key stands in a level exactly where an id of that level made or deleted a version of it: one that the session has, and had not at the
+-- savepoint that began the level
 abbrev pub LevelTraces : (Tid → Option Version) → List ℕ → List (List ℕ) → List (List Write) → Type 0
-LevelTraces store own [] (writes ∷ []) = Traced store (IsOfNewest own []) writes
-LevelTraces store own (before ∷ saved) (writes ∷ levels) = Traced store (IsOfNewest own (before ∷ saved)) writes × LevelTraces store before saved levels
+LevelTraces store own [] (writes ∷ []) = Traced store (λ x. Contains own x) writes
+LevelTraces store own (before ∷ saved) (writes ∷ levels) = Traced store (λ x. Contains own x × (¬ Contains before x)) writes × LevelTraces store before saved levels
 LevelTraces _ _ _ _ = ⊥
 
 -- a key is late exactly where a version of it has a committed id that the snapshot does not see

@@ -25,6 +25,10 @@ pub record Suits (w : World) (s : ℕ) (write : WriteStep) (m : OpenSession) : T
   pub writer : IsWriter w s m
   pub asks : Asks write (view w.history m (key_of write))
 
+-- nothing keeps the session from the write
+abbrev pub AllowsWrite : World → ℕ → WriteStep → Type 0
+AllowsWrite w s write = (m : OpenSession) × Suits w s write m × MayWrite w s (key_of write) m
+
 -- the session is barred from the write, or the write does not suit it: its row is too large, or the key has a row already, or has none
 abbrev pub AllowsUnsuited : World → ℕ → Refusal → WriteStep → Type 0
 AllowsUnsuited w s refusal.TooLarge (inserts row) = (m : OpenSession) × IsWriter w s m × (MOST_BODY < length row.body)
@@ -39,14 +43,10 @@ AllowsUnsuited w s refusal write = BarsFree (world_sessions w) s refusal
 abbrev pub AllowsHindered : World → ℕ → Refusal → WriteStep → Type 0
 AllowsHindered w s refusal.Conflict write = (m : OpenSession) × Suits w s write m × IsLate w.history (start_now w.history m) (key_of write)
 AllowsHindered w s (refusal.Busy o) write = (m : OpenSession) × Suits w s write m × IsBlocked w s (key_of write) o m
-AllowsHindered w s refusal.NeedsFreeze write = (m : OpenSession) × Suits w s write m × MayWrite w s (key_of write) m
+AllowsHindered w s refusal.NeedsFreeze write = AllowsWrite w s write
 AllowsHindered w s refusal.NoRoom write = (m : OpenSession) × Suits w s write m × MayWrite w s (key_of write) m × IsPut write
-AllowsHindered w s refusal.NoMemory write = (m : OpenSession) × Suits w s write m × MayWrite w s (key_of write) m
+AllowsHindered w s refusal.NoMemory write = AllowsWrite w s write
 AllowsHindered w s refusal write = AllowsUnsuited w s refusal write
-
--- or nothing keeps the session from it
-abbrev pub AllowsWrite : World → ℕ → WriteStep → Type 0
-AllowsWrite w s write = (m : OpenSession) × Suits w s write m × MayWrite w s (key_of write) m
 
 -- how many savepoints the session has: each begins a level above its first
 abbrev pub savepoints : OpenSession → ℕ

@@ -2,6 +2,7 @@
 use Rattle.std.proofs.Common.{◌≡◌, ℕ, false, Option, Some, None, refl, sym, ap, ◌∙◌}
 use Rattle.std.specs.Prelude.{IsSome}
 use Rattle.std.specs.Option.{option_map}
+use Rattle.calls.specs.declared.step.Step.TheVariants as step
 use Rattle.calls.specs.declared.reply.Reply.TheVariants as reply
 use Rattle.calls.specs.declared.reply.Refusal.{Refusal}
 use Rattle.calls.specs.declared.reply.Refusal.TheVariants as refusal
@@ -9,7 +10,7 @@ use Rattle.vacuum_passes.specs.View.{VacuumView, disturbed}
 use Rattle.session_steps.specs.State.{State}
 use Rattle.session_steps.specs.Making.{LacksIndexOn, HasOrMakes, RefusesIndexOn}
 use Rattle.vacuum_engine.specs.State.{EngineView}
-use Rattle.vacuum_engine.specs.Exact.{ExactCreateIndex}
+use Rattle.vacuum_engine.specs.Exact.{EngineExact}
 
 -- an engine by its parts
 abbrev engine_of : State → Option VacuumView → EngineView
@@ -23,7 +24,7 @@ none-unless_some None off = refl
 none-unless_some (Some v) off = absurd (off refl)
 
 module _ (old new : EngineView) (c : ℕ) (vacuum : new.vacuum ≡ option_map (disturbed false) old.vacuum) where
-  pub create-barred : IsSome old.vacuum × LacksIndexOn old.core c → new.core ≡ old.core → ExactCreateIndex old c (reply.Refused refusal.VacuumRunning) new
+  pub create-barred : IsSome old.vacuum × LacksIndexOn old.core c → new.core ≡ old.core → EngineExact old (step.CreateIndex c) (reply.Refused refusal.VacuumRunning) new
   create-barred bars same = (bars.1, bars.0, engine-is new old.core (option_map (disturbed false) old.vacuum) same vacuum)
 
   -- which is alone where the index is not there
@@ -35,11 +36,11 @@ module _ (old new : EngineView) (c : ℕ) (vacuum : new.vacuum ≡ option_map (d
       let none = alone off lacks in
       engine-is new old.core old.vacuum same (vacuum ∙ (ap (option_map (disturbed false)) none ∙ sym none))
 
-  pub create-refused : (r : Refusal) → ¬ (IsSome old.vacuum × LacksIndexOn old.core c) → RefusesIndexOn old.core c r → new.core ≡ old.core → ExactCreateIndex old c (reply.Refused r) new
+  pub create-refused : (r : Refusal) → ¬ (IsSome old.vacuum × LacksIndexOn old.core c) → RefusesIndexOn old.core c r → new.core ≡ old.core → EngineExact old (step.CreateIndex c) (reply.Refused r) new
   create-refused refusal.NoSuchIndex off over same = (over, engine-is new old.core (option_map (disturbed false) old.vacuum) same vacuum)
   create-refused refusal.IndexBusy off refuses same = (refuses, alone off refuses.0, unchanged off refuses.0 same)
   create-refused refusal.NoMemory off refuses same = (refuses, alone off refuses.0, unchanged off refuses.0 same)
   create-refused _ off refuses same = absurd refuses
 
-  pub create-done : ¬ (IsSome old.vacuum × LacksIndexOn old.core c) → HasOrMakes old.core new.core c → ExactCreateIndex old c reply.Done new
+  pub create-done : ¬ (IsSome old.vacuum × LacksIndexOn old.core c) → HasOrMakes old.core new.core c → EngineExact old (step.CreateIndex c) reply.Done new
   create-done off does = (does, λ lacks. alone off lacks, vacuum)

@@ -12,7 +12,7 @@ use Rattle.refinement.proofs.Runs.{blocked_of}
 use Rattle.vacuum_engine.specs.State.{EngineView}
 use Rattle.vacuum_engine.specs.Clauses.{EngineFollows}
 use Rattle.vacuum_engine.specs.Exact.{EngineExact}
-use Rattle.session_core.specs.State.{WaitingView, ended, blocked, woken, given_back, freed, with_waits}
+use Rattle.session_core.specs.State.{WaitingView, noted_wait, woken, given_back, freed, with_waits}
 use Rattle.session_core.specs.Clauses.{WaitingFollows, WaitingExact}
 use Rattle.session_core.proofs.WaitingLaws.{IsNeverBusy, NotedFollows, OwnerlessFollows}
 use Rattle.session_core.specs.Notes.{gives_back}
@@ -46,14 +46,14 @@ never_busy step r is w o allows busy =
 
 exactly-none : (old : WaitingView) (step : Step) (below : EngineView) (given : Reply) → session_of step ≡ None → EngineFollows old.engine step given below → EngineExact old.engine step given below
     → WaitingExact old step given (with_waits below old.waits)
-exactly-none old step below (reply.Refused (refusal.Busy o)) is follows exact = (exact, ap (λ t. blocked t o old.waits) (sym is))
+exactly-none old step below (reply.Refused (refusal.Busy o)) is follows exact = (exact, ap (λ t. noted_wait t (Some o) old.waits) (sym is))
 exactly-none old step below given is follows exact =
-    subst (λ waits. WaitingExact old step given (with_waits below waits)) (ap (λ t. freed step given (ended t old.waits)) is ∙ freed-none step given old.waits is)
+    subst (λ waits. WaitingExact old step given (with_waits below waits)) (ap (λ t. freed step given (noted_wait t None old.waits)) is ∙ freed-none step given old.waits is)
     (unblocked-is_exact old step given below (λ o busy. absurd (cc busy)) follows exact)
 
 pub ownerless-follows : OwnerlessFollows
 ownerless-follows old step below given is follows exact = (
-  subst (λ waits. WaitingFollows old step given (with_waits below waits)) (ap (λ t. freed step given (ended t old.waits)) is ∙ freed-none step given old.waits is)
+  subst (λ waits. WaitingFollows old step given (with_waits below waits)) (ap (λ t. freed step given (noted_wait t None old.waits)) is ∙ freed-none step given old.waits is)
       (unblocked-follows old step given below (never_busy step given is) follows),
   exactly-none old step below given is follows exact,
 )
@@ -65,7 +65,7 @@ as_is old step {new} {new'} {answer} {answer'} same is follows = subst (λ r. Fo
 
 other : (old : WaitingView) (step : Step) (s : ℕ) (below : EngineView) (given : Reply) → session_of step ≡ Some s → ((o : ℕ) → given ≢ reply.Refused (refusal.Busy o))
     → EngineFollows old.engine step given below → EngineExact old.engine step given below → Follows old step given (with_waits below (freed step given (set old.waits s None)))
-other old step s below given is never follows exact = subst (λ t. Follows old step given (with_waits below (freed step given (ended t old.waits)))) is (
+other old step s below given is never follows exact = subst (λ t. Follows old step given (with_waits below (freed step given (noted_wait t None old.waits)))) is (
   unblocked-follows old step given below (λ w o allows. never o) follows,
   unblocked-is_exact old step given below never follows exact,
 )

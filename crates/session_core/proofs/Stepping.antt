@@ -1,5 +1,5 @@
 -- A step that is no vacuum's, beside one that may be running.
-use Rattle.std.proofs.Common.{◌≡◌, ℕ, false, Option, Some, None, sym, ap, ◌∙◌, subst, ⊎_elim}
+use Rattle.std.proofs.Common.{◌≡◌, ℕ, false, Option, Some, None, sym, ap, ◌∙◌, subst}
 use Rattle.std.specs.Prelude.{MatchOption}
 use Rattle.xid_circle.specs.declared.Xid.{Xid}
 use Rattle.heap_write.specs.Heap.{HeapView}
@@ -44,9 +44,8 @@ module _ (old new : EngineView) (v : VacuumView) (mid : State) (running : old.va
     running = running;
     steps = steps-same;
     none = gone;
-    core = let is = same ∙ mid-same in is ∙ ap (λ (st : State). record old.core { heap = st.heap }) (sym is);
-    forgets = λ aggressive may. absurd (let f : Normal ≡ Aggressive = sym normal ∙ aggressive in cc);
-    keeps = λ either. ap (λ (st : State). st.heap) (same ∙ mid-same);
+    keeps = λ _. same ∙ mid-same;
+    forgets = λ aggressive. absurd (let f : Normal ≡ Aggressive = sym normal ∙ aggressive in cc);
   }
   ended (Some x) aggressive f =
       let forgets = subst (λ (st : State). Forgets st new.core v.cutoff) mid-same (subst (λ c. Forgets mid new.core c) aggressive.1 f) in
@@ -55,7 +54,6 @@ module _ (old new : EngineView) (v : VacuumView) (mid : State) (running : old.va
         running = running;
         steps = steps-same;
         none = gone;
-        core = forgets.is;
-        forgets = λ mode may. forgets.forgets may;
-        keeps = λ either. ⊎_elim (λ normal. absurd (let g : Normal ≡ Aggressive = sym normal ∙ aggressive.0 in cc)) (λ may_not. forgets.keeps may_not) either;
+        keeps = λ normal. absurd (let g : Normal ≡ Aggressive = sym normal ∙ aggressive.0 in cc);
+        forgets = λ _. forgets;
       }

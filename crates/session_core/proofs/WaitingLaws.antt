@@ -14,7 +14,7 @@ use Rattle.vacuum_engine.specs.Clauses.{EngineFollows}
 use Rattle.vacuum_engine.specs.Exact.{EngineExact}
 use Rattle.vacuum_engine.specs.New.{IsNewEngine}
 use Rattle.waits.specs.View.{wait_in}
-use Rattle.session_core.specs.State.{WaitingView, with_waits, ended, freed}
+use Rattle.session_core.specs.State.{WaitingView, noted_wait, with_waits, freed}
 use Rattle.session_core.specs.Clauses.{WaitingFollows, WaitingExact, IsNewWaiting}
 use Rattle.session_core.specs.Notes.{gives_back, NotesWait}
 
@@ -26,13 +26,13 @@ IsNeverBusy step answer = (w : World) (o : ℕ) → Allows w step answer → ans
 abbrev pub UnblockedFollows : Type 0
 UnblockedFollows = (old : WaitingView) (step : Step) (reply : Reply) (below : EngineView) → IsNeverBusy step reply
     → EngineFollows old.engine step reply below
-    → WaitingFollows old step reply (with_waits below (freed step reply (ended (session_of step) old.waits)))
+    → WaitingFollows old step reply (with_waits below (freed step reply (noted_wait (session_of step) None old.waits)))
 
 -- So it is exactly, where the reply is not Busy.
 abbrev pub UnblockedIsExact : Type 0
 UnblockedIsExact = (old : WaitingView) (step : Step) (answer : Reply) (below : EngineView) → ((o : ℕ) → answer ≢ reply.Refused (refusal.Busy o))
     → EngineFollows old.engine step answer below → EngineExact old.engine step answer below
-    → WaitingExact old step answer (with_waits below (freed step answer (ended (session_of step) old.waits)))
+    → WaitingExact old step answer (with_waits below (freed step answer (noted_wait (session_of step) None old.waits)))
 
 -- Answered Busy, and where that wait would close no ring, the session waits.
 abbrev pub BlockedFollows : Type 0

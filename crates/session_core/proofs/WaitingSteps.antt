@@ -27,7 +27,7 @@ use Rattle.vacuum_engine.specs.Exact.{EngineExact}
 use Rattle.vacuum_engine.proofs.Failing.{open_there, failing-agrees}
 use Rattle.waits.specs.View.{wait_in}
 use Rattle.waits.proofs.WaitLemmas.{wait_in-set, nobody_waits}
-use Rattle.session_core.specs.State.{WaitingView, WaitsAgree, WaitingAgrees, ended, blocked, freed, with_waits}
+use Rattle.session_core.specs.State.{WaitingView, noted_wait, WaitingAgrees, freed, with_waits}
 use Rattle.session_core.proofs.WaitingLaws.{UnblockedFollows, UnblockedIsExact, BlockedFollows, DeadlockFollows, NewIsWaiting}
 use Rattle.session_core.proofs.WaitsAfter.{length-ended, length-freed, ended-stepped, next-waits}
 
@@ -49,16 +49,14 @@ never_deadlock w _ allows = allows
 -- Answered otherwise than Busy.
 
 plainly : (old : WaitingView) (step : Step) (reply : Reply) (below : EngineView) → EngineFollows old.engine step reply below → (w : World) → WaitingAgrees old w
-    → Allows w step reply × WaitingAgrees (with_waits below (freed step reply (ended (session_of step) old.waits))) (next w step reply)
+    → Allows w step reply × WaitingAgrees (with_waits below (freed step reply (noted_wait (session_of step) None old.waits))) (next w step reply)
     × KeepsAllTargets old.engine.core below.core × StaysBelow below × OnEnd reply ((v : VacuumView) → old.engine.vacuum ≡ Some v → EndsWell old.engine below w v)
 plainly old step reply below follows w agrees = let f = follows w agrees.engine in (
   f.0,
   record {
     engine = f.1;
-    waits = record {
-      count = length-freed step reply (ended (session_of step) old.waits) ∙ (length-ended (session_of step) old.waits ∙ agrees.waits.count);
-      same = next-waits old.waits w agrees.waits.same step reply f.0;
-    };
+    count = length-freed step reply (noted_wait (session_of step) None old.waits) ∙ (length-ended (session_of step) old.waits ∙ agrees.count);
+    waits = next-waits old.waits w agrees.waits step reply f.0;
   },
   f.2,
   f.3,
@@ -104,12 +102,12 @@ busy-within e w step s o is agrees allows =
     let there = open_there e.engine.core w s agrees.engine.core (some-open w s m.0 m.1) in
     let within = open-within e.engine.core.sessions s there.0 there.1 in
     let count = agrees.engine.core.sound.count in
-    let places = agrees.waits.count in
+    let places = agrees.count in
     omega (arith, within, count, places)
 
 -- the rings are those of the world
-same-ring : (e : WaitingView) (w : World) (s o : ℕ) → WaitsAgree e w → ClosesRing (wait_in e.waits) s o ≡ ClosesRing w.waits_for s o
-same-ring e w s o agrees = ap (λ waits. ClosesRing waits s o) (fun_ext agrees.same)
+same-ring : (e : WaitingView) (w : World) (s o : ℕ) → WaitingAgrees e w → ClosesRing (wait_in e.waits) s o ≡ ClosesRing w.waits_for s o
+same-ring e w s o agrees = ap (λ waits. ClosesRing waits s o) (fun_ext agrees.waits)
 
 -- and leaves the core as it was
 busy-stays : (old : EngineView) (step : Step) (s o : ℕ) (below : EngineView) → session_of step ≡ Some s → EngineExact old step (reply.Refused (refusal.Busy o)) below
@@ -127,22 +125,20 @@ blocked-agrees : (old : WaitingView) (step : Step) (s o : ℕ) (below : EngineVi
     → (w : World) → WaitingAgrees old w → WaitingAgrees (with_waits below (set old.waits s (Some o))) (blocked_by w s o)
 blocked-agrees old step s o below is follows w agrees = record {
   engine = engine-waits below (stepped w s) (blocked_by w s o).waits_for (busy-passed old.engine step s o below is follows w agrees.engine);
-  waits = record {
-    count = length-set old.waits s (Some o) ∙ agrees.waits.count;
-    same = λ t. wait_in-set old.waits s (Some o) (busy-within old w step s o is agrees (follows w agrees.engine).0) t ∙ ap (cond (nat_eq t s) (Some o)) (agrees.waits.same t);
-  };
+  count = length-set old.waits s (Some o) ∙ agrees.count;
+  waits = λ t. wait_in-set old.waits s (Some o) (busy-within old w step s o is agrees (follows w agrees.engine).0) t ∙ ap (cond (nat_eq t s) (Some o)) (agrees.waits t);
 }
 
 pub blocked-follows : BlockedFollows
 blocked-follows old step s o below is free follows exact = (
   λ w agrees. let f = follows w agrees.engine in (
-    (f.0, λ t is' ring. free (subst (λ (P : Type 0). P) (sym (same-ring old w s o agrees.waits)) (subst (λ n. ClosesRing w.waits_for n o) (same_Some t s (sym is' ∙ is)) ring))),
+    (f.0, λ t is' ring. free (subst (λ (P : Type 0). P) (sym (same-ring old w s o agrees)) (subst (λ n. ClosesRing w.waits_for n o) (same_Some t s (sym is' ∙ is)) ring))),
     subst (λ t. WaitingAgrees (with_waits below (set old.waits s (Some o))) (by_its_session w (λ s. blocked_by w s o) t)) (sym is) (blocked-agrees old step s o below is follows w agrees),
     f.2,
     f.3,
     tt,
   ),
-  (exact, ap (λ t. blocked t o old.waits) (sym is)),
+  (exact, ap (λ t. noted_wait t (Some o) old.waits) (sym is)),
 )
 
 failed-agrees : (old : WaitingView) (step : Step) (s o : ℕ) (below : EngineView) → session_of step ≡ Some s → EngineFollows old.engine step (reply.Refused (refusal.Busy o)) below
@@ -152,13 +148,14 @@ failed-agrees old step s o below is follows w agrees =
     let failed = failing-agrees below (stepped w s) s (busy-passed old.engine step s o below is follows w agrees.engine) (some-open w s m.0 m.1) in
     record {
       engine = engine-waits (failed_at below s) (change (stepped w s) s as_failed) (change w s as_failed).waits_for failed.0;
-      waits = record { count = length-set old.waits s None ∙ agrees.waits.count; same = ended-stepped old.waits w agrees.waits.same s };
+      count = length-set old.waits s None ∙ agrees.count;
+      waits = ended-stepped old.waits w agrees.waits s;
     }
 
 pub deadlock-follows : DeadlockFollows
 deadlock-follows old step s o below is ring follows exact = (
   λ w agrees. let f = follows w agrees.engine in (
-    (s, o, is, f.0, subst (λ (P : Type 0). P) (same-ring old w s o agrees.waits) ring),
+    (s, o, is, f.0, subst (λ (P : Type 0). P) (same-ring old w s o agrees) ring),
     subst (λ t. WaitingAgrees (with_waits (failed_at below s) (set old.waits s None)) (by_its_session w (λ s. change w s as_failed) t)) (sym is) (failed-agrees old step s o below is follows w agrees),
     f.2,
     f.3,
@@ -178,5 +175,5 @@ pub new-is_waiting : NewIsWaiting
 new-is_waiting asked e is = record {
   engine = is;
   waits = refl;
-  agrees = record { engine = is.agrees; waits = record { count = length-replicate {A = Option ℕ} 64 None; same = λ s. nobody_waits 64 s } };
+  agrees = record { engine = is.agrees; count = length-replicate {A = Option ℕ} 64 None; waits = λ s. nobody_waits 64 s };
 }

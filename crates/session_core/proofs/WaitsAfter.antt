@@ -14,10 +14,10 @@ use Rattle.calls.specs.Steps.{session_of}
 use Rattle.refinement.specs.Allowed.{Allows, by_its_session, after_refused_write, next}
 use Rattle.waits.specs.View.{wait_in}
 use Rattle.waits.proofs.WaitLemmas.{wait_in-ended, wait_in-kept}
-use Rattle.session_core.specs.State.{ended, woken, given_back, freed}
+use Rattle.session_core.specs.State.{noted_wait, woken, given_back, freed}
 
 -- no list of waits changes its length
-pub length-ended : (s : Option ℕ) (waits : List (Option ℕ)) → length (ended s waits) ≡ length waits
+pub length-ended : (s : Option ℕ) (waits : List (Option ℕ)) → length (noted_wait s None waits) ≡ length waits
 length-ended None waits = refl
 length-ended (Some s) waits = length-set waits s None
 
@@ -49,7 +49,7 @@ module _ (waits : List (Option ℕ)) (w : World) (same : (t : ℕ) → wait_in w
   pub ended-stepped : (s t : ℕ) → wait_in (set waits s None) t ≡ (stepped w s).waits_for t
   ended-stepped s t = wait_in-ended waits s t ∙ ap (cond (nat_eq t s) None) (same t)
 
-  passed-ended : (s : Option ℕ) (t : ℕ) → wait_in (ended s waits) t ≡ (by_its_session w (stepped w) s).waits_for t
+  passed-ended : (s : Option ℕ) (t : ℕ) → wait_in (noted_wait s None waits) t ≡ (by_its_session w (stepped w) s).waits_for t
   passed-ended None t = same t
   passed-ended (Some s) t = ended-stepped s t
 
@@ -61,7 +61,7 @@ module _ (waits : List (Option ℕ)) (w : World) (same : (t : ℕ) → wait_in w
   refused-write s _ t = ended-stepped s t
 
   -- where the reply is not Busy, the world has the same waits after it
-  pub next-waits : (step : Step) (reply : Reply) → Allows w step reply → (t : ℕ) → wait_in (freed step reply (ended (session_of step) waits)) t ≡ (next w step reply).waits_for t
+  pub next-waits : (step : Step) (reply : Reply) → Allows w step reply → (t : ℕ) → wait_in (freed step reply (noted_wait (session_of step) None waits)) t ≡ (next w step reply).waits_for t
   next-waits (step.Begin s) reply.Done allows t = ended-stepped s t
   next-waits (step.BeginReadCommitted s) reply.Done allows t = ended-stepped s t
   next-waits (step.Insert s row) reply.Done allows t = ended-stepped s t
@@ -92,4 +92,4 @@ module _ (waits : List (Option ℕ)) (w : World) (same : (t : ℕ) → wait_in w
   next-waits step.VacuumStep (reply.Ended first) allows t = same t
   next-waits step.VacuumCancel reply.Done allows t = same t
   next-waits (step.CreateIndex c) reply.Done allows t = same t ∙ sym (index-waits w (suc c) (w.has_index (suc c)) t)
-  next-waits step reply allows t = ap (λ xs. wait_in xs t) (freed-as step reply (ended (session_of step) waits) (λ xs. refl)) ∙ passed-ended (session_of step) t
+  next-waits step reply allows t = ap (λ xs. wait_in xs t) (freed-as step reply (noted_wait (session_of step) None waits) (λ xs. refl)) ∙ passed-ended (session_of step) t

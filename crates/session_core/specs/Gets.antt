@@ -19,13 +19,9 @@ whether_found (Ok row) = Ok (is_some row)
 whether_found (Err refusal) = Err refusal
 
 -- the place with the row, if there is one
-abbrev pub place_of : Option Row → RowPlace → RowPlace
-place_of (Some row) place = place_with row place
-place_of None place = place
-
 abbrev pub place_of_found : Result (Option Row) Refusal → RowPlace → RowPlace
-place_of_found (Ok row) place = place_of row place
-place_of_found (Err refusal) place = place
+place_of_found (Ok (Some row)) place = place_with row place
+place_of_found found place = place
 
 -- A row was found, or none, or the look was refused; the answer says so, and the place has the row. Nothing else changes.
 pub record LooksUp (core : State) (s key : ℕ) (place : RowPlace) (answer : Result Bool Refusal) (after : RowPlace) : Type 0 where

@@ -28,26 +28,18 @@ with_waits e waits = record { engine = e; waits = waits }
 abbrev pub wait_at : WaitingView → SessionNo → Option SessionNo
 wait_at e s = wait_in e.waits s
 
--- each session waits for whom it waits in the world
-pub record WaitsAgree (e : WaitingView) (w : World) : Type 0 where
-  pub count : length e.waits ≡ MOST_SESSIONS
-  pub same : (s : SessionNo) → wait_at e s ≡ w.waits_for s
-
+-- the engine below agrees with the world, and each session waits for whom it waits there
 pub record WaitingAgrees (e : WaitingView) (w : World) : Type 0 where
   pub engine : EngineAgrees e.engine w
-  pub waits : WaitsAgree e w
+  pub count : length e.waits ≡ MOST_SESSIONS
+  pub waits : (s : SessionNo) → wait_at e s ≡ w.waits_for s
 
 -- What a step does to the waits.
 
--- the session's own wait has ended
-abbrev pub ended : Option SessionNo → List (Option SessionNo) → List (Option SessionNo)
-ended None waits = waits
-ended (Some s) waits = slice_set waits s None
-
--- the session waits for o
-abbrev pub blocked : Option SessionNo → (o : SessionNo) → List (Option SessionNo) → List (Option SessionNo)
-blocked None o waits = waits
-blocked (Some s) o waits = slice_set waits s (Some o)
+-- the session, if the step is one's, waits for this one from then on, or for none
+abbrev pub noted_wait : Option SessionNo → Option SessionNo → List (Option SessionNo) → List (Option SessionNo)
+noted_wait None o waits = waits
+noted_wait (Some s) o waits = slice_set waits s o
 
 -- nobody waits for the session any more
 abbrev pub woken : SessionNo → List (Option SessionNo) → List (Option SessionNo)
@@ -67,5 +59,5 @@ freed step reply waits = given_back step waits
 
 -- The waits after a reply: by any step the session's own wait ends, and by Busy one begins.
 abbrev pub waits_after : Step → Reply → List (Option SessionNo) → List (Option SessionNo)
-waits_after step (reply.Refused (refusal.Busy o)) waits = blocked (session_of step) o waits
-waits_after step reply waits = freed step reply (ended (session_of step) waits)
+waits_after step (reply.Refused (refusal.Busy o)) waits = noted_wait (session_of step) (Some o) waits
+waits_after step reply waits = freed step reply (noted_wait (session_of step) None waits)

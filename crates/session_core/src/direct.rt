@@ -1,12 +1,12 @@
 //! Steps of sessions by a call each, which makes no `Step` and no `Reply`.
 
-ghost use Rattle.std.specs.Prelude.{◌≡◌};
+ghost use Rattle.std.specs.Prelude.{◌≡◌, Ok};
 ghost use Rattle.std.specs.Option.{is_some};
 ghost use Rattle.calls.specs.declared.step.Step.{Step};
 ghost use Rattle.session_steps.specs.Replies.{reply_to};
 ghost use Rattle.session_steps.specs.Writes.{worded};
 ghost use Rattle.session_core.specs.Clauses.{WaitingFollows, WaitingExact};
-ghost use Rattle.session_core.specs.Gets.{EngineGets, LooksUp, place_of};
+ghost use Rattle.session_core.specs.Gets.{EngineGets, LooksUp, place_of_found};
 
 use crate::engine::Engine;
 use calls::{Refusal, Row};
@@ -17,7 +17,7 @@ use tuple_header::{RowPlace, RowRef};
 #[inline(always)]
 fn put_found(found: Option<RowRef<'_>>, place: &mut RowPlace) -> bool
     ensures found { result ≡ is_some found.entry }
-    ensures placed { place.new ≡ place_of found.entry place.old }
+    ensures placed { place.new ≡ place_of_found (Ok found.entry) place.old }
 {
     match found {
         Some(row) => {

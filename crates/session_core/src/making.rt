@@ -2,7 +2,8 @@
 
 ghost use Rattle.std.specs.Prelude.{◌≡◌, ◌↔◌, IsTrue, IsSome};
 ghost use Rattle.session_steps.specs.Making.{LacksIndexOn};
-ghost use Rattle.vacuum_engine.specs.Exact.{ExactCreateIndex};
+ghost use Rattle.calls.specs.declared.step.Step.TheVariants as step;
+ghost use Rattle.vacuum_engine.specs.Exact.{EngineExact};
 
 use crate::engine::Engine;
 use calls::{Refusal, Reply};
@@ -20,7 +21,8 @@ impl Engine {
     /// it. Refusals in order: NoSuchIndex; VacuumRunning, which notes in that vacuum that it is not alone; IndexBusy, while an open
     /// session has an id; NoMemory, which changes nothing.
     pub(crate) fn create_index(&mut self, column: u8, reply: &mut Reply)
-        ensures exact { ExactCreateIndex self.old.engine column reply.new self.new.engine }
+        ensures exact { EngineExact self.old.engine (step.CreateIndex column)
+            reply.new self.new.engine }
         ensures waits { self.new.waits ≡ self.old.waits }
     {
         let barred = self.vacuum_bars_index(column);

@@ -4,7 +4,8 @@ ghost use Rattle.std.specs.Prelude.{◌≡◌, None, MatchOption};
 ghost use Rattle.std.specs.Option.{option_map};
 ghost use Rattle.status_cache.specs.Held.{held_from};
 ghost use Rattle.session_steps.specs.Vacuums.{Forgets};
-ghost use Rattle.vacuum_engine.specs.Exact.{ExactVacuumBegin, ExactVacuumStep, ExactVacuumCancel};
+ghost use Rattle.calls.specs.declared.step.Step.TheVariants as step;
+ghost use Rattle.vacuum_engine.specs.Exact.{EngineExact};
 
 use crate::engine::Engine;
 use calls::{Mode, Refusal, Reply};
@@ -24,7 +25,8 @@ impl Engine {
     /// Begins a vacuum of this mode. It fixes the horizon, the cutoff, the pages that it visits and how many entries the indexes have.
     /// Refusals: VacuumRunning. It takes no memory.
     pub(crate) fn begin_vacuum(&mut self, mode: Mode, reply: &mut Reply)
-        ensures exact { ExactVacuumBegin self.old.engine mode reply.new self.new.engine }
+        ensures exact { EngineExact self.old.engine (step.VacuumBegin mode)
+            reply.new self.new.engine }
         ensures waits { self.new.waits ≡ self.old.waits }
     {
         if let Some(vacuum) = &mut self.vacuum {
@@ -38,7 +40,7 @@ impl Engine {
 
     /// Does the next step of the vacuum, and answers what it did, or that it has ended. Refusals: NoVacuum. It takes no memory.
     pub(crate) fn step_vacuum(&mut self, reply: &mut Reply)
-        ensures exact { ExactVacuumStep self.old.engine reply.new self.new.engine }
+        ensures exact { EngineExact self.old.engine step.VacuumStep reply.new self.new.engine }
         ensures waits { self.new.waits ≡ self.old.waits }
     {
         let Some(vacuum) = &mut self.vacuum else {
@@ -85,7 +87,7 @@ impl Engine {
 
     /// Drops the vacuum. Its work stays. Refusals: NoVacuum. It takes no memory.
     pub(crate) fn cancel_vacuum(&mut self, reply: &mut Reply)
-        ensures exact { ExactVacuumCancel self.old.engine reply.new self.new.engine }
+        ensures exact { EngineExact self.old.engine step.VacuumCancel reply.new self.new.engine }
         ensures waits { self.new.waits ≡ self.old.waits }
     {
         if self.vacuum.is_none() {

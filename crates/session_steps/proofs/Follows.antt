@@ -44,7 +44,7 @@ use Rattle.sessions.specs.declared.session.Session.{Session}
 use Rattle.sessions.specs.declared.session.SessionIsolation.{SessionIsolation}
 use Rattle.sessions.specs.declared.session.SessionIsolation.TheVariants.{BySnapshot, ByStatement}
 use Rattle.visibility.specs.Visible.{state_of}
-use Rattle.session_steps.specs.State.{State, session_at, put_session, seen, position_of, reader_of, isolation_seen, failed_session, engine_sessions}
+use Rattle.session_steps.specs.State.{State, session_at, put_session, seen, position_of, reader_of, isolation_seen, engine_sessions}
 use Rattle.sessions.specs.Session.{kept_by, IsByStatement, is_too_new, holds_back, held_back}
 use Rattle.sessions.specs.Places.{open_at}
 use Rattle.sound_entries.specs.Since.{MayScanSince}
@@ -62,7 +62,7 @@ use Rattle.refinement.specs.Heap.{seen_sessions}
 use Rattle.session_steps.proofs.InUse.{SameMarks, used-still, same-used, marks-stay, marks-close, no-cursor, scans-as, scans-put, agree}
 use Rattle.session_steps.proofs.Scanning.{now-scans}
 use Rattle.session_steps.proofs.OwnIdsLemmas.{open-within, open-set_cases}
-use Rattle.session_steps.proofs.StateLemmas.{only-set}
+use Rattle.session_steps.proofs.StateLemmas.{failed_session, only-set}
 use Rattle.session_steps.proofs.Windows.{Finishes-from, SameSight-finish, decided}
 use Rattle.session_steps.proofs.Owns.{reader-is, now_taken, taken-fresh, taken-within}
 use Rattle.session_steps.proofs.WrittenLemmas.{ReadsOrFails, makes-none, written-begins, written-ends, written-stays}

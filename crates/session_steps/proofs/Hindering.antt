@@ -16,14 +16,14 @@ use Rattle.refinement.specs.Allowed.{next}
 use Rattle.refinement.specs.Finds.{BeginsWrite}
 use Rattle.refinement.proofs.Hindrances as hindrances
 use Rattle.sessions.specs.declared.session.Session.{Session}
-use Rattle.session_steps.specs.State.{State, session_at, put_session, with_failed, refused_state, seen, reader_of, failed_session, engine_sessions}
+use Rattle.session_steps.specs.State.{State, session_at, put_session, with_failed, refused_state, seen, reader_of, engine_sessions}
 use Rattle.session_steps.specs.Agrees.{Agrees, Follows, WrittenAgrees}
 use Rattle.session_steps.specs.Tests.{BarsBegin, MayAct, FindsPlace, IsLateKey, IsHeld, RefusesInsertOfKey, RefusesChangeOfKey}
 use Rattle.session_steps.specs.Exact.{ExactWrite, Exact, AnswersStep}
 use Rattle.refinement.proofs.Runs.{same_indexes, unmade}
 use Rattle.session_steps.proofs.InUse.{SameMarks, used-still, marks-put, agree}
 use Rattle.session_steps.proofs.OwnIdsLemmas.{open-within}
-use Rattle.session_steps.proofs.StateLemmas.{only-set}
+use Rattle.session_steps.proofs.StateLemmas.{failed_session, only-set}
 use Rattle.session_steps.proofs.Owns.{reader-is}
 use Rattle.session_steps.proofs.WrittenLemmas.{written-fails}
 use Rattle.session_steps.proofs.Searches.{late-to, not-late, held-to, begins-none, begins-some, place-to}

@@ -16,7 +16,8 @@ use Rattle.session_steps.specs.State.{State, session_at, put_session}
 use Rattle.session_steps.specs.Keeps.{EngineKeeps}
 use Rattle.sessions.specs.Places.{open_at}
 use Rattle.session_steps.specs.Agrees.{Follows}
-use Rattle.session_steps.specs.Changes.{SetsSavepoint, Releases, RollsBack}
+use Rattle.session_steps.specs.Changes.{RollsBack}
+use Rattle.session_steps.proofs.Returning.{SetsSavepoint, Releases}
 use Rattle.session_steps.specs.Tests.{MayAct}
 use Rattle.session_steps.proofs.OwnIdsLemmas.{keep-dropped}
 use Rattle.session_steps.proofs.StateLemmas.{with_own}

@@ -8,7 +8,6 @@ use Rattle.snapshot.specs.Own.{Own, older, ArePrefixes, AreDistinct}
 use Rattle.snapshot.proofs.Levels.{distinct-prefix}
 use Rattle.sessions.specs.declared.session.Session.{Session}
 use Rattle.session_steps.specs.Agrees.{SessionKeeps}
-use Rattle.session_steps.specs.Changes.{SetsSavepoint, Releases}
 use Rattle.session_steps.proofs.StateLemmas.{with_own}
 
 -- the ids stay
@@ -20,6 +19,16 @@ keeps-ids w e own ids prefixes h = record {
   prefixes = subst (λ xs. ArePrefixes xs own.saved) (sym ids) prefixes;
   distinct = subst AreDistinct (sym ids) h.distinct;
 }
+
+-- there is one savepoint more, at which the ids are those that there are now
+pub record SetsSavepoint (own own' : Own) : Type 0 where
+  pub ids : own'.ids ≡ own.ids
+  pub saved : own'.saved ≡ own.ids ∷ own.saved
+
+-- the newest savepoint is forgotten, and the ids stay
+pub record Releases (own own' : Own) : Type 0 where
+  pub ids : own'.ids ≡ own.ids
+  pub saved : own'.saved ≡ older own.saved
 
 pub keeps-saved : (w : Window) (e : Session) (own : Own) → SetsSavepoint e.own own → SessionKeeps w e → SessionKeeps w (with_own e own)
 keeps-saved w e own sets h = keeps-ids w e own sets.ids (subst (λ saved. ArePrefixes e.own.ids saved) (sym sets.saved) ([], sym (append-nil e.own.ids), h.prefixes)) h

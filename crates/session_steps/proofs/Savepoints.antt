@@ -29,14 +29,14 @@ use Rattle.visibility.specs.Visible.{state_of}
 use Rattle.session_steps.specs.State.{State, session_at, put_session, seen, position_of, reader_of, engine_sessions}
 use Rattle.history.specs.Moves.{change, with_savepoint, to_savepoint, without_savepoint}
 use Rattle.session_steps.specs.Agrees.{Agrees, Follows, KeepsAllTargets, NameIds, WrittenAgrees}
-use Rattle.session_steps.specs.Changes.{SetsSavepoint, Releases, RollsBack}
+use Rattle.session_steps.specs.Changes.{RollsBack}
 use Rattle.session_steps.proofs.OwnIdsLemmas.{open-within}
 use Rattle.session_steps.proofs.StateLemmas.{only-set}
 use Rattle.session_steps.proofs.Windows.{Finishes-from, SameSight-finish}
 use Rattle.session_steps.proofs.Owns.{reader-is}
 use Rattle.session_steps.proofs.WrittenLemmas.{written-put}
 use Rattle.session_steps.proofs.StateLemmas.{with_own}
-use Rattle.session_steps.proofs.Returning.{returned, keeps-saved, keeps-released}
+use Rattle.session_steps.proofs.Returning.{SetsSavepoint, Releases, returned, keeps-saved, keeps-released}
 use Rattle.session_steps.proofs.Ends.{rolls-back-sound}
 use Rattle.session_steps.proofs.InUse.{SameMarks, used-still, same-used, marks-put, scans-as, agree}
 use Rattle.session_steps.proofs.Follows.{Follows-same, closed_by, free_by, some-position, led-same, Sound-put}

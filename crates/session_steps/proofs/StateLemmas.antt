@@ -14,11 +14,14 @@ use Rattle.calls.specs.Bars.{BarsOpen}
 use Rattle.refinement.proofs.Steps.{OnlyIs}
 use Rattle.snapshot.specs.Own.{Own}
 use Rattle.sessions.specs.declared.session.Session.{Session}
-use Rattle.session_steps.specs.State.{State, session_at, put_session, reader_of, failed_session, with_failed, engine_sessions, seen}
+use Rattle.session_steps.specs.State.{State, session_at, put_session, reader_of, with_failed, engine_sessions, seen}
 use Rattle.session_steps.specs.Keeps.{EngineKeeps}
 use Rattle.sessions.specs.Places.{open_at}
 use Rattle.session_steps.proofs.OwnIdsLemmas.{open-set_same, open-set_other, keep-open, keep-close, keep-idle, keep-same}
 use Rattle.sessions.proofs.PlaceLemmas.{none-open}
+
+abbrev pub failed_session : Session → Session
+failed_session e = record e { failed = true }
 
 pub keeps-idle : (xs : List (Option Session)) (w : Window) → w.entries ≡ [] → xs ≡ replicate 64 None → length xs ≡ 64 → EngineKeeps xs w
 keeps-idle xs w no_ids is count = record {

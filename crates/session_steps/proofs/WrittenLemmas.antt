@@ -19,7 +19,8 @@ use Rattle.calls.specs.Steps.{session_of}
 use Rattle.refinement.specs.Allowed.{by_its_session, after_refused_write, next}
 use Rattle.refinement.proofs.Runs.{MakesNoIndex}
 use Rattle.sessions.specs.declared.session.Session.{Session}
-use Rattle.session_steps.specs.State.{State, session_at, put_session, reader_of, failed_session}
+use Rattle.session_steps.specs.State.{State, session_at, put_session, reader_of}
+use Rattle.session_steps.proofs.StateLemmas.{failed_session}
 use Rattle.session_steps.specs.Agrees.{Agrees, names_id, NameIds, WrittenAgrees}
 use Rattle.session_steps.specs.Making.{SomeoneHasId, NobodyHasId}
 use Rattle.session_steps.proofs.OwnIdsLemmas.{open-within, open-set_cases}

@@ -1,6 +1,6 @@
 -- What the engine's own changes do to its state.
 use Rattle.std.specs.Prelude.{◌≡◌, ℕ, List, [], ◌∷◌, ◌++◌, Some, None, false, slice_set}
-use Rattle.snapshot.specs.Own.{Own, newest, older}
+use Rattle.snapshot.specs.Own.{Own, newest}
 use Rattle.commit_status.specs.declared.status.Status.{Status}
 use Rattle.commit_status.specs.declared.status.Status.TheVariants.{Aborted}
 use Rattle.commit_status.specs.Window.{IsWindow}
@@ -30,23 +30,14 @@ pub record Closes (old new : State) (s : ℕ) (status : Status) : Type 0 where
 
 -- Savepoints.
 
--- nothing changes but the own ids of an open session
-pub record SessionBecomes (old new : State) (s : ℕ) (changes : Own → Own → Type 0) : Type 0 where
+-- nothing changes but the savepoints of an open session, which keeps its ids
+pub record SavepointsBecome (old new : State) (s : ℕ) (saved_of : Own → List (List ℕ)) : Type 0 where
   pub session : Session
   pub at : session_at old s ≡ Some session
   pub own : Own
   pub is : new ≡ put_session old s (Some (record session { own = own }))
-  pub change : changes session.own own
-
--- there is one savepoint more, at which the ids are those that there are now
-pub record SetsSavepoint (own own' : Own) : Type 0 where
-  pub ids : own'.ids ≡ own.ids
-  pub saved : own'.saved ≡ own.ids ∷ own.saved
-
--- the newest savepoint is forgotten, and the ids stay
-pub record Releases (own own' : Own) : Type 0 where
-  pub ids : own'.ids ≡ own.ids
-  pub saved : own'.saved ≡ older own.saved
+  pub ids : own.ids ≡ session.own.ids
+  pub saved : own.saved ≡ saved_of session.own
 
 -- An open session returns to its newest savepoint: it has the ids that it had there, keeps its savepoints, and has not failed; the ids that
 -- it was given since are aborted. Nothing else changes.

@@ -1,16 +1,15 @@
 -- What the history leaves to an engine: what a write does to its own ids and pages, when it finds no id, no room or no memory,
 -- and what a refusal leaves as it was.
-use Rattle.std.specs.Prelude.{◌≡◌, ℕ, ◌<◌, ◌≤◌, length, Bool, true, false, Option, Some, None, IsSome, Result, Ok, Err, slice_set}
+use Rattle.std.specs.Prelude.{◌≡◌, ℕ, ◌<◌, ◌≤◌, ◌∷◌, length, Bool, true, false, Option, Some, None, IsSome, Result, Ok, Err, slice_set}
 use Rattle.std.specs.Option.{option_map}
 use Rattle.xid_circle.specs.declared.Tid.{Tid}
 use Rattle.commit_status.specs.declared.status.Status.TheVariants as status
 use Rattle.commit_status.specs.Window.{next_id}
-use Rattle.snapshot.specs.Own.{Own}
+use Rattle.snapshot.specs.Own.{Own, older}
 use Rattle.snapshot.specs.Snap.{Snap, taken}
+use Rattle.prune.specs.Checks.{Checks}
+use Rattle.heap_write.specs.Heap.{page_on}
 use Rattle.heap_write.specs.Writes.{Prunes, Applies}
-use Rattle.heap_write.specs.Refusals.{Unapplied}
-use Rattle.heap_write.specs.declared.applying.ApplyFault.{ApplyFault}
-use Rattle.heap_write.specs.declared.applying.ApplyFault.TheVariants as apply_fault
 use Rattle.heap_write.specs.declared.heap.WriteFault.{WriteFault}
 use Rattle.heap_write.specs.declared.heap.WriteFault.TheVariants as fault
 use Rattle.calls.specs.declared.step.Step.{Step}
@@ -29,7 +28,7 @@ use Rattle.table_scans.specs.declared.progress.Scan.TheVariants.{Index, Heap}
 use Rattle.session_steps.specs.State.{State, session_at, engine_index, put_session, with_cursor, with_kept, refused_state, horizon_of}
 use Rattle.sessions.specs.Session.{IsByStatement, is_too_new, owns_of}
 use Rattle.session_steps.specs.Agrees.{FollowsByNotes}
-use Rattle.session_steps.specs.Changes.{Opens, Closes, SetsSavepoint, Releases, SessionBecomes, RollsBack}
+use Rattle.session_steps.specs.Changes.{Opens, Closes, SavepointsBecome, RollsBack}
 use Rattle.session_steps.specs.Takes.{HandsOut, HandsOutByKeys}
 use Rattle.session_steps.specs.Tests.{MayAct, MayTry}
 use Rattle.session_steps.specs.Tickets.{SeesOnPage, RefusesRows}
@@ -63,10 +62,6 @@ pub record Cleans (old new : State) (p : ℕ) : Type 0 where
 pub record AppliesPlan (old new : State) (p : ℕ) (plan : PlanToApply) : Type 0 where
   pub is : new ≡ record old { heap = new.heap }
   pub heap : Applies old.heap new.heap p (horizon_of old) plan.change plan.actions
-
--- a plan is not applied to the page, for this reason, and all stays
-abbrev pub LeavesPlan : State → ℕ → PlanToApply → ApplyFault → State → Type 0
-LeavesPlan old p plan fault new = Unapplied old.heap p (horizon_of old) plan.change plan.actions fault × (new ≡ old)
 
 -- the snapshot that is taken now
 abbrev pub snapshot_of : State → Snap
@@ -115,10 +110,10 @@ Exact old (step.Insert s row) reply new = ExactWrite old s (inserts row) reply n
 Exact old (step.Update s row) reply new = ExactWrite old s (updates row) reply new
 Exact old (step.Delete s key) reply new = ExactWrite old s (deletes key) reply new
 Exact old (step.Get s key) reply new = new ≡ old
-Exact old (step.Savepoint s) reply.Done new = SessionBecomes old new s SetsSavepoint
+Exact old (step.Savepoint s) reply.Done new = SavepointsBecome old new s (λ own. own.ids ∷ own.saved)
 Exact old (step.Savepoint s) (reply.Refused refusal.NoMemory) new = MustNote old s × (new ≡ old)
 Exact old (step.RollbackTo s) reply.Done new = RollsBack old new s
-Exact old (step.Release s) reply.Done new = SessionBecomes old new s Releases
+Exact old (step.Release s) reply.Done new = SavepointsBecome old new s (λ own. older own.saved)
 Exact old (step.OpenIndex s index low high) reply.Done new = OpensCursor old new s (Rows (Index (record { index = index; low = low; high = high; last = None })))
 Exact old (step.OpenIndex s index low high) (reply.Refused refusal.NoSuchIndex) new = (engine_index old index ≡ None) × (new ≡ old)
 Exact old (step.OpenIndex s index low high) (reply.Refused refusal.IndexTooNew) new = IsSome (engine_index old index) × HasScanMark old s index true × (new ≡ old)
@@ -141,8 +136,8 @@ Exact old (step.Prune p) reply.Done new = Cleans old new p
 Exact old (step.Prune p) (reply.Refused refusal.NoSuchPage) new = (length old.heap.pages.pages ≤ p) × (new ≡ old)
 Exact old (step.Prune p) (reply.Refused refusal.NoMemory) new = ⊥
 Exact old (step.ApplyPlan p plan) reply.Done new = AppliesPlan old new p plan
-Exact old (step.ApplyPlan p plan) (reply.Refused refusal.NoSuchPage) new = LeavesPlan old p plan apply_fault.NoSuchPage new
-Exact old (step.ApplyPlan p plan) (reply.Refused refusal.Stale) new = LeavesPlan old p plan apply_fault.Stale new
+Exact old (step.ApplyPlan p plan) (reply.Refused refusal.NoSuchPage) new = (length old.heap.pages.pages ≤ p) × (new ≡ old)
+Exact old (step.ApplyPlan p plan) (reply.Refused refusal.Stale) new = ((p < length old.heap.pages.pages) × ¬ Checks old.heap.statuses (horizon_of old) (page_on old.heap p) plan.change plan.actions) × (new ≡ old)
 Exact old (step.ApplyPlan p plan) (reply.Refused refusal.NoMemory) new = ⊥
 Exact old step (reply.Refused refusal) new = new ≡ old
 Exact old step reply new = ⊥

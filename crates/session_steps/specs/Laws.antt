@@ -1,5 +1,5 @@
 -- What is found through an index, and what the horizon is.
-use Rattle.std.specs.Prelude.{◌≡◌, ℕ, ℤ, List, [], ◌∷◌, ◌++◌, length, Option, Some, None}
+use Rattle.std.specs.Prelude.{◌≡◌, ℕ, ℤ, List, [], ◌∷◌, ◌++◌, length, flat_map, Option, Some, None}
 use Rattle.xid_circle.specs.declared.Tid.{Tid}
 use Rattle.tuple_header.specs.declared.version.Row.{Row}
 use Rattle.tuple_header.specs.Version.{Version}
@@ -15,7 +15,7 @@ use Rattle.history.specs.History.{Write, Transaction, committed, reading}
 use Rattle.history.specs.World.{World, OpenSession, joined, start_now, view, MayScan}
 use Rattle.sessions.specs.declared.session.Session.{Session}
 use Rattle.session_steps.specs.State.{State, session_at, horizon_of}
-use Rattle.sessions.specs.Session.{statement_snapshot, kept_by, kept_xmin, owns_of}
+use Rattle.sessions.specs.Session.{statement_snapshot, kept_by, kept_xmin, open_ones, owns_of}
 use Rattle.session_steps.specs.Agrees.{Agrees}
 
 -- a version that the reader sees stands in a chain to which an entry of this value and this key leads, in the index of this
@@ -49,9 +49,7 @@ ViewsByIndex = (st : State) (w : World) → Agrees st w → (n : ℕ) → IsInUs
 
 -- what the open sessions have: the xmin of the snapshot that each keeps, if it keeps one, and all its ids
 abbrev pub all_held : List (Option Session) → List ℕ
-all_held [] = []
-all_held (None ∷ sessions) = all_held sessions
-all_held (Some e ∷ sessions) = (kept_xmin (kept_by e.isolation) ++ e.own.ids) ++ all_held sessions
+all_held sessions = flat_map (λ (e : Session). kept_xmin (kept_by e.isolation) ++ e.own.ids) (open_ones sessions)
 
 -- The horizon, for which each session's first id is asked alone, is the earliest of the next id, each kept snapshot's xmin and all
 -- open ids.

@@ -14,7 +14,6 @@ use Rattle.heap_write.specs.Heap.{HeapView, slots_of}
 use Rattle.calls.specs.declared.settings.Settings.{Settings}
 use Rattle.calls.specs.declared.step.Step.{Step}
 use Rattle.calls.specs.declared.step.Step.TheVariants as step
-use Rattle.calls.specs.Steps.{is_vacuum_step}
 use Rattle.calls.specs.declared.reply.Refusal.{Refusal}
 use Rattle.calls.specs.declared.reply.Refusal.TheVariants as refusal
 use Rattle.calls.specs.Bars.{SessionLooks}
@@ -56,8 +55,7 @@ isolation_seen (ByStatement kept) = relation.seen_by_statement kept
 
 -- how far the cursor has got, as the relation has it
 abbrev pub seen_position : Option IndexPosition → Option relation.RowPosition
-seen_position None = None
-seen_position (Some m) = Some (record { value = m.value; key = m.key })
+seen_position last = option_map (λ (m : IndexPosition). record { value = m.value; key = m.key }) last
 
 abbrev pub position_of : Option CursorScan → Option relation.Position
 position_of None = None
@@ -96,12 +94,9 @@ with_cursor cursor e = record e { cursor = cursor }
 abbrev pub with_kept : Option Snap → Session → Session
 with_kept kept e = record e { isolation = keeping kept e.isolation }
 
-abbrev pub failed_session : Session → Session
-failed_session e = record e { failed = true }
-
 -- the session has failed, if it is open
 abbrev pub with_failed : State → ℕ → State
-with_failed st s = put_session st s (option_map failed_session (session_at st s))
+with_failed st s = put_session st s (option_map (λ (e : Session). record e { failed = true }) (session_at st s))
 
 -- the engine after the refusal of a write: a conflict makes the session fail
 abbrev pub refused_state : State → ℕ → Refusal → State
@@ -111,5 +106,8 @@ refused_state st s refusal = st
 -- whether a step is answered above the sessions: each of a vacuum's, which is kept there; and the making of an index, which none
 -- may run beside
 abbrev pub is_answered_above : Step → Bool
+is_answered_above (step.VacuumBegin mode) = true
+is_answered_above step.VacuumStep = true
+is_answered_above step.VacuumCancel = true
 is_answered_above (step.CreateIndex c) = true
-is_answered_above step = is_vacuum_step step
+is_answered_above step = false

@@ -11,7 +11,7 @@ use Rattle.calls.specs.declared.reply.Refusal.TheVariants as refusal
 use Rattle.sessions.specs.declared.session.Session.{Session}
 use Rattle.session_steps.specs.State.{State, session_at}
 use Rattle.sessions.specs.Session.{statement_snapshot}
-use Rattle.calls.specs.Writes.{WriteStep, inserts, updates, deletes}
+use Rattle.calls.specs.Writes.{WriteStep, inserts, key_of}
 use Rattle.calls.specs.declared.step.TheConstants.{MOST_SESSIONS}
 
 -- what bars a session from a beginning, by snapshot or by statement
@@ -77,8 +77,7 @@ MayChangeKey st e key p = (FindsPlace st.heap e key (Some p) × IsUncontested st
 -- nothing keeps the session from the write. An update or a deletion is of the version at this place; an insert is of none
 abbrev pub MayTry : State → Session → WriteStep → (place : Tid) → Type 0
 MayTry st e (inserts row) place = MayInsertKey st e row.key
-MayTry st e (updates row) place = MayChangeKey st e row.key place
-MayTry st e (deletes key) place = MayChangeKey st e key place
+MayTry st e write place = MayChangeKey st e (key_of write) place
 
 -- what keeps it from inserting a row of the key
 abbrev pub RefusesInsertOfKey : State → Session → ℕ → Refusal → Type 0

@@ -1,5 +1,5 @@
 -- An open session: by which snapshots it reads, and what it holds back.
-use Rattle.std.specs.Prelude.{ℕ, ◌+◌, ◌*◌, Bool, true, false, List, [], ◌∷◌, ◌++◌, take, Option, Some, None, slice_index_or}
+use Rattle.std.specs.Prelude.{ℕ, ◌+◌, ◌*◌, Bool, true, false, List, [], ◌∷◌, ◌++◌, take, map, filter_map, flat_map, Option, Some, None, unwrap_or, slice_index_or}
 use Rattle.snapshot.specs.Snap.{Snap, empty_at}
 use Rattle.commit_status.specs.Window.{Window, next_id}
 use Rattle.sessions.specs.declared.session.Session.{Session}
@@ -24,11 +24,9 @@ abbrev pub statement_snapshot : Window → SessionIsolation → Snap
 statement_snapshot w (BySnapshot snap) = snap
 statement_snapshot w (ByStatement kept) = empty_at (next_id w)
 
--- and that by which the session's cursor does
+-- and that by which the session's cursor does: the one that it keeps
 abbrev pub cursor_snapshot : Window → SessionIsolation → Snap
-cursor_snapshot w (BySnapshot snap) = snap
-cursor_snapshot w (ByStatement (Some snap)) = snap
-cursor_snapshot w (ByStatement None) = empty_at (next_id w)
+cursor_snapshot w isolation = unwrap_or (kept_by isolation) (empty_at (next_id w))
 
 -- by statement the session keeps this from now on
 abbrev pub keeping : Option Snap → SessionIsolation → SessionIsolation
@@ -46,11 +44,13 @@ is_too_new e number = slice_index_or (false ∷ e.too_new) number false
 
 -- What the open sessions hold.
 
+-- the sessions that are open, in the order of their numbers
+abbrev pub open_ones : List (Option Session) → List Session
+open_ones sessions = filter_map (λ o. o) sessions
+
 -- the own ids of the open sessions
 abbrev pub owns_of : List (Option Session) → List (List ℕ)
-owns_of [] = []
-owns_of (None ∷ sessions) = owns_of sessions
-owns_of (Some e ∷ sessions) = e.own.ids ∷ owns_of sessions
+owns_of sessions = map (λ (e : Session). e.own.ids) (open_ones sessions)
 
 -- the xmin of a snapshot that is kept
 abbrev pub kept_xmin : Option Snap → List ℕ
@@ -62,9 +62,7 @@ abbrev pub holds_back : Session → List ℕ
 holds_back e = kept_xmin (kept_by e.isolation) ++ take 1 e.own.ids
 
 abbrev pub held_back : List (Option Session) → List ℕ
-held_back [] = []
-held_back (None ∷ sessions) = held_back sessions
-held_back (Some e ∷ sessions) = holds_back e ++ held_back sessions
+held_back sessions = flat_map holds_back (open_ones sessions)
 
 -- which sessions are open: a bit for each, the lowest for session 0
 abbrev pub open_bits : List (Option Session) → ℕ

@@ -5,7 +5,7 @@ use Rattle.tuple_header.specs.declared.row_place.RowPlace.{RowPlace}
 use Rattle.index_lookup.specs.declared.index_scan.IndexPosition.{IndexPosition}
 use Rattle.table_scans.specs.declared.progress.KeyRange.{KeyRange}
 use Rattle.table_scans.specs.Scans.{Sight}
-use Rattle.table_scans.specs.Keys.{IsNextKeyIn, NoKeyIsIn, keys_after, ScansKeys, keys_begin, keys_go_on, MeetsSomeKey, TakesKeys, place_with_key, places_with_keys, PutsKeys}
+use Rattle.table_scans.specs.Keys.{IsNextKeyIn, NoKeyIsIn, keys_after, ScansKeys, keys_begin, keys_go_on, MeetsSomeKey, TakesKeys, places_with_keys, PutsKeys}
 
 -- so many keys are met
 pub record HasMetKeys (t : Sight) (range left : KeyRange) (count : ℕ) (keys : List ℕ) : Type 0 where
@@ -54,6 +54,10 @@ pub no-key_taken : (t : Sight) (range left : KeyRange) (most : ℕ) (keys : List
 no-key_taken t range left most keys h none some = subst (NoKeyIsIn t) (no-key_scanned h.scans none) (h.all (omega arith))
 
 -- In places.
+
+-- a place once a key is written to it
+abbrev place_with_key : ℕ → RowPlace → RowPlace
+place_with_key key place = record place { key = key }
 
 -- the next key is written to the place behind them
 keyed-push : (keys : List ℕ) (places : List RowPlace) (key : ℕ) (d : RowPlace) → length keys < length places

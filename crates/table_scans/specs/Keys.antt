@@ -53,13 +53,9 @@ TakesNextKeys t range n answer = MatchOption answer (NoKeyIsIn t range) (λ foun
 
 -- Keys in places that a caller keeps.
 
--- a place once a key is written to it: all but its key stays
-abbrev pub place_with_key : ℕ → RowPlace → RowPlace
-place_with_key key place = record place { key = key }
-
--- the places once these keys are written to the first of them: all others stay
+-- the places once these keys are written to the first of them: all others stay, and all but the key of these
 abbrev pub places_with_keys : List ℕ → List RowPlace → List RowPlace
-places_with_keys (key ∷ keys) (place ∷ places) = place_with_key key place ∷ places_with_keys keys places
+places_with_keys (key ∷ keys) (place ∷ places) = record place { key = key } ∷ places_with_keys keys places
 places_with_keys keys places = places
 
 -- so many keys were written to the first places: as many as there are, or all that are left

@@ -1,5 +1,5 @@
 -- A page as it was at one moment, and what one reader saw of it then.
-use Rattle.std.specs.Prelude.{◌≡◌, List, [], ◌∷◌, Option, Some, None, length}
+use Rattle.std.specs.Prelude.{◌≡◌, List, [], ◌∷◌, Option, Some, None, length, option_to_list}
 use Rattle.std.specs.List.{flat_map}
 use Rattle.xid_circle.specs.Numbers.{SlotNo}
 use Rattle.tuple_header.specs.declared.version.Row.{Row}
@@ -12,13 +12,9 @@ pub record TicketView : Type 0 where
   -- the slots whose versions were seen
   pub seen : List SlotNo
 
-abbrev pub rows_of : Option Row → List Row
-rows_of None = []
-rows_of (Some row) = row ∷ []
-
 -- the rows of the versions in these slots
 abbrev pub rows_at : List Slot → List SlotNo → List Row
-rows_at slots numbers = flat_map (λ n. rows_of (row_at slots n)) numbers
+rows_at slots numbers = flat_map (λ n. option_to_list (row_at slots n)) numbers
 
 -- the rows that were seen
 abbrev pub ticket_rows : TicketView → List Row

@@ -11,6 +11,7 @@ use Rattle.session_steps.specs.State.{reader_of}
 use Rattle.session_steps.specs.Agrees as core_agrees
 use Rattle.session_steps.proofs.Follows.{same-back, led-same}
 use Rattle.session_steps.proofs.Hindering.{fails-agree}
+use Rattle.session_steps.proofs.StateLemmas.{failed_session}
 use Rattle.sound_vacuum.specs.Maps.{MapsAreTrue}
 use Rattle.sound_vacuum.specs.Vacuuming.{KeepsVacuum}
 use Rattle.vacuum_engine.specs.Laws.{FailingAgrees}
@@ -26,8 +27,8 @@ open_there st w s agrees some = of (core.session_at st s) refl
 -- it holds back what it held back
 failed-horizon : (st : core.State) (s : ℕ) (e : Session) → core.session_at st s ≡ Some e → core.horizon_of (core.with_failed st s) ≡ core.horizon_of st
 failed-horizon st s e at =
-    ap (λ o. core.horizon_of (core.put_session st s (option_map core.failed_session o))) at
-    ∙ ap (λ back. earliest (next_id st.heap.statuses) back) (same-back st.sessions s e (core.failed_session e) at refl)
+    ap (λ o. core.horizon_of (core.put_session st s (option_map failed_session o))) at
+    ∙ ap (λ back. earliest (next_id st.heap.statuses) back) (same-back st.sessions s e (failed_session e) at refl)
 
 pub failing-agrees : FailingAgrees
 failing-agrees e w s agrees some =

@@ -13,8 +13,7 @@ use Rattle.vacuum_passes.specs.Steps.{Steps}
 abbrev pub KeepsStore : VacuumView → Phase → Type 0
 KeepsStore v phase.Heap = (length v.store < v.limit)
     × ((tid : Tid) → Contains v.store tid → tid.page < v.next)
-KeepsStore v (phase.Index i from) = v.store ≢ []
-KeepsStore v phase.Free = v.store ≢ []
+KeepsStore v later = v.store ≢ []
 
 pub record IsVacuum (v : VacuumView) : Type 0 where
   pub within : v.next ≤ v.pages

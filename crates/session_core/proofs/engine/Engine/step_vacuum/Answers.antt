@@ -1,9 +1,10 @@
 use Rattle.std.proofs.Common.{Some, None, refl, sym, ap, ◌∙◌, subst}
+use Rattle.calls.specs.declared.step.Step.TheVariants as step
 use Rattle.calls.specs.declared.reply.Reply.{Reply}
 use Rattle.calls.specs.declared.reply.Reply.TheVariants as reply
 use Rattle.session_steps.specs.Vacuums.{VacuumWorks}
 use Rattle.session_core.specs.State.{WaitingView}
-use Rattle.vacuum_engine.specs.Exact.{DoesStep, ExactVacuumStep}
+use Rattle.vacuum_engine.specs.Exact.{DoesStep, EngineExact}
 use Rattle.session_steps.proofs.Forgetting.{steps-table}
 use Rattle.session_core.proofs.Stepping.{ended}
 use Rattle.session_core.proofs.Caching.{same-keeps}
@@ -23,17 +24,17 @@ returns-clause-exact c =
             is = refl;
             works = subst (λ (e : WaitingView). VacuumWorks e.engine.core c.vacuum_step.new.self c.in-Some.vacuum (Some c.vacuum_step.new.vacuum) (Some w.in-Some-vacuum_step.piece)) c.self.view_is w.in-Some-vacuum_step.ensures;
           } in
-          subst (λ (r : Reply). ExactVacuumStep old r c.match-vacuum_step.self.engine) (sym w.answer-is)
+          subst (λ (r : Reply). EngineExact old step.VacuumStep r c.match-vacuum_step.self.engine) (sym w.answer-is)
           (subst (λ (e : WaitingView). DoesStep old e.engine w.in-Some-vacuum_step.piece) (sym w.self-is) does)
       | in-None w ↦
-          let ends : ExactVacuumStep old (reply.Ended w.end_vacuum.result) w.end_vacuum.new.self.engine = (
+          let ends : EngineExact old step.VacuumStep (reply.Ended w.end_vacuum.result) w.end_vacuum.new.self.engine = (
             ended old w.end_vacuum.new.self.engine c.in-Some.vacuum c.vacuum_step.new.self running
                 (subst (λ (e : WaitingView). VacuumWorks e.engine.core c.vacuum_step.new.self c.in-Some.vacuum None None) c.self.view_is w.in-None.ensures)
                 w.end_vacuum.ensures.none c.forgets_before-cutoff.result c.forgets_before-cutoff.ensures w.end_vacuum.ensures.core,
             w.end_vacuum.ensures.first,
           ) in
-          subst (λ (r : Reply). ExactVacuumStep old r c.match-vacuum_step.self.engine) (sym w.answer-is)
-          (subst (λ (e : WaitingView). ExactVacuumStep old (reply.Ended w.end_vacuum.result) e.engine) (sym w.self-is) ends)
+          subst (λ (r : Reply). EngineExact old step.VacuumStep r c.match-vacuum_step.self.engine) (sym w.answer-is)
+          (subst (λ (e : WaitingView). EngineExact old step.VacuumStep (reply.Ended w.end_vacuum.result) e.engine) (sym w.self-is) ends)
     ]
 
 pub invariant_of-self-in-Some-vacuum_step : goal.invariant_of-self-in-Some-vacuum_step

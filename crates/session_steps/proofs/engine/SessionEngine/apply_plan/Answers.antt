@@ -12,7 +12,7 @@ use Rattle.calls.specs.declared.reply.Refusal.{Refusal}
 use Rattle.session_steps.specs.State.{State, horizon_of}
 use Rattle.session_steps.specs.declared.outcome.Ack.{Ack}
 use Rattle.session_steps.specs.Replies.{reply_to}
-use Rattle.session_steps.specs.Exact.{AnswersStep, AppliesPlan, LeavesPlan}
+use Rattle.session_steps.specs.Exact.{AnswersStep, AppliesPlan}
 use Rattle.session_steps.proofs.Cleaned.{Follows-apply, Follows-unapplied, named}
 use Rattle.session_steps.proofs.engine.SessionEngine.apply_plan.Goals as goal
 use Rattle.session_steps.proofs.engine.SessionEngine.apply_plan.Goals.{in-Ok, in-Err-NoSuchPage, in-Err-Stale}
@@ -29,7 +29,7 @@ returns c =
     let H : ℕ → List (ℕ × Action) → Type 0 = λ x actions. Applies before.heap after.heap c.args.page x plan.change actions in
     let U : ApplyFault → ℕ → List (ℕ × Action) → Type 0 = λ fault x actions. Unapplied before.heap c.args.page x plan.change actions fault in
     let G : ApplyFault → HeapView → Type 0 = λ fault h. AnswersStep before (step.ApplyPlan c.args.page plan) (reply.Refused (named fault)) (record before { heap = h }) in
-    let left : (f g : ApplyFault) → f ≡ g → U f c.horizon-horizon.result.0 c.as_slice-actions.result.now → LeavesPlan before c.args.page plan g before = λ f g is u.
+    let left : (f g : ApplyFault) → f ≡ g → U f c.horizon-horizon.result.0 c.as_slice-actions.result.now → Unapplied before.heap c.args.page (horizon_of before) plan.change plan.actions g × (before ≡ before) = λ f g is u.
     (subst (λ x. U g x plan.actions) horizon (subst (U g c.horizon-horizon.result.0) actions (subst (λ f. U f c.horizon-horizon.result.0 c.as_slice-actions.result.now) is u)), refl) in
     subst (λ st. P c.args.plan.now st) c.self.view_is (subst (λ plan. P plan before) c.plan.view_is (elim c.match-apply_if_checked.branch [
       | in-Ok w ↦ (let a : AppliesPlan before after c.args.page plan = record {

@@ -1,7 +1,7 @@
 use Rattle.std.proofs.Common.{rules, Some, sym, ap, ◌∙◌}
 use Rattle.sessions.specs.declared.session.Session.{Session}
 use Rattle.session_steps.specs.State.{State, session_at, put_session}
-use Rattle.session_steps.specs.Changes.{Releases}
+use Rattle.session_steps.proofs.Returning.{Releases}
 use Rattle.session_steps.proofs.StateLemmas.{keeps-ids}
 use Rattle.session_steps.proofs.Outcomes.{handed-on}
 use Rattle.session_steps.proofs.Savepoints.{Follows-nothing_to_release, Follows-barred_release}
@@ -40,5 +40,5 @@ returns c =
     let releases : Releases e.own c.release.new.self = record { ids = c.release.ensures.ids; saved = c.release.ensures.saved } in
     record {
       follows = Follows-forgotten c.args.self.now _ c.args.s c.in_ok-free.field-0.now e c.release.new.self c.in_ok-free.ensures there (λ none. c.if-savepoints-eq0.false (c.savepoints.ensures ∙ none)) is releases;
-      exact = record { session = e; at = there; own = c.release.new.self; is = is; change = releases };
+      exact = record { session = e; at = there; own = c.release.new.self; is = is; ids = releases.ids; saved = releases.saved };
     }

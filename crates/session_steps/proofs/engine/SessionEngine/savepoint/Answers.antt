@@ -10,7 +10,7 @@ use Rattle.sessions.specs.declared.session.Session.{Session}
 use Rattle.session_steps.specs.State.{State, session_at, put_session}
 use Rattle.session_steps.specs.declared.outcome.Ack.{Ack}
 use Rattle.session_steps.specs.Replies.{reply_to}
-use Rattle.session_steps.specs.Changes.{SetsSavepoint}
+use Rattle.session_steps.proofs.Returning.{SetsSavepoint}
 use Rattle.session_steps.specs.Exact.{AnswersStep}
 use Rattle.session_steps.proofs.Outcomes.{handed-on}
 use Rattle.session_steps.proofs.StateLemmas.{keeps-ids}
@@ -44,7 +44,7 @@ returns c =
           let sets : SetsSavepoint e.own c.save.new.self = record { ids = c.save.ensures.ids; saved = w.in-Ok.ensures.saved } in
           subst R (sym w.result-is) (record {
             follows = Follows-noted c.args.self.now after c.args.s c.in_ok-free.field-0.now e c.save.new.self c.in_ok-free.ensures there w.in-Ok.ensures.room is sets;
-            exact = record { session = e; at = there; own = c.save.new.self; is = is; change = sets };
+            exact = record { session = e; at = there; own = c.save.new.self; is = is; ids = sets.ids; saved = sets.saved };
           }))
       | in-Err-TooDeep w ↦ (let same = unnoted before c.args.self.now c.args.s e c.save.new.self c.self.view_is c.open_mut.ensures.value w.in-Err-TooDeep.ensures.refused in
           let full = subst P w.in-Err-TooDeep.field-0-is w.in-Err-TooDeep.ensures.fault in
