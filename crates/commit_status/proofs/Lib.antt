@@ -6,3 +6,4 @@ pub mod ChangesLemmas
 pub mod Giving
 pub mod Finishing
 pub mod WindowLaws
+pub mod EntryLemmas

@@ -12,6 +12,9 @@ use Rattle.commit_status.proofs.Places.{at-from_place, given-place, some-from_is
 abbrev pub window_of : ℕ → ℕ → List IdEntry → ℕ → Window
 window_of first stop_age entries spare = record { first = first; stop_age = stop_age; entries = entries; spare = spare }
 
+pub window-same : (f s : ℕ) (e e' : List IdEntry) (p p' : ℕ) → e' ≡ e → p' ≡ p → window_of f s e' p' ≡ window_of f s e p
+window-same f s e e' p p' entries spare = ap (λ es. window_of f s es p') entries ∙ ap (window_of f s e) spare
+
 -- room does not matter
 pub table-kept : (f s : ℕ) (e e' : List IdEntry) (p p' n : ℕ) → e' ≡ e → IsStatusTable (window_of f s e p) n → IsStatusTable (window_of f s e' p') n
 table-kept f s e e' p p' n same t =

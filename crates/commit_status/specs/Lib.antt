@@ -2,3 +2,4 @@ pub mod Window
 pub mod Changes
 pub mod Laws
 pub mod Table
+pub mod Entries

@@ -8,6 +8,7 @@
 //! Why it is built so: docs/DECISIONS.md, under its name.
 #![tactic(auto)]
 
+mod entries;
 pub mod laws;
 mod status;
 mod table;

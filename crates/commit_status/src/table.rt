@@ -6,72 +6,11 @@ ghost use Rattle.xid_circle.specs.Circle.{IsNormal, distance_of, given};
 ghost use Rattle.commit_status.specs.Window.{next_id, turns, place_in, entry_of, status_of, parent_of, top_of, IsGiven, IsActive, IsUpToNext, IsWindow, IsCommitted, IsAborted};
 ghost use Rattle.commit_status.specs.Changes.{numbers, given_entry, Gives, CanGive, Finishes, Truncates};
 
+use crate::entries::IdEntries;
 use crate::status::{GiveFault, Status};
 use std::alloc::{AllocError, Global};
 use std::marker::Model;
-use std::mem::size_of;
 use xid_circle::{Xid, distance, next};
-
-/// What is known of an id, in eight bytes.
-#[derive(Debug, Drop)]
-struct StatusEntry {
-    status: Status,
-    // the number of the id under which it was begun, or 0
-    parent: u32,
-}
-
-const _: () = prove!(size_of::<StatusEntry>() == 8);
-
-impl Model for StatusEntry {
-    ghost use Rattle.commit_status.specs.Window.{IdEntry};
-    ghost use Rattle.commit_status.specs.Table.{parent_from};
-
-    ghost Value = { IdEntry };
-
-    ghost view = { λ k. record { status = k.status; parent = parent_from k.parent } };
-}
-
-impl StatusEntry {
-    /// An id that was just given.
-    fn in_progress(parent: Option<Xid>) -> StatusEntry
-        requires { IfSome parent (λ p. IsNormal p.0) }
-        ensures { result ≡ given_entry (option_map (λ p. p.0) parent) }
-    {
-        let parent = match parent {
-            Some(x) => x.0,
-            None => 0,
-        };
-        StatusEntry {
-            status: Status::InProgress,
-            parent,
-        }
-    }
-
-    fn copy(&self) -> StatusEntry
-        ensures { result ≡ self.now }
-    {
-        StatusEntry {
-            status: self.status,
-            parent: self.parent,
-        }
-    }
-
-    fn parent(&self) -> Option<Xid>
-        ensures { option_map (λ p. p.0) result ≡ self.now.parent }
-    {
-        if self.parent == 0 {
-            None
-        } else {
-            Some(Xid(self.parent))
-        }
-    }
-
-    fn finish(&mut self, status: Status)
-        ensures { self.new ≡ record self.old { status = status } }
-    {
-        self.status = status;
-    }
-}
 
 /// The status and the parent of each id from the oldest that is remembered up to the next one.
 #[derive(Debug, Drop)]
@@ -79,13 +18,11 @@ pub struct StatusTable {
     first: Xid,
     next: Xid,
     stop_age: u32,
-    entries: Vec<StatusEntry>,
+    entries: IdEntries,
 }
 
 impl Model for StatusTable {
-    ghost use Rattle.std.specs.Prelude.{◌≡◌, ◌-◌, vec_len, vec_capacity};
-    ghost use Rattle.xid_circle.specs.Circle.{given};
-    ghost use Rattle.commit_status.specs.Window.{Window, IsWindow};
+    ghost use Rattle.commit_status.specs.Window.{Window};
     ghost use Rattle.commit_status.specs.Table.{IsStatusTable};
 
     ghost Value = { Window };
@@ -94,14 +31,14 @@ impl Model for StatusTable {
       first = t.first.0;
       stop_age = t.stop_age;
       entries = t.entries.items;
-      spare = vec_capacity t.entries - vec_len t.entries;
+      spare = t.entries.spare;
     } };
 
     ghost invariant = { λ t. IsStatusTable (record {
       first = t.first.0;
       stop_age = t.stop_age;
       entries = t.entries.items;
-      spare = vec_capacity t.entries - vec_len t.entries;
+      spare = t.entries.spare;
     }) t.next.0 };
 }
 
@@ -143,29 +80,6 @@ fn place_in(first: Xid, count: usize, x: Xid) -> Option<usize>
     if place < count { Some(place) } else { None }
 }
 
-/// Copies of all entries, in a list with room for them.
-fn copy_entries(entries: &[StatusEntry], room: &mut Vec<StatusEntry>)
-    requires empty { vec_len room.old ≡ 0 }
-    requires fits { length entries.now ≤ vec_capacity room.old }
-    ensures { room.new.items ≡ entries.now }
-{
-    for entry in entries {
-        room.push_reserved(entry.copy());
-    }
-}
-
-/// Forgets the first `count` entries.
-fn forget(entries: &mut Vec<StatusEntry>, count: usize)
-    requires { count ≤ vec_len entries.old }
-    ensures items { entries.new.items ≡ drop count entries.old.items }
-    ensures room { vec_capacity entries.old - vec_len entries.old
-        ≤ vec_capacity entries.new - vec_len entries.new }
-{
-    let rest = entries.len() - count;
-    entries.rotate_left(count);
-    entries.truncate(rest);
-}
-
 impl StatusTable {
     /// A table that remembers no id; the next one is `first`, a normal id. No id is given `stop_age` numbers from the
     /// oldest one, or further; `stop_age` is at most 2144483648, so the ids that are remembered stay within half of the
@@ -181,16 +95,15 @@ impl StatusTable {
             first,
             next: first,
             stop_age,
-            entries: Vec::new(alloc),
+            entries: IdEntries::new(alloc),
         }
     }
 
-    /// An equal table, in memory of its own: eight bytes for each id that is remembered.
+    /// An equal table, in memory of its own: a byte for each id that is remembered, and eight more where it has a parent.
     pub fn copy(&self, alloc: Global) -> Result<StatusTable, AllocError>
         ensures { IfOk result (λ t. t ≡ record self.now { spare = t.spare }) }
     {
-        let mut entries = Vec::with_capacity(alloc, self.entries.len())?;
-        copy_entries(self.entries.as_slice(), &mut entries);
+        let entries = self.entries.copy(alloc)?;
         Ok(StatusTable {
             first: self.first,
             next: self.next,
@@ -250,11 +163,10 @@ impl StatusTable {
         if distance(self.first, self.next) >= self.stop_age {
             return Err(GiveFault::NeedsFreeze);
         }
-        let entry = StatusEntry::in_progress(parent);
-        if self.entries.reserve(1).is_err() {
+        if let Err(_) = self.entries.reserve(1) {
             return Err(GiveFault::NoMemory);
         }
-        self.entries.push_reserved(entry);
+        self.entries.push(parent);
         let given = self.next;
         self.next = next(given);
         Ok(given)
@@ -295,21 +207,12 @@ impl StatusTable {
         }
     }
 
-    fn entry(&self, x: Xid) -> Option<&StatusEntry>
-        ensures { option_copied result ≡ entry_of self.now x.0 }
-    {
-        match place_in(self.first, self.entries.len(), x) {
-            Some(place) => Some(&self.entries[place]),
-            None => None,
-        }
-    }
-
     /// What became of an id. One that is not remembered counts as in progress.
     pub fn status(&self, x: Xid) -> Status
         ensures { result ≡ status_of self.now x.0 }
     {
-        match self.entry(x) {
-            Some(entry) => entry.status,
+        match place_in(self.first, self.entries.len(), x) {
+            Some(place) => self.entries.status(place),
             None => Status::InProgress,
         }
     }
@@ -331,7 +234,8 @@ impl StatusTable {
     fn parent_of(&self, x: Xid) -> Option<Xid>
         ensures { option_map (λ p. p.0) result ≡ parent_of self.now x.0 }
     {
-        self.entry(x)?.parent()
+        let place = place_in(self.first, self.entries.len(), x)?;
+        self.entries.parent(place)
     }
 
     /// The first ancestor of an id that is before the window if there is one, else its topmost ancestor: itself
@@ -353,7 +257,7 @@ impl StatusTable {
         ensures { Finishes self.old self.new (x.0 ∷ []) status }
     {
         if let Some(place) = place_in(self.first, self.entries.len(), x) {
-            self.entries[place].finish(status);
+            self.entries.finish(place, status);
         }
     }
 
@@ -373,8 +277,7 @@ impl StatusTable {
         ensures window { Truncates self.old self.new x.0 }
         ensures spare { self.old.spare ≤ self.new.spare }
     {
-        let count = turns(self.first, x) as usize;
-        forget(&mut self.entries, count);
+        self.entries.forget(turns(self.first, x));
         self.first = x;
     }
 }

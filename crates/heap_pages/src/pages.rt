@@ -88,6 +88,14 @@ impl Pages {
         }
     }
 
+    /// The page of this number, which is in use.
+    pub fn page_at(&self, number: u32) -> &Page
+        requires { number < length self.now.pages }
+        ensures { slice_get self.now.pages number ≡ Some result.now }
+    {
+        self.pages[number as usize].page()
+    }
+
     /// The free-space byte of the page of this number, if it is in use: how many times its room holds 32 bytes, at most 255.
     pub fn free_byte(&self, number: u32) -> Option<u8>
         ensures { result ≡ slice_get (free_space_bytes self.now.pages) number }

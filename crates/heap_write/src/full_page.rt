@@ -77,10 +77,7 @@ impl HeapState {
         if plan.names(place.slot) {
             return self.update_unpruned(own, place, row);
         }
-        let page = match self.pages.page(place.page) {
-            Some(page) => page,
-            None => unreachable!(),
-        };
+        let page = self.pages.page_at(place.page);
         let actions = plan.actions.as_slice();
         if row_size(row) <= room_after(page, &plan) {
             self.update_on_pruned(own, place, row, actions)

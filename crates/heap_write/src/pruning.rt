@@ -94,10 +94,7 @@ impl HeapState {
         ensures exact { IsPlan self.old.statuses horizon.0 (page_on self.old number).slots
             plan.new.actions.items }
     {
-        let page = match self.pages.page(number) {
-            Some(page) => page,
-            None => unreachable!(),
-        };
+        let page = self.pages.page_at(number);
         let mut doubts = self.hints.doubts(number);
         plan_by_doubts(plan, page, &mut doubts, &self.statuses, horizon);
         self.hints.note_doubts(number, doubts);

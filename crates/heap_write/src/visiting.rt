@@ -37,11 +37,7 @@ impl HeapState {
         requires within { number < length self.old.pages.pages }
         ensures { PrunesAndFreezes self.old self.new number cutoff.0 horizon.0 result.items }
     {
-        let page = match self.pages.page(number) {
-            Some(page) => page,
-            None => unreachable!(),
-        };
-        let plan = plan(page, &self.statuses, horizon);
+        let plan = plan(self.pages.page_at(number), &self.statuses, horizon);
         let found = self.freeze_by_plan(number, &plan, cutoff, horizon);
         if found.mark.is_visible() {
             self.note_none_deleted(number, horizon);

@@ -88,10 +88,7 @@ fn list_page(
     ensures refused { OnErr result
         (SomeCurrent reader.now.statuses.now (page_slots_of pages.now)) }
 {
-    let page = match pages.page(number) {
-        Some(page) => page,
-        None => unreachable!(),
-    };
+    let page = pages.page_at(number);
     for slot in 1..page.slots() + 1 {
         enter_current(page, Tid { page: number, slot }, column, reader, filling)?;
     }

@@ -1,25 +1,16 @@
-use Rattle.std.proofs.Common.{◌≡◌, refl, Some, None, slice_get, sym, ap, ◌∙◌, subst}
-use Rattle.std.specs.Option.{option_copied}
-use Rattle.std.proofs.lemmas.Option.{none-some, slice_get-get_or}
+use Rattle.std.proofs.Common.{◌≡◌, refl, Some, slice_get, subst}
 use Rattle.prune.specs.Pruning.{IsPlan}
-use Rattle.heap_write.specs.Heap.{HeapView, unused_page}
+use Rattle.heap_write.specs.Heap.{HeapView}
 use Rattle.heap_write.proofs.Plans.{plan-at, can-at}
 use Rattle.heap_write.proofs.Visited.{visited-says}
 use Rattle.heap_write.proofs.heap.HeapState.clean_by_plan.Goals as goal
-
-pub unreachable-requires : goal.unreachable-requires
-unreachable-requires c =
-    let h = c.args.self.now in
-    let n = c.args.number in
-    let none : slice_get h.pages.pages n ≡ None = subst (λ (v : HeapView). slice_get v.pages.pages n ≡ None) c.self.view_is (sym c.page.ensures ∙ ap option_copied c.in-None.is) in
-    absurd (none-some _ (sym none ∙ slice_get-get_or h.pages.pages n unused_page c.requires.within))
 
 pub freeze_by_plan-found-requires-clause-can_apply : goal.freeze_by_plan-found-requires-clause-can_apply
 freeze_by_plan-found-requires-clause-can_apply c =
     let h = c.args.self.now in
     let n = c.args.number in
-    let page = c.in-Some.page.now in
-    let at : slice_get h.pages.pages n ≡ Some page = subst (λ (v : HeapView). slice_get v.pages.pages n ≡ Some page) c.self.view_is (sym c.page.ensures ∙ ap option_copied c.in-Some.is) in
+    let page = c.page_at.result.now in
+    let at : slice_get h.pages.pages n ≡ Some page = subst (λ (v : HeapView). slice_get v.pages.pages n ≡ Some page) c.self.view_is c.page_at.ensures in
     can-at h n page c.plan-plan.result.actions.items at c.plan-plan.ensures.can_apply
 
 pub returns-then-is_visible : goal.returns-then-is_visible
@@ -27,9 +18,9 @@ returns-then-is_visible c =
     let h = c.args.self.now in
     let n = c.args.number in
     let horizon = c.args.horizon.0 in
-    let page = c.in-Some.page.now in
+    let page = c.page_at.result.now in
     let actions = c.plan-plan.result.actions.items in
-    let at : slice_get h.pages.pages n ≡ Some page = subst (λ (v : HeapView). slice_get v.pages.pages n ≡ Some page) c.self.view_is (sym c.page.ensures ∙ ap option_copied c.in-Some.is) in
+    let at : slice_get h.pages.pages n ≡ Some page = subst (λ (v : HeapView). slice_get v.pages.pages n ≡ Some page) c.self.view_is c.page_at.ensures in
     let exact = subst (λ (v : HeapView). IsPlan v.statuses horizon page.slots actions) c.self.view_is c.plan-plan.ensures.exact in
     visited-says h c.freeze_by_plan-found.new.self c.note_none_deleted.new.self n c.args.cutoff.0 horizon actions _ c.requires.within (plan-at h n horizon page actions at exact)
     c.freeze_by_plan-found.ensures.freezes c.note_none_deleted.ensures
@@ -39,9 +30,9 @@ returns-then-is_empty c =
     let h = c.args.self.now in
     let n = c.args.number in
     let horizon = c.args.horizon.0 in
-    let page = c.in-Some.page.now in
+    let page = c.page_at.result.now in
     let actions = c.plan-plan.result.actions.items in
-    let at : slice_get h.pages.pages n ≡ Some page = subst (λ (v : HeapView). slice_get v.pages.pages n ≡ Some page) c.self.view_is (sym c.page.ensures ∙ ap option_copied c.in-Some.is) in
+    let at : slice_get h.pages.pages n ≡ Some page = subst (λ (v : HeapView). slice_get v.pages.pages n ≡ Some page) c.self.view_is c.page_at.ensures in
     let exact = subst (λ (v : HeapView). IsPlan v.statuses horizon page.slots actions) c.self.view_is c.plan-plan.ensures.exact in
     visited-says h c.freeze_by_plan-found.new.self c.note_first_death.new.self n c.args.cutoff.0 horizon actions _ c.requires.within (plan-at h n horizon page actions at exact)
     c.freeze_by_plan-found.ensures.freezes c.note_first_death.ensures
@@ -51,9 +42,9 @@ returns-else-is_empty c =
     let h = c.args.self.now in
     let n = c.args.number in
     let horizon = c.args.horizon.0 in
-    let page = c.in-Some.page.now in
+    let page = c.page_at.result.now in
     let actions = c.plan-plan.result.actions.items in
-    let at : slice_get h.pages.pages n ≡ Some page = subst (λ (v : HeapView). slice_get v.pages.pages n ≡ Some page) c.self.view_is (sym c.page.ensures ∙ ap option_copied c.in-Some.is) in
+    let at : slice_get h.pages.pages n ≡ Some page = subst (λ (v : HeapView). slice_get v.pages.pages n ≡ Some page) c.self.view_is c.page_at.ensures in
     let exact = subst (λ (v : HeapView). IsPlan v.statuses horizon page.slots actions) c.self.view_is c.plan-plan.ensures.exact in
     visited-says h c.freeze_by_plan-found.new.self c.freeze_by_plan-found.new.self n c.args.cutoff.0 horizon actions _ c.requires.within (plan-at h n horizon page actions at exact)
     c.freeze_by_plan-found.ensures.freezes refl

@@ -1,5 +1,4 @@
-use Rattle.std.proofs.Common.{◌≡◌, ◌≤◌, ◌<◌, inl, inr, Some, None, slice_get, length, sym, ap, ◌∙◌, subst, arith}
-use Rattle.std.specs.Option.{option_copied}
+use Rattle.std.proofs.Common.{◌≡◌, ◌≤◌, ◌<◌, inl, inr, Some, slice_get, length, sym, ◌∙◌, subst, arith}
 use Rattle.tuple_header.specs.Version.{rounded_size_of}
 use Rattle.page_slots.specs.View.{PageView}
 use Rattle.page_sheet.specs.Slots.{room_of}
@@ -8,7 +7,7 @@ use Rattle.prune.specs.Pruning.{IsPlan}
 use Rattle.heap_write.specs.Heap.{HeapView, page_on}
 use Rattle.heap_write.specs.Refusals.{AnswersUpdate}
 use Rattle.heap_write.specs.Steps.{IsPlanOn, IsPlanAround, IsLeftAlone}
-use Rattle.heap_write.proofs.PageLemmas.{page-at, nothing-there}
+use Rattle.heap_write.proofs.PageLemmas.{page-at, there-within}
 use Rattle.heap_write.proofs.Plans.{plan-around, named-none, named-goes}
 use Rattle.heap_write.proofs.heap.HeapState.update_by_plan.Goals as goal
 
@@ -30,31 +29,28 @@ returns-then-names c =
     c.plan_page.ensures.same (done.ensures horizon)
     (inr (named-goes c.args.self.now c.args.place horizon actions c.requires.may.there c.plan_page.ensures.exact (c.names.ensures.0 c.if-names.true)))
 
-pub unreachable-requires : goal.unreachable-requires
-unreachable-requires c =
-    let h = c.args.self.now in
-    let none : slice_get h.pages.pages c.args.place.page ≡ None =
-    subst (λ (v : HeapView). slice_get v.pages.pages c.args.place.page ≡ None) (c.self-2.view_is ∙ c.plan_page.ensures.same) (sym c.page.ensures ∙ ap option_copied c.in-None.is) in
-    nothing-there h c.args.place none c.requires.may.there
+pub page_at-page-requires : goal.page_at-page-requires
+page_at-page-requires c =
+    subst (λ (v : HeapView). c.args.place.page < length v.pages.pages) (sym (c.self-2.view_is ∙ c.plan_page.ensures.same)) (there-within c.args.self.now c.args.place c.requires.may.there)
 
 pub room_after-requires-clause-planned : goal.room_after-requires-clause-planned
 room_after-requires-clause-planned c =
     let h = c.args.self.now in
     let n = c.args.place.page in
-    let page = c.in-Some.page.now in
+    let page = c.page_at-page.result.now in
     let actions = c.plan_page.new.plan.actions.items in
     let at : slice_get h.pages.pages n ≡ Some page =
-    subst (λ (v : HeapView). slice_get v.pages.pages n ≡ Some page) (c.self-2.view_is ∙ c.plan_page.ensures.same) (sym c.page.ensures ∙ ap option_copied c.in-Some.is) in
+    subst (λ (v : HeapView). slice_get v.pages.pages n ≡ Some page) (c.self-2.view_is ∙ c.plan_page.ensures.same) c.page_at-page.ensures in
     (h.statuses, c.args.horizon.0, subst (λ (p : PageView). IsPlan h.statuses c.args.horizon.0 p.slots actions) (page-at h.pages.pages n page at) c.plan_page.ensures.exact)
 
 pub room_after-requires-clause-can_apply : goal.room_after-requires-clause-can_apply
 room_after-requires-clause-can_apply c =
     let h = c.args.self.now in
     let n = c.args.place.page in
-    let page = c.in-Some.page.now in
+    let page = c.page_at-page.result.now in
     let actions = c.plan_page.new.plan.actions.items in
     let at : slice_get h.pages.pages n ≡ Some page =
-    subst (λ (v : HeapView). slice_get v.pages.pages n ≡ Some page) (c.self-2.view_is ∙ c.plan_page.ensures.same) (sym c.page.ensures ∙ ap option_copied c.in-Some.is) in
+    subst (λ (v : HeapView). slice_get v.pages.pages n ≡ Some page) (c.self-2.view_is ∙ c.plan_page.ensures.same) c.page_at-page.ensures in
     subst (λ (p : PageView). CanApply (length p.slots) actions) (page-at h.pages.pages n page at) c.plan_page.ensures.can_apply
 
 pub update_on_pruned-requires-clause-around : goal.update_on_pruned-requires-clause-around
@@ -77,10 +73,10 @@ pub update_on_pruned-requires-clause-fits : goal.update_on_pruned-requires-claus
 update_on_pruned-requires-clause-fits c =
     let h = c.args.self.now in
     let n = c.args.place.page in
-    let page = c.in-Some.page.now in
+    let page = c.page_at-page.result.now in
     let actions = c.as_slice-actions.result.now in
     let at : slice_get h.pages.pages n ≡ Some page =
-    subst (λ (v : HeapView). slice_get v.pages.pages n ≡ Some page) (c.self-2.view_is ∙ c.plan_page.ensures.same) (sym c.page.ensures ∙ ap option_copied c.in-Some.is) in
+    subst (λ (v : HeapView). slice_get v.pages.pages n ≡ Some page) (c.self-2.view_is ∙ c.plan_page.ensures.same) c.page_at-page.ensures in
     let here : rounded_size_of c.args.row.now ≤ room_of (applied actions page).slots =
     subst (λ names. rounded_size_of c.args.row.now ≤ room_of (applied names page).slots) (sym c.as_slice-actions.ensures.value)
     (omega (arith, c.row_size.ensures.value, c.room_after.ensures, c.if-row_size-room_after.true)) in
@@ -91,10 +87,10 @@ pub update_off_pruned-requires-clause-full : goal.update_off_pruned-requires-cla
 update_off_pruned-requires-clause-full c =
     let h = c.args.self.now in
     let n = c.args.place.page in
-    let page = c.in-Some.page.now in
+    let page = c.page_at-page.result.now in
     let actions = c.as_slice-actions.result.now in
     let at : slice_get h.pages.pages n ≡ Some page =
-    subst (λ (v : HeapView). slice_get v.pages.pages n ≡ Some page) (c.self-2.view_is ∙ c.plan_page.ensures.same) (sym c.page.ensures ∙ ap option_copied c.in-Some.is) in
+    subst (λ (v : HeapView). slice_get v.pages.pages n ≡ Some page) (c.self-2.view_is ∙ c.plan_page.ensures.same) c.page_at-page.ensures in
     let here : room_of (applied actions page).slots < rounded_size_of c.args.row.now =
     subst (λ names. room_of (applied names page).slots < rounded_size_of c.args.row.now) (sym c.as_slice-actions.ensures.value)
     (omega (arith, c.row_size.ensures.value, c.room_after.ensures, c.if-row_size-room_after.false)) in
