@@ -189,8 +189,10 @@ pub next_rows : (index n count : ℕ) (rows : List Row) → IsInOrder index rows
 next_rows index n count rows order some is = record {
   part = record {
     some = rw (length-take count rows) (omega arith);
-    theirs = λ i a at. row-at index rows i a order (take-at count rows i a at).0;
-    once = λ i j a b at at' same. at-once index rows i j a b order (take-at count rows i a at).0 (take-at count rows j b at').0 same;
+    of = record {
+      theirs = λ i a at. row-at index rows i a order (take-at count rows i a at).0;
+      once = λ i j a b at at' same. at-once index rows i j a b order (take-at count rows i a at).0 (take-at count rows j b at').0 same;
+    };
   };
   in_order = λ i j a b at at' lt. at-order index rows i j a b order (take-at count rows i a at).0 (take-at count rows j b at').0 lt;
   before_rest = λ i a b at left.
