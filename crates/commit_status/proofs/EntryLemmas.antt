@@ -9,11 +9,11 @@ use Rattle.commit_status.specs.declared.entries.Child.{Child}
 use Rattle.commit_status.specs.declared.status.Status.TheVariants.{InProgress}
 use Rattle.commit_status.specs.Window.{parent_in, parent_at}
 use Rattle.commit_status.specs.Changes.{given_entry}
-use Rattle.commit_status.specs.Entries.{EntriesView, entry_with, parent_for, entries_from, with_child, AreInOrder, AreWithin, AreChildren, moved_up}
+use Rattle.commit_status.specs.Entries.{EntriesView, known_with, parent_for, known_from, with_child, StandInOrder, AreWithin, AreChildren, placed_earlier}
 
 -- What is known of one id after another.
 
-pub entries-count : (at : ℕ) (ss : List Status) (cs : List Child) → length (entries_from at ss cs) ≡ length ss
+pub entries-count : (at : ℕ) (ss : List Status) (cs : List Child) → length (known_from at ss cs) ≡ length ss
 entries-count at [] cs = refl
 entries-count at (s ∷ ss) cs = ap suc (entries-count (suc at) ss cs)
 
@@ -27,43 +27,43 @@ pub from-first : (place : ℕ) → 0 + place ≡ place
 from-first place = omega arith
 
 pub entries-at : (at k : ℕ) (ss : List Status) (cs : List Child) (s : Status) → slice_get ss k ≡ Some s
-    → slice_get (entries_from at ss cs) k ≡ Some (entry_with s (parent_for cs (at + k)))
+    → slice_get (known_from at ss cs) k ≡ Some (known_with s (parent_for cs (at + k)))
 entries-at at k [] cs s there = absurd (cc)
 entries-at at zero (t ∷ ss) cs s there =
     let same : t ≡ s = cc in
-    ap (λ u. Some (entry_with u (parent_for cs at))) same ∙ ap (λ n. Some (entry_with s (parent_for cs n))) (same-place at)
+    ap (λ u. Some (known_with u (parent_for cs at))) same ∙ ap (λ n. Some (known_with s (parent_for cs n))) (same-place at)
 entries-at at (suc k) (t ∷ ss) cs s there =
-    entries-at (suc at) k ss cs s there ∙ ap (λ n. Some (entry_with s (parent_for cs n))) (next-place at k)
+    entries-at (suc at) k ss cs s there ∙ ap (λ n. Some (known_with s (parent_for cs n))) (next-place at k)
 
 pub entries-push : (at : ℕ) (ss : List Status) (cs : List Child) (s : Status)
-    → entries_from at (ss ++ s ∷ []) cs ≡ entries_from at ss cs ++ entry_with s (parent_for cs (at + length ss)) ∷ []
-entries-push at [] cs s = ap (λ n. entry_with s (parent_for cs n) ∷ []) (same-place at)
+    → known_from at (ss ++ s ∷ []) cs ≡ known_from at ss cs ++ known_with s (parent_for cs (at + length ss)) ∷ []
+entries-push at [] cs s = ap (λ n. known_with s (parent_for cs n) ∷ []) (same-place at)
 entries-push at (t ∷ ss) cs s =
-    ap (λ es. entry_with t (parent_for cs at) ∷ es)
-    (entries-push (suc at) ss cs s ∙ ap (λ n. entries_from (suc at) ss cs ++ entry_with s (parent_for cs n) ∷ []) (next-place at (length ss)))
+    ap (λ es. known_with t (parent_for cs at) ∷ es)
+    (entries-push (suc at) ss cs s ∙ ap (λ n. known_from (suc at) ss cs ++ known_with s (parent_for cs n) ∷ []) (next-place at (length ss)))
 
 pub entries-set : (at k : ℕ) (ss : List Status) (cs : List Child) (s : Status)
-    → entries_from at (set ss k s) cs ≡ set (entries_from at ss cs) k (entry_with s (parent_for cs (at + k)))
+    → known_from at (set ss k s) cs ≡ set (known_from at ss cs) k (known_with s (parent_for cs (at + k)))
 entries-set at k [] cs s = refl
-entries-set at zero (t ∷ ss) cs s = ap (λ n. entry_with s (parent_for cs n) ∷ entries_from (suc at) ss cs) (same-place at)
+entries-set at zero (t ∷ ss) cs s = ap (λ n. known_with s (parent_for cs n) ∷ known_from (suc at) ss cs) (same-place at)
 entries-set at (suc k) (t ∷ ss) cs s =
-    ap (λ es. entry_with t (parent_for cs at) ∷ es)
-    (entries-set (suc at) k ss cs s ∙ ap (λ n. set (entries_from (suc at) ss cs) k (entry_with s (parent_for cs n))) (next-place at k))
+    ap (λ es. known_with t (parent_for cs at) ∷ es)
+    (entries-set (suc at) k ss cs s ∙ ap (λ n. set (known_from (suc at) ss cs) k (known_with s (parent_for cs n))) (next-place at k))
 
-pub entries-drop : (n at : ℕ) (ss : List Status) (cs : List Child) → drop n (entries_from at ss cs) ≡ entries_from (at + n) (drop n ss) cs
-entries-drop zero at ss cs = ap (λ m. entries_from m ss cs) (same-place at)
+pub entries-drop : (n at : ℕ) (ss : List Status) (cs : List Child) → drop n (known_from at ss cs) ≡ known_from (at + n) (drop n ss) cs
+entries-drop zero at ss cs = ap (λ m. known_from m ss cs) (same-place at)
 entries-drop (suc n) at [] cs = refl
-entries-drop (suc n) at (s ∷ ss) cs = entries-drop n (suc at) ss cs ∙ ap (λ m. entries_from m (drop n ss) cs) (next-place at n)
+entries-drop (suc n) at (s ∷ ss) cs = entries-drop n (suc at) ss cs ∙ ap (λ m. known_from m (drop n ss) cs) (next-place at n)
 
 pub entries-same : (at to : ℕ) (ss : List Status) (cs ds : List Child) → ((k : ℕ) → k < length ss → parent_for cs (at + k) ≡ parent_for ds (to + k))
-    → entries_from at ss cs ≡ entries_from to ss ds
+    → known_from at ss cs ≡ known_from to ss ds
 entries-same at to [] cs ds h = refl
 entries-same at to (s ∷ ss) cs ds h =
     let head : parent_for cs at ≡ parent_for ds to =
     ap (parent_for cs) (same-place at) ∙ h 0 (omega arith) ∙ sym (ap (parent_for ds) (same-place to)) in
-    let rest : entries_from (suc at) ss cs ≡ entries_from (suc to) ss ds =
+    let rest : known_from (suc at) ss cs ≡ known_from (suc to) ss ds =
     entries-same (suc at) (suc to) ss cs ds (λ k l. ap (parent_for cs) (next-place at k) ∙ h (suc k) (omega arith) ∙ sym (ap (parent_for ds) (next-place to k))) in
-    ap (λ p. entry_with s p ∷ entries_from (suc at) ss cs) head ∙ ap (λ es. entry_with s (parent_for ds to) ∷ es) rest
+    ap (λ p. known_with s p ∷ known_from (suc at) ss cs) head ∙ ap (λ es. known_with s (parent_for ds to) ∷ es) rest
 
 -- Which child is at a place.
 
@@ -110,16 +110,16 @@ behind-dropped (c ∷ cs) (suc m) place before =
     behind-dropped cs m place (λ i d l at. before (suc i) d (omega arith) at) ∙ sym (child-other c cs place (λ e. let e = e in absurd (omega arith)))
 
 pub moved-up : (count : ℕ) (cs : List Child) (place : ℕ) → ((i : ℕ) (c : Child) → slice_get cs i ≡ Some c → count ≤ c.place)
-    → parent_for (map (moved_up count) cs) place ≡ parent_for cs (count + place)
+    → parent_for (map (placed_earlier count) cs) place ≡ parent_for cs (count + place)
 moved-up count [] place h = refl
 moved-up count (c ∷ cs) place h =
     let low : count ≤ c.place = h 0 c refl in
     let rest = moved-up count cs place (λ i d at. h (suc i) d at) in
     ⊎_elim
     (λ here. let e = here in
-    child-here (moved_up count c) (map (moved_up count) cs) place (omega arith) ∙ sym (child-here c cs (count + place) e))
+    child-here (placed_earlier count c) (map (placed_earlier count) cs) place (omega arith) ∙ sym (child-here c cs (count + place) e))
     (λ other.
-    child-other (moved_up count c) (map (moved_up count) cs) place (λ e. other (let e = e in omega arith)) ∙ rest ∙ sym (child-other c cs (count + place) other))
+    child-other (placed_earlier count c) (map (placed_earlier count) cs) place (λ e. other (let e = e in omega arith)) ∙ rest ∙ sym (child-other c cs (count + place) other))
     (cases_eq c.place (count + place))
 
 -- What stands where after children are dropped and moved up.
@@ -129,10 +129,10 @@ dropped-at zero i cs = ap (slice_get cs) (let e : i ≡ 0 + i = omega arith in e
 dropped-at (suc m) i [] = refl
 dropped-at (suc m) i (c ∷ cs) = dropped-at m i cs ∙ ap (slice_get (c ∷ cs)) (let e : suc (m + i) ≡ suc m + i = omega arith in e)
 
-pub moved-at : (count : ℕ) (cs : List Child) (i : ℕ) (a : Child) → slice_get (map (moved_up count) cs) i ≡ Some a
-    → (c : Child) × (slice_get cs i ≡ Some c) × (a ≡ moved_up count c)
+pub moved-at : (count : ℕ) (cs : List Child) (i : ℕ) (a : Child) → slice_get (map (placed_earlier count) cs) i ≡ Some a
+    → (c : Child) × (slice_get cs i ≡ Some c) × (a ≡ placed_earlier count c)
 moved-at count [] i a at = absurd (cc)
-moved-at count (c ∷ cs) zero a at = (c, refl, (let e : a ≡ moved_up count c = cc in e))
+moved-at count (c ∷ cs) zero a at = (c, refl, (let e : a ≡ placed_earlier count c = cc in e))
 moved-at count (c ∷ cs) (suc i) a at = moved-at count cs i a at
 
 pub pushed-at : (cs : List Child) (c : Child) (i : ℕ) (a : Child) → slice_get (cs ++ c ∷ []) i ≡ Some a → (slice_get cs i ≡ Some a) ⊎ ((i ≡ length cs) × (a ≡ c))
@@ -172,14 +172,14 @@ push-kept cs c count are same = record {
     order i j a b l (inr new) (inr new2) = let e = new.0 in let f = new2.0 in absurd (omega arith)
 
 pub forget-kept : (cs : List Child) (m count total : ℕ) → AreChildren cs total → ((i : ℕ) (c : Child) → m ≤ i → slice_get cs i ≡ Some c → count ≤ c.place)
-    → AreChildren (map (moved_up count) (drop m cs)) (total - count)
+    → AreChildren (map (placed_earlier count) (drop m cs)) (total - count)
 forget-kept cs m count total are behind = record {
   in_order = λ i j a b l at bt.
       let from = old i a at in
       let to = old j b bt in
       let low : from.0.place < to.0.place = are.in_order (m + i) (m + j) from.0 to.0 (omega arith) from.1 to.1 in
       let past : count ≤ from.0.place = behind (m + i) from.0 (omega arith) from.1 in
-      subst (λ d. d.place < b.place) (sym from.2) (subst (λ d. (moved_up count from.0).place < d.place) (sym to.2) (let e : from.0.place - count < to.0.place - count = omega arith in e));
+      subst (λ d. d.place < b.place) (sym from.2) (subst (λ d. (placed_earlier count from.0).place < d.place) (sym to.2) (let e : from.0.place - count < to.0.place - count = omega arith in e));
   within = λ i a at.
       let from = old i a at in
       let low : from.0.place < total = are.within (m + i) from.0 from.1 in
@@ -187,7 +187,7 @@ forget-kept cs m count total are behind = record {
       subst (λ d. d.place < total - count) (sym from.2) (let e : from.0.place - count < total - count = omega arith in e);
 }
   where
-    old : (i : ℕ) (a : Child) → slice_get (map (moved_up count) (drop m cs)) i ≡ Some a → (c : Child) × (slice_get cs (m + i) ≡ Some c) × (a ≡ moved_up count c)
+    old : (i : ℕ) (a : Child) → slice_get (map (placed_earlier count) (drop m cs)) i ≡ Some a → (c : Child) × (slice_get cs (m + i) ≡ Some c) × (a ≡ placed_earlier count c)
     old i a at =
         let found = moved-at count (drop m cs) i a at in
         (found.0, sym (dropped-at m i cs) ∙ found.1, found.2)
@@ -195,9 +195,9 @@ forget-kept cs m count total are behind = record {
 -- What is known of the ids that are left.
 pub forget-entries : (ss : List Status) (cs : List Child) (m count : ℕ) → ((i : ℕ) (c : Child) → i < m → slice_get cs i ≡ Some c → c.place < count)
     → ((i : ℕ) (c : Child) → m ≤ i → slice_get cs i ≡ Some c → count ≤ c.place)
-    → entries_from 0 (drop count ss) (map (moved_up count) (drop m cs)) ≡ drop count (entries_from 0 ss cs)
+    → known_from 0 (drop count ss) (map (placed_earlier count) (drop m cs)) ≡ drop count (known_from 0 ss cs)
 forget-entries ss cs m count before behind =
-    entries-same 0 (0 + count) (drop count ss) (map (moved_up count) (drop m cs)) cs
+    entries-same 0 (0 + count) (drop count ss) (map (placed_earlier count) (drop m cs)) cs
     (λ k l.
     moved-up count (drop m cs) (0 + k) (λ i c at. behind (m + i) c (omega arith) (sym (dropped-at m i cs) ∙ at))
     ∙ behind-dropped cs m (count + (0 + k)) (λ i d less at. let low = before i d less at in omega arith)
@@ -206,19 +206,19 @@ forget-entries ss cs m count before behind =
 
 -- How many there are of which something is known.
 
-pub count-known : (v : EntriesView) (ss : List Status) (cs : List Child) (spare n : ℕ) → record { items = entries_from 0 ss cs; spare = spare } ≡ v → n ≡ length ss
+pub count-known : (v : EntriesView) (ss : List Status) (cs : List Child) (spare n : ℕ) → record { items = known_from 0 ss cs; spare = spare } ≡ v → n ≡ length ss
     → length v.items ≡ n
 count-known v ss cs spare n is same = ap (λ (u : EntriesView). length u.items) (sym is) ∙ entries-count 0 ss cs ∙ sym same
 
 -- what is known of the id at a place whose status is read
-pub known-at : (v : EntriesView) (ss : List Status) (cs : List Child) (spare n place : ℕ) (s : Status) → record { items = entries_from 0 ss cs; spare = spare } ≡ v → n ≡ length ss
-    → place < length v.items → s ≡ get_or ss place s → slice_get v.items place ≡ Some (entry_with s (parent_for cs place))
+pub known-at : (v : EntriesView) (ss : List Status) (cs : List Child) (spare n place : ℕ) (s : Status) → record { items = known_from 0 ss cs; spare = spare } ≡ v → n ≡ length ss
+    → place < length v.items → s ≡ get_or ss place s → slice_get v.items place ≡ Some (known_with s (parent_for cs place))
 known-at v ss cs spare n place s is same within read =
     let count = count-known v ss cs spare n is same in
-    subst (λ (u : EntriesView). slice_get u.items place ≡ Some (entry_with s (parent_for cs place))) is
-    (entries-at 0 place ss cs s (slice_get_read ss n place s same (omega arith) read) ∙ ap (λ n. Some (entry_with s (parent_for cs n))) (from-first place))
+    subst (λ (u : EntriesView). slice_get u.items place ≡ Some (known_with s (parent_for cs place))) is
+    (entries-at 0 place ss cs s (slice_get_read ss n place s same (omega arith) read) ∙ ap (λ n. Some (known_with s (parent_for cs n))) (from-first place))
 
-pub parent-known : (v : EntriesView) (ss : List Status) (cs : List Child) (spare n place : ℕ) → record { items = entries_from 0 ss cs; spare = spare } ≡ v → n ≡ length ss
+pub parent-known : (v : EntriesView) (ss : List Status) (cs : List Child) (spare n place : ℕ) → record { items = known_from 0 ss cs; spare = spare } ≡ v → n ≡ length ss
     → place < length v.items → parent_at v.items place ≡ parent_for cs place
 parent-known v ss cs spare n place is same within =
     let count = count-known v ss cs spare n is same in
@@ -241,17 +241,17 @@ noted-other cs count place None l = refl
 noted-other cs count place (Some p) l = other-pushed cs place (record { place = count; parent = p }) (λ e. let same = e in absurd (omega arith))
 
 pub noted-entries : (ss : List Status) (cs : List Child) (count : ℕ) (parent : Option ℕ) → AreWithin cs count → count ≡ length ss
-    → entries_from 0 (ss ++ InProgress ∷ []) (with_child cs count parent) ≡ entries_from 0 ss cs ++ given_entry parent ∷ []
+    → known_from 0 (ss ++ InProgress ∷ []) (with_child cs count parent) ≡ known_from 0 ss cs ++ given_entry parent ∷ []
 noted-entries ss cs count parent below same =
     entries-push 0 ss (with_child cs count parent) InProgress
-    ∙ ap (λ es. es ++ entry_with InProgress (parent_for (with_child cs count parent) (0 + length ss)) ∷ [])
+    ∙ ap (λ es. es ++ known_with InProgress (parent_for (with_child cs count parent) (0 + length ss)) ∷ [])
     (entries-same 0 0 ss (with_child cs count parent) cs (λ k l. noted-other cs count (0 + k) parent (omega arith)))
-    ∙ ap (λ p. entries_from 0 ss cs ++ entry_with InProgress p ∷ [])
+    ∙ ap (λ p. known_from 0 ss cs ++ known_with InProgress p ∷ [])
     (ap (parent_for (with_child cs count parent)) (from-first (length ss) ∙ sym same) ∙ noted-at cs count parent below)
 
 -- A child is found, or none.
 
-pub none-at : (cs : List Child) (m place : ℕ) → AreInOrder cs → ((i : ℕ) (c : Child) → i < m → slice_get cs i ≡ Some c → c.place < place)
+pub none-at : (cs : List Child) (m place : ℕ) → StandInOrder cs → ((i : ℕ) (c : Child) → i < m → slice_get cs i ≡ Some c → c.place < place)
     → ((i : ℕ) (c : Child) → m ≤ i → slice_get cs i ≡ Some c → place ≤ c.place) → ((c : Child) → slice_get cs m ≡ Some c → c.place ≢ place) → parent_for cs place ≡ None
 none-at cs m place order before behind other =
     no-child cs place (λ i c at. ⊎_elim (λ low e. let l = before i c low at in let same = e in absurd (omega arith))

@@ -4,7 +4,7 @@ ghost use Rattle.std.specs.Prelude.{◌≡◌, ℕ, ◌+◌, ◌-◌, ◌^◌, �
 ghost use Rattle.std.specs.Option.{option_map};
 ghost use Rattle.commit_status.specs.Window.{IdEntry, status_in, parent_at};
 ghost use Rattle.commit_status.specs.Changes.{given_entry};
-ghost use Rattle.commit_status.specs.Entries.{AreInOrder, moved_up, with_child};
+ghost use Rattle.commit_status.specs.Entries.{StandInOrder, placed_earlier, with_child};
 ghost use Rattle.commit_status.specs.declared.entries.Child.{Child};
 
 use crate::status::Status;
@@ -35,12 +35,12 @@ pub(crate) struct IdEntries {
 
 impl Model for IdEntries {
     ghost use Rattle.std.specs.Prelude.{◌-◌, min, vec_len, vec_capacity};
-    ghost use Rattle.commit_status.specs.Entries.{EntriesView, entries_from, AreChildren};
+    ghost use Rattle.commit_status.specs.Entries.{EntriesView, known_from, AreChildren};
 
     ghost Value = { EntriesView };
 
     ghost view = { λ e. record {
-      items = entries_from 0 e.statuses.items e.children.items;
+      items = known_from 0 e.statuses.items e.children.items;
       spare = min (vec_capacity e.statuses - vec_len e.statuses)
           (vec_capacity e.children - vec_len e.children);
     } };
@@ -50,7 +50,7 @@ impl Model for IdEntries {
 
 /// How many children stand before a place.
 fn count_before(children: &[Child], place: usize) -> usize
-    requires { AreInOrder children.now }
+    requires { StandInOrder children.now }
     ensures fits { result ≤ length children.now }
     ensures before { (i : ℕ) (c : Child) → i < result → slice_get children.now i ≡ Some c
         → c.place < place }
@@ -84,7 +84,7 @@ fn forget_first<T: Drop>(items: &mut Vec<T>, count: usize)
 
 /// Children stand so many places further up.
 fn move_up(children: &mut [Child], count: u32)
-    ensures { children.new ≡ map (moved_up count) children.old }
+    ensures { children.new ≡ map (placed_earlier count) children.old }
 {
     for child in children.iter_mut() {
         child.place = child.place.saturating_sub(count);
@@ -119,6 +119,7 @@ impl IdEntries {
     }
 
     /// Of how many ids something is known.
+    #[inline(always)]
     pub(crate) fn len(&self) -> usize
         ensures { result ≡ length self.now.items }
     {
@@ -135,6 +136,7 @@ impl IdEntries {
     }
 
     /// What became of the id at a place.
+    #[inline(always)]
     pub(crate) fn status(&self, place: usize) -> Status
         requires { place < length self.now.items }
         ensures { result ≡ status_in (slice_get self.now.items place) }
@@ -157,6 +159,7 @@ impl IdEntries {
     }
 
     /// Makes room, so that the next `n` ids take no memory.
+    #[inline(always)]
     pub(crate) fn reserve(&mut self, n: usize) -> Result<(), AllocError>
         ensures items { self.new.items ≡ self.old.items }
         ensures spare { self.old.spare ≤ self.new.spare }

@@ -240,6 +240,8 @@ impl StatusTable {
 
     /// The first ancestor of an id that is before the window if there is one, else its topmost ancestor: itself
     /// where it has no parent that is remembered.
+    // (few ids have a parent, so readers ask for this seldom)
+    #[inline(never)]
     pub fn top_of(&self, x: Xid) -> Xid
         ensures value { result.0 ≡ top_of self.now x.0 }
         ensures normal { IsNormal x.0 → IsNormal result.0 }

@@ -5,7 +5,7 @@ use Rattle.commit_status.specs.declared.status.Status.{Status}
 use Rattle.commit_status.specs.declared.entries.Child.{Child}
 use Rattle.commit_status.specs.Window.{IdEntry}
 use Rattle.commit_status.specs.Changes.{given_entry}
-use Rattle.commit_status.specs.Entries.{EntriesView, AreChildren, AreWithin, entries_from, with_child}
+use Rattle.commit_status.specs.Entries.{EntriesView, AreChildren, AreWithin, known_from, with_child}
 use Rattle.commit_status.proofs.EntryLemmas.{count-known, child-noted, noted-entries}
 use Rattle.commit_status.proofs.entries.IdEntries.push.Goals as goal
 
@@ -31,8 +31,8 @@ returns-clause-items c =
     let ss = c.self.inside.statuses.items in
     let cs = c.self.inside.children.items in
     let within : AreWithin cs c.len.result = subst (AreWithin cs) (sym c.len.ensures) c.self.invariant.within in
-    let items : entries_from 0 ss cs ≡ c.args.self.now.items = ap (λ (v : EntriesView). v.items) c.self.view_is in
-    ap (λ (xs : List Status). entries_from 0 xs c.note_child.new.children.items) c.push_reserved.ensures.items
-    ∙ ap (λ (ds : List Child). entries_from 0 (ss ++ _ ∷ []) ds) c.note_child.ensures.items
+    let items : known_from 0 ss cs ≡ c.args.self.now.items = ap (λ (v : EntriesView). v.items) c.self.view_is in
+    ap (λ (xs : List Status). known_from 0 xs c.note_child.new.children.items) c.push_reserved.ensures.items
+    ∙ ap (λ (ds : List Child). known_from 0 (ss ++ _ ∷ []) ds) c.note_child.ensures.items
     ∙ noted-entries ss cs c.len.result parent within (c.len.ensures ∙ c.self.inside.statuses.ok.0)
     ∙ ap (λ (es : List IdEntry). es ++ given_entry parent ∷ []) items
