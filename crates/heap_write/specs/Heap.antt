@@ -1,6 +1,7 @@
 -- A table: its pages, what became of each id, and its indexes.
 use Rattle.std.specs.Prelude.{◌≡◌, ℕ, ◌<◌, ℤ, pos, false, List, [], ◌∷◌, ◌++◌, length, slice_set, slice_index_or}
 use Rattle.tuple_header.specs.declared.version.Row.{Row}
+use Rattle.page_sheet.specs.Placing.{no_places}
 use Rattle.page_slots.specs.View.{PageView}
 use Rattle.page_sheet.specs.declared.slot.Slot.{Slot}
 use Rattle.space_maps.specs.declared.mark.Mark.TheVariants.{Nothing}
@@ -27,7 +28,7 @@ key_value row = pos row.key
 
 -- a page that is not in use: it has no slots, and was never changed
 abbrev pub unused_page : PageView
-unused_page = record { slots = []; change = 0; flag = false }
+unused_page = record { slots = []; change = 0; flag = false; places = no_places }
 
 abbrev pub page_on : HeapView → ℕ → PageView
 page_on h n = slice_index_or h.pages.pages n unused_page

@@ -1,5 +1,5 @@
 -- Redirects to one slot, counted by their words.
-use Rattle.std.proofs.Common.{◌≡◌, ◌∙◌, ℕ, zero, suc, ◌+◌, ◌*◌, ◌<◌, ◌≤◌, inl, inr, List, Option, Some, None, sym, ap, refl, arith}
+use Rattle.std.proofs.Common.{◌≡◌, ◌∙◌, ℕ, zero, suc, ◌+◌, ◌*◌, ◌<◌, ◌≤◌, inl, inr, List, Some, None, sym, ap, refl, arith}
 use Rattle.std.specs.Option.{option_and_then}
 use Rattle.std.proofs.lemmas.Bool.{cases_lt}
 use Rattle.tuple_header.specs.Layout.{number_at}
@@ -7,7 +7,7 @@ use Rattle.page_layout.specs.declared.pointer.Pointer.{Pointer}
 use Rattle.page_layout.specs.Layout.{pointer_in, pointer_of, word_of}
 use Rattle.page_layout.specs.Sound.{HasPlainWord}
 use Rattle.page_layout.proofs.PointerLemmas.{word-back, pointer-read}
-use Rattle.page_sheet.specs.Layout.{SomeRedirects, shown_by, slot_in, slots_in}
+use Rattle.page_sheet.specs.Layout.{SomeRedirects, shown_by, slots_in}
 use Rattle.page_sheet.specs.Slots.{IsRedirected, target_of, redirect_at}
 use Rattle.page_sheet.proofs.Found.{found, missing}
 use Rattle.page_sheet.proofs.Shown.{shown}

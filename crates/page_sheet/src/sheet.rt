@@ -14,7 +14,7 @@ ghost use Rattle.page_layout.specs.Layout.{pointer_in, part_of, slot_count_in, c
 ghost use Rattle.page_sheet.specs.Layout.{SomeRedirects, shown_by, slot_in, slots_in};
 ghost use Rattle.page_sheet.specs.Packing.{LieInOrder};
 ghost use Rattle.page_sheet.specs.Lying.{IsCleared, IsLying};
-ghost use Rattle.page_sheet.specs.Placing.{AllStay, OthersStay, HasGap, IsPutBelow, loses_last};
+ghost use Rattle.page_sheet.specs.Placing.{no_places, places_of, places_without, loses_last, HasGap, IsPutBelow};
 ghost use Rattle.page_sheet.specs.Standing.{StandsAt, BeginsAt, IsVersionAt};
 ghost use Rattle.page_layout.specs.declared.pointer.Pointer.{Pointer as SpecPointer};
 ghost use Rattle.page_layout.specs.Sound.{HoldsNoVersion, IsSound, IsPointer};
@@ -125,7 +125,7 @@ impl Sheet {
         ensures count { result.count ≡ 0 }
         ensures change { change_in result.bytes ≡ 0 }
         ensures flags { flags_in result.bytes ≡ 0 }
-        ensures upper { upper_in result.bytes ≡ PAGE_BYTES }
+        ensures places { places_of result ≡ no_places }
     {
         let mut bytes = [0; PAGE_BYTES];
         put_u16(&mut bytes, 12, PAGE_HEADER_BYTES as u16);
@@ -513,8 +513,7 @@ impl Sheet {
             ≡ slots_in self.old.count self.old.bytes }
         ensures change { change_in self.new.bytes ≡ change }
         ensures flags { flags_in self.new.bytes ≡ flags_in self.old.bytes }
-        ensures upper { upper_in self.new.bytes ≡ upper_in self.old.bytes }
-        ensures places { AllStay self.old self.new }
+        ensures places { places_of self.new ≡ places_of self.old }
     {
         put_u64(&mut self.bytes, 0, change);
     }
@@ -526,8 +525,7 @@ impl Sheet {
             ≡ slots_in self.old.count self.old.bytes }
         ensures change { change_in self.new.bytes ≡ change_in self.old.bytes }
         ensures flags { flags_in self.new.bytes ≡ (if flag then 4 else 0) }
-        ensures upper { upper_in self.new.bytes ≡ upper_in self.old.bytes }
-        ensures places { AllStay self.old self.new }
+        ensures places { places_of self.new ≡ places_of self.old }
     {
         put_u16(&mut self.bytes, 10, if flag { 4 } else { 0 });
     }
@@ -542,8 +540,7 @@ impl Sheet {
             (with_header (slot_in self.old.bytes index) header) }
         ensures change { change_in self.new.bytes ≡ change_in self.old.bytes }
         ensures flags { flags_in self.new.bytes ≡ flags_in self.old.bytes }
-        ensures upper { upper_in self.new.bytes ≡ upper_in self.old.bytes }
-        ensures places { AllStay self.old self.new }
+        ensures places { places_of self.new ≡ places_of self.old }
     {
         if let Pointer::Normal(extent) = self.pointer(index) {
             write_header(&mut self.bytes, extent, header);
@@ -580,7 +577,8 @@ impl Sheet {
         ensures change { change_in self.new.bytes ≡ change_in self.old.bytes }
         ensures flags { flags_in self.new.bytes ≡ flags_in self.old.bytes }
         ensures upper { upper_in self.new.bytes ≡ upper_in self.old.bytes }
-        ensures places { OthersStay self.old self.new index }
+        ensures others { (i : ℕ) → i < self.old.count → i ≢ index
+            → pointer_in self.new.bytes i ≡ pointer_in self.old.bytes i }
     {
         let lying = self.lying_without(index);
         put_pointer(&mut self.bytes, index, pointer);
@@ -599,11 +597,9 @@ impl Sheet {
             ≡ slice_set (slots_in self.old.count self.old.bytes) index (shown_by [] pointer) }
         ensures change { change_in self.new.bytes ≡ change_in self.old.bytes }
         ensures flags { flags_in self.new.bytes ≡ flags_in self.old.bytes }
-        ensures upper { upper_in self.new.bytes
-            ≡ (if loses_last (slots_in self.old.count self.old.bytes)
-            (slots_in self.new.count self.new.bytes) then PAGE_BYTES
-            else upper_in self.old.bytes) }
-        ensures places { OthersStay self.old self.new index }
+        ensures places { places_of self.new
+            ≡ places_without (slots_in self.old.count self.old.bytes)
+            (slots_in self.new.count self.new.bytes) (index + 1) (places_of self.old) }
     {
         self.set_pointer(index, pointer);
         if last {
@@ -629,7 +625,8 @@ impl Sheet {
         ensures change { change_in self.new.bytes ≡ change_in self.old.bytes }
         ensures flags { flags_in self.new.bytes ≡ flags_in self.old.bytes }
         ensures upper { upper_in self.new.bytes ≡ upper_in self.old.bytes }
-        ensures places { AllStay self.old self.new }
+        ensures pointers { (i : ℕ) → i < self.old.count
+            → pointer_in self.new.bytes i ≡ pointer_in self.old.bytes i }
         ensures last { pointer_in self.new.bytes self.old.count ≡ SpecPointer.Unused }
     {
         put_pointer(&mut self.bytes, self.count, Pointer::Unused);
@@ -670,11 +667,12 @@ impl Sheet {
             ≡ slots_in self.old.count self.old.bytes }
         ensures change { change_in self.new.bytes ≡ change_in self.old.bytes }
         ensures flags { flags_in self.new.bytes ≡ flags_in self.old.bytes }
-        ensures gap { HasGap self.new size }
-        ensures stays { HasGap self.old size → self.new ≡ self.old }
-        ensures order { ¬ HasGap self.old size
+        ensures gap { HasGap self.new.count (upper_in self.new.bytes) size }
+        ensures stays { HasGap self.old.count (upper_in self.old.bytes) size
+            → self.new ≡ self.old }
+        ensures order { ¬ HasGap self.old.count (upper_in self.old.bytes) size
             → LieInOrder self.new.bytes (slots_in self.old.count self.old.bytes) self.new.count }
-        ensures packed { ¬ HasGap self.old size
+        ensures packed { ¬ HasGap self.old.count (upper_in self.old.bytes) size
             → upper_in self.new.bytes
             + sum_by bytes_taken (slots_in self.old.count self.old.bytes) ≡ PAGE_BYTES }
     {
@@ -696,8 +694,8 @@ impl Sheet {
             (Slot.Normal (record { header = header.now; row = row.now })) }
         ensures change { change_in self.new.bytes ≡ change_in self.old.bytes }
         ensures flags { flags_in self.new.bytes ≡ flags_in self.old.bytes }
-        ensures places { IsPutBelow self.old self.new index (size_of row.now)
-            (rounded_size_of row.now) }
+        ensures places { IsPutBelow (slots_in self.old.count self.old.bytes) (places_of self.old)
+            (places_of self.new) (index + 1) (rounded_size_of row.now) (rounded_size_of row.now) }
     {
         self.make_way(row_size(row));
         put_below(&mut self.bytes, self.count, index, header, row);
@@ -717,7 +715,8 @@ impl Sheet {
             ++ Slot.Normal (record { header = header.now; row = row.now }) ∷ [] }
         ensures change { change_in self.new.bytes ≡ change_in self.old.bytes }
         ensures flags { flags_in self.new.bytes ≡ flags_in self.old.bytes }
-        ensures places { IsPutBelow self.old self.new self.old.count (size_of row.now)
+        ensures places { IsPutBelow (slots_in self.old.count self.old.bytes) (places_of self.old)
+            (places_of self.new) (self.old.count + 1) (rounded_size_of row.now)
             (rounded_size_of row.now + 4) }
     {
         self.make_way(row_size(row) + 4);
@@ -735,7 +734,8 @@ impl Sheet {
         ensures change { change_in self.new.bytes ≡ change_in self.old.bytes }
         ensures flags { flags_in self.new.bytes ≡ flags_in self.old.bytes }
         ensures upper { upper_in self.new.bytes ≡ PAGE_BYTES }
-        ensures places { AllStay self.old self.new }
+        ensures pointers { (i : ℕ) → i < self.old.count
+            → pointer_in self.new.bytes i ≡ pointer_in self.old.bytes i }
     {
         let _count = self.count;
         put_u16(&mut self.bytes, 14, PAGE_BYTES as u16);

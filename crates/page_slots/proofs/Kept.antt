@@ -16,6 +16,7 @@ use Rattle.tuple_header.specs.Version.{Version}
 use Rattle.page_sheet.specs.declared.sheet.TheConstants.{MOST_BYTES}
 use Rattle.page_slots.specs.View.{AreTallied}
 use Rattle.page_sheet.specs.Slots.{is_unused, bytes_taken, version_of, with_header, has_unused, free_number, with_added, free_bytes, room_of, differs_in_hints_alone}
+use Rattle.page_sheet.specs.Placing.{gap_wanted}
 use Rattle.page_sheet.proofs.SlotLemmas.{first_within, free_number-new, length-with_added}
 use Rattle.page_sheet.proofs.FreeLemmas.{taken-after_added}
 
@@ -150,6 +151,17 @@ with_added-at slots s i is within =
 
 pub with_added-behind : (slots : List Slot) (s : Slot) (i : ℕ) → i ≡ position_or_len is_unused slots → length slots ≤ i → with_added slots s ≡ slots ++ s ∷ []
 with_added-behind slots s i is past =
+    ⊎_elim (λ reused. let within = ltb-true (position_or_len is_unused slots) (length slots) reused in absurd (omega arith))
+    (λ new. rw new refl) (cases_Bool (has_unused slots))
+
+-- and what it asks of the gap
+pub gap-reused : (slots : List Slot) (i size : ℕ) → i ≡ position_or_len is_unused slots → i < length slots → size ≡ gap_wanted slots size
+gap-reused slots i size is within =
+    let reused : has_unused slots ≡ true = lt-ltb (position_or_len is_unused slots) (length slots) (omega arith) in
+    rw reused refl
+
+pub gap-new : (slots : List Slot) (i size : ℕ) → i ≡ position_or_len is_unused slots → length slots ≤ i → size + 4 ≡ gap_wanted slots size
+gap-new slots i size is past =
     ⊎_elim (λ reused. let within = ltb-true (position_or_len is_unused slots) (length slots) reused in absurd (omega arith))
     (λ new. rw new refl) (cases_Bool (has_unused slots))
 

@@ -5,3 +5,4 @@ pub mod CoverLemmas
 pub mod CheckLemmas
 pub mod PlainLemmas
 pub mod Begun
+pub mod Numbered

@@ -1,6 +1,7 @@
 //! Pages. What only asks or changes the sheet is here since that is private: callers see a page as its slots.
 
 ghost use Rattle.std.specs.Prelude.{◌≡◌, ◌⊎◌, ◌≤◌, ◌<◌, ◌+◌, ◌*◌, ℕ, sum_by, [], true, false, length, IfSome, IsSome, IsTrue, ◌↔◌, Some, None, MatchOption, Err, OnOk, OnErr, IfOk};
+ghost use Rattle.std.specs.Option.{option_map};
 ghost use Rattle.tuple_header.specs.Faults.{header_fault};
 ghost use Rattle.tuple_header.specs.Version.{rounded_size_of};
 ghost use Rattle.page_sheet.specs.declared.sheet.TheConstants.{MOST_BYTES};
@@ -9,9 +10,10 @@ ghost use Rattle.page_sheet.specs.Layout.{shown_by};
 ghost use Rattle.page_slots.specs.Reading.{page_of};
 ghost use Rattle.page_slots.specs.Faults.{AreSoundRedirects, page_fault};
 ghost use Rattle.page_sheet.specs.Standing.{length_at, LiesWithin};
-ghost use Rattle.page_slots.specs.Standing.{BeginsElsewhere, IsPointedTo};
+ghost use Rattle.page_sheet.specs.Placing.{no_places, start_at, gap_wanted, IsPutBelow};
+ghost use Rattle.page_slots.specs.View.{with_bare_slot};
 ghost use Rattle.page_layout.specs.Sound.{HoldsNoVersion};
-ghost use Rattle.page_sheet.specs.Slots.{is_unused, is_dead, is_undeleted_by, redirects_to, head_of, slot_at, version_at, header_at, row_at, undeleted_row_at, key_at, redirect_at, IsRedirected, SlotIsThere, IsNormalAt, the_slot, with_slot, with_header_at, has_unused, free_number, with_added, bytes_taken, free_bytes, room_of, next_change, change_unless, differs_in_hints_alone};
+ghost use Rattle.page_sheet.specs.Slots.{is_unused, is_dead, is_undeleted_by, redirects_to, head_of, slot_at, version_at, header_at, row_at, undeleted_row_at, key_at, redirect_at, IsRedirected, SlotIsThere, IsNormalAt, the_slot, with_header_at, has_unused, free_number, with_added, bytes_taken, free_bytes, room_of, next_change, change_unless, differs_in_hints_alone};
 
 use page_layout::Pointer;
 use page_sheet::{MOST_BYTES, Sheet, Slot, SlotHead};
@@ -43,6 +45,7 @@ impl Model for Page {
     ghost use Rattle.page_slots.specs.View.{PageView, AreTallied};
     ghost use Rattle.page_layout.specs.Layout.{change_in, flags_in};
     ghost use Rattle.page_sheet.specs.Layout.{slots_in};
+    ghost use Rattle.page_sheet.specs.Placing.{places_in};
 
     ghost Value = { PageView };
 
@@ -50,6 +53,7 @@ impl Model for Page {
       slots = slots_in p.sheet.count p.sheet.bytes;
       change = change_in p.sheet.bytes;
       flag = not (flags_in p.sheet.bytes == 0);
+      places = places_in p.sheet.count p.sheet.bytes;
     } };
 
     ghost invariant = { λ p.
@@ -70,6 +74,7 @@ impl Page {
         ensures slots { result.slots ≡ [] }
         ensures change { result.change ≡ 0 }
         ensures flag { result.flag ≡ false }
+        ensures places { result.places ≡ no_places }
     {
         Page {
             sheet: Sheet::new(),
@@ -197,12 +202,9 @@ impl Page {
         ensures value { IfSome result (λ found. version_at self.now.slots number
             ≡ Some (record { header = found.0; row = found.1 })) }
         ensures faultless { IfSome result (λ found. header_fault found.0 ≡ None) }
-        ensures none { result ≡ None → IsNormalAt self.now.slots number
-            → BeginsElsewhere self.now number from }
+        ensures begins { IsSome result ↔ (start_at self.now.places number ≡ Some from) }
     {
         let index = index_of(number)?;
-        // They keep all promises of `bytes`.
-        let _bytes = self.sheet.bytes();
         if index < self.sheet.len() {
             self.sheet.version_from(index, from)
         } else {
@@ -229,11 +231,9 @@ impl Page {
         ensures normal { IsSome result ↔ IsNormalAt self.now.slots number }
         ensures size { IfSome result (λ place. length_at self.now.slots number ≡ Some place.1) }
         ensures within { IfSome result (λ place. LiesWithin place.0 place.1) }
-        ensures pointer { IfSome result (λ place. IsPointedTo self.now number place.0 place.1) }
+        ensures start { option_map (λ place. place.0) result ≡ start_at self.now.places number }
     {
         let index = index_of(number)?;
-        // They keep all promises of `bytes`.
-        let _bytes = self.sheet.bytes();
         if index < self.sheet.len() {
             match self.sheet.extent(index) {
                 Some(extent) => Some((extent.from, extent.len)),
@@ -362,8 +362,10 @@ impl Page {
             (self.new.slots ≡ with_added self.old.slots (Slot.Normal version)) }
         ensures change { OnOk result (self.new.change ≡ next_change self.old.change) }
         ensures flag { self.new.flag ≡ self.old.flag }
-        ensures err_slots { OnErr result (self.new.slots ≡ self.old.slots) }
-        ensures err_change { OnErr result (self.new.change ≡ self.old.change) }
+        ensures places { IfOk result (λ n. IsPutBelow self.old.slots self.old.places
+            self.new.places n (rounded_size_of version.row)
+            (gap_wanted self.old.slots (rounded_size_of version.row))) }
+        ensures err { OnErr result (self.new ≡ self.old) }
     {
         if row_size(&version.row) > self.room() {
             return Err(AddFault::Full);
@@ -384,6 +386,8 @@ impl Page {
             ≡ with_added self.old.slots (Slot.Normal (record { header = header; row = row.now })) }
         ensures change { self.new.change ≡ next_change self.old.change }
         ensures flag { self.new.flag ≡ self.old.flag }
+        ensures places { IsPutBelow self.old.slots self.old.places self.new.places result
+            (rounded_size_of row.now) (gap_wanted self.old.slots (rounded_size_of row.now)) }
     {
         let _room = self.room();
         let index = self.free;
@@ -408,6 +412,7 @@ impl Page {
             ≡ change_unless
             (differs_in_hints_alone (the_slot self.old.slots number) header) self.old.change }
         ensures flag { self.new.flag ≡ self.old.flag }
+        ensures places { self.new.places ≡ self.old.places }
     {
         let index = usize::from(number) - 1;
         let hints_alone = match self.sheet.header(index) {
@@ -431,10 +436,8 @@ impl Page {
     /// Makes the slot of this number, which is there, unused. The change number is raised where it was not unused.
     pub fn set_unused(&mut self, number: u16)
         requires { SlotIsThere self.old.slots number }
-        ensures { self.new ≡ record self.old {
-          slots = with_slot self.old.slots number Slot.Unused;
-          change = change_unless (is_unused (the_slot self.old.slots number)) self.old.change;
-        } }
+        ensures { self.new ≡ with_bare_slot self.old number Slot.Unused
+            (is_unused (the_slot self.old.slots number)) }
     {
         let same = self.sheet.is_unused(usize::from(number) - 1);
         self.put(number, Pointer::Unused, same);
@@ -443,10 +446,8 @@ impl Page {
     /// Makes the slot of this number, which is there, dead. The change number is raised where it was not dead.
     pub fn set_dead(&mut self, number: u16)
         requires { SlotIsThere self.old.slots number }
-        ensures { self.new ≡ record self.old {
-          slots = with_slot self.old.slots number Slot.Dead;
-          change = change_unless (is_dead (the_slot self.old.slots number)) self.old.change;
-        } }
+        ensures { self.new ≡ with_bare_slot self.old number Slot.Dead
+            (is_dead (the_slot self.old.slots number)) }
     {
         let same = self.sheet.is_dead(usize::from(number) - 1);
         self.put(number, Pointer::Dead, same);
@@ -457,11 +458,8 @@ impl Page {
     pub fn set_redirect(&mut self, number: u16, target: u16)
         requires there { SlotIsThere self.old.slots number }
         requires target_there { SlotIsThere self.old.slots target }
-        ensures { self.new ≡ record self.old {
-          slots = with_slot self.old.slots number (Slot.Redirect target);
-          change = change_unless (redirects_to target (the_slot self.old.slots number))
-              self.old.change;
-        } }
+        ensures { self.new ≡ with_bare_slot self.old number (Slot.Redirect target)
+            (redirects_to target (the_slot self.old.slots number)) }
     {
         let same = self.sheet.redirects_to(usize::from(number) - 1, target);
         self.put(number, Pointer::Redirect(target), same);
@@ -471,10 +469,7 @@ impl Page {
     fn put(&mut self, number: u16, pointer: Pointer, same: bool)
         requires there { SlotIsThere self.old.slots number }
         requires bare { HoldsNoVersion (length self.old.slots) pointer }
-        ensures { self.new ≡ record self.old {
-          slots = with_slot self.old.slots number (shown_by [] pointer);
-          change = change_unless same self.old.change;
-        } }
+        ensures { self.new ≡ with_bare_slot self.old number (shown_by [] pointer) same }
     {
         let index = usize::from(number) - 1;
         let from = match pointer {

@@ -2,8 +2,8 @@
 use Rattle.std.specs.Prelude.{ℕ, zero, suc, ◌<◌, ◌≤◌, ◌==◌, Bool, List, [], ◌∷◌, Option, Some, None, if◌then◌else◌}
 use Rattle.page_sheet.specs.declared.slot.Slot.{Slot}
 use Rattle.page_sheet.specs.declared.slot.Slot.TheVariants.{Unused, Redirect, Dead}
-use Rattle.page_sheet.specs.Slots.{is_unused, is_dead, redirects_to, the_slot, with_slot, next_change, change_unless}
-use Rattle.page_slots.specs.View.{PageView}
+use Rattle.page_sheet.specs.Slots.{is_unused, is_dead, redirects_to, the_slot, next_change}
+use Rattle.page_slots.specs.View.{PageView, with_bare_slot}
 use Rattle.prune_actions.specs.declared.Action.{Action}
 use Rattle.prune_actions.specs.declared.Action.TheVariants as action
 
@@ -26,10 +26,7 @@ acted old (Some a) = Some (made_by a)
 
 -- a page after one action: the slot named is what it makes of it, and the change number is raised where that is new
 abbrev pub after_action : PageView → ℕ → Action → PageView
-after_action page n a = record page {
-  slots = with_slot page.slots n (made_by a);
-  change = change_unless (is_done a (the_slot page.slots n)) page.change;
-}
+after_action page n a = with_bare_slot page n (made_by a) (is_done a (the_slot page.slots n))
 
 -- and after these, one after another
 abbrev pub applied : List (ℕ × Action) → PageView → PageView

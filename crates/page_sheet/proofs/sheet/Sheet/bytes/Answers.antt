@@ -1,4 +1,4 @@
-use Rattle.std.proofs.Common.{◌≡◌, arith, subst}
+use Rattle.std.proofs.Common.{arith, subst}
 use Rattle.page_sheet.specs.Sheet.{SheetView}
 use Rattle.page_layout.specs.Sound.{IsSound}
 use Rattle.page_sheet.proofs.sheet.Sheet.bytes.Goals as goal

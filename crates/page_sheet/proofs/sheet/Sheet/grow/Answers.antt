@@ -34,8 +34,8 @@ returns-clause-flags c = rw (← c.self.view_is) (whole c).flags
 pub returns-clause-upper : goal.returns-clause-upper
 returns-clause-upper c = rw (← c.self.view_is) (whole c).upper
 
-pub returns-clause-places : goal.returns-clause-places
-returns-clause-places c = rw (← c.self.view_is) (whole c).pointers
+pub returns-clause-pointers : goal.returns-clause-pointers
+returns-clause-pointers c = rw (← c.self.view_is) (whole c).pointers
 
 pub returns-clause-last : goal.returns-clause-last
 returns-clause-last c = rw (← c.self.view_is) (whole c).last

@@ -33,5 +33,5 @@ returns-clause-flags c = rw (← c.self.view_is) (lifted c).flags
 pub returns-clause-upper : goal.returns-clause-upper
 returns-clause-upper c = (lifted c).upper
 
-pub returns-clause-places : goal.returns-clause-places
-returns-clause-places c = rw (← c.self.view_is) (λ i h. (lifted c).pointers i)
+pub returns-clause-pointers : goal.returns-clause-pointers
+returns-clause-pointers c = rw (← c.self.view_is) (λ i h. (lifted c).pointers i)

@@ -1,4 +1,5 @@
-use Rattle.std.proofs.Common.{refl}
+use Rattle.std.proofs.Common.{ℕ, [], refl, ap}
+use Rattle.page_sheet.specs.Placing.{VersionPlaces}
 use Rattle.page_sheet.proofs.Blank.{IsBlank, blank}
 use Rattle.page_sheet.proofs.LyingLemmas.{lying-bare_page}
 use Rattle.page_sheet.proofs.sheet.Sheet.new.Goals as goal
@@ -15,5 +16,5 @@ returns-clause-change c = (blanked c).change
 pub returns-clause-flags : goal.returns-clause-flags
 returns-clause-flags c = (blanked c).flags
 
-pub returns-clause-upper : goal.returns-clause-upper
-returns-clause-upper c = (blanked c).upper
+pub returns-clause-places : goal.returns-clause-places
+returns-clause-places c = ap (λ (u : ℕ). let p : VersionPlaces = record { starts = []; upper = u } in p) (blanked c).upper

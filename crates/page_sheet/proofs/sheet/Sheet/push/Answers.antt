@@ -1,10 +1,11 @@
-use Rattle.std.proofs.Common.{◌≡◌, ◌∙◌, ◌+◌, ◌++◌, ◌∷◌, [], ℕ, List, length, set, sym, ap, subst, refl, arith}
+use Rattle.std.proofs.Common.{◌≡◌, ◌≢◌, ◌<◌, ◌∙◌, ◌+◌, ◌++◌, ◌∷◌, [], ℕ, List, length, set, sym, ap, subst, refl, arith}
 use Rattle.std.proofs.lemmas.List.{set_at}
 use Rattle.tuple_header.specs.Version.{Version, size_of, rounded_size_of}
 use Rattle.page_layout.specs.declared.pointer.Pointer.{Pointer}
 use Rattle.page_layout.specs.declared.pointer.Extent.{Extent}
 use Rattle.page_layout.specs.Layout.{pointer_in, upper_in}
-use Rattle.page_sheet.specs.Placing.{OthersStay, IsPutBelow}
+use Rattle.page_sheet.specs.Placing.{places_of, IsPutBelow}
+use Rattle.page_layout.proofs.OrderLemmas.{below_or_last}
 use Rattle.page_sheet.specs.Sheet.{SheetView}
 use Rattle.page_sheet.specs.declared.slot.Slot.{Slot}
 use Rattle.page_sheet.specs.Layout.{slots_in}
@@ -44,16 +45,17 @@ pub returns-clause-places : goal.returns-clause-places
 returns-clause-places c =
     let old = c.args.self.now in
     let way = c.make_way.new.self in
+    let index = c.self.inside.count in
     let new : SheetView = record { bytes = c.put_below.new.bytes; count = c.self-2.inside.count } in
-    let len = size_of c.args.row.now in
-    let counted : c.self.inside.count ≡ way.count = ap (λ (s : SheetView). s.count) c.self.view_is in
-    let again : c.self-2.inside.count ≡ c.grow.new.self.count = ap (λ (s : SheetView). s.count) c.self-2.view_is in
-    let index : c.self.inside.count ≡ old.count = counted ∙ c.make_way.ensures.count in
+    let counted : index ≡ way.count = ap (λ (s : SheetView). s.count) c.self.view_is in
+    let again : new.count ≡ c.grow.new.self.count = ap (λ (s : SheetView). s.count) c.self-2.view_is in
+    let same : index ≡ old.count = counted ∙ c.make_way.ensures.count in
     let grown : c.grow.new.self.count ≡ way.count + 1 = c.grow.ensures.count in
-    let others : OthersStay way new c.self.inside.count = λ i within other. c.put_below.ensures.places i (omega arith) other
-    ∙ ap (λ (s : SheetView). pointer_in s.bytes i) c.self-2.view_is ∙ c.grow.ensures.places i within in
-    subst (λ (n : ℕ). IsPutBelow old new n len (rounded_size_of c.args.row.now + 4)) index
-    (subst (λ (n : ℕ). IsPutBelow old new c.self.inside.count len (n + 4)) c.row_size.ensures.value
-    (put-below old way new c.self.inside.count len (c.row_size.result + 4) c.make_way.ensures.count
+    let others : (i : ℕ) → i < way.count → i ≢ index → pointer_in new.bytes i ≡ pointer_in way.bytes i = λ i within other.
+    c.put_below.ensures.places i (omega arith) other ∙ ap (λ (s : SheetView). pointer_in s.bytes i) c.self-2.view_is ∙ c.grow.ensures.pointers i within in
+    subst (λ (n : ℕ). IsPutBelow (slots_in old.count old.bytes) (places_of old) (places_of new) (n + 1) (rounded_size_of c.args.row.now) (rounded_size_of c.args.row.now + 4)) same
+    (subst (λ (n : ℕ). IsPutBelow (slots_in old.count old.bytes) (places_of old) (places_of new) (index + 1) (rounded_size_of c.args.row.now) (n + 4)) c.row_size.ensures.value
+    (put-below old way new index (size_of c.args.row.now) (c.row_size.result + 4) c.make_way.ensures.count
+    (record { within = omega arith; most = omega arith; others = λ i within other. let below = below_or_last i index (omega arith) other in omega arith })
     c.make_way.ensures.stays c.make_way.ensures.order c.make_way.ensures.packed c.put_below.ensures.here others
     (c.put_below.ensures.upper ∙ ap (λ (s : SheetView). upper_in s.bytes) c.self-2.view_is ∙ c.grow.ensures.upper)))

@@ -1,5 +1,6 @@
 use Rattle.std.proofs.Common.{arith, inr, rules}
 use Rattle.page_sheet.proofs.Sounds.{change-noted, fields-apart, field-written}
+use Rattle.page_sheet.proofs.PlacingLemmas.{places-kept}
 use Rattle.page_sheet.proofs.LyingLemmas.{alike-same, lying-kept}
 use Rattle.page_sheet.proofs.sheet.Sheet.set_change.Goals as goal
 
@@ -27,10 +28,9 @@ returns-clause-flags c =
     let long = c.self.invariant.0.long in
     rw (← c.self.view_is) (fields-apart 0 8 10 2 c.args.change 8 c.self.inside.bytes c.put_u64.new.bytes c.put_u64.ensures (omega arith) (omega arith) (inr (omega arith)))
 
-pub returns-clause-upper : goal.returns-clause-upper
-returns-clause-upper c =
-    rw (← c.self.view_is) (change-noted c.self.inside.bytes c.put_u64.new.bytes c.self.inside.count c.args.change c.self.invariant.0 c.put_u64.ensures).upper
-
 pub returns-clause-places : goal.returns-clause-places
 returns-clause-places c =
-    rw (← c.self.view_is) (λ i h. (change-noted c.self.inside.bytes c.put_u64.new.bytes c.self.inside.count c.args.change c.self.invariant.0 c.put_u64.ensures).pointers i)
+    let a = c.self.inside.bytes in
+    let b = c.put_u64.new.bytes in
+    let noted = change-noted a b c.self.inside.count c.args.change c.self.invariant.0 c.put_u64.ensures in
+    rw (← c.self.view_is) (places-kept c.self.inside.count a b noted.upper (λ i h. noted.pointers i))

@@ -1,5 +1,6 @@
 use Rattle.std.proofs.Common.{◌≡◌, ◌⊎◌, ◌<◌, ◌^◌, ⊎_elim, if◌then◌else◌, ◌∙◌, arith, inl, inr}
 use Rattle.page_sheet.proofs.Sounds.{flags-noted, fields-apart, field-written}
+use Rattle.page_sheet.proofs.PlacingLemmas.{places-kept}
 use Rattle.page_sheet.proofs.LyingLemmas.{alike-same, lying-kept}
 use Rattle.page_sheet.proofs.sheet.Sheet.set_flag.Goals as goal
 use Rattle.page_sheet.proofs.sheet.Sheet.set_flag.Goals.{then-flag, else-flag}
@@ -36,12 +37,10 @@ returns-clause-flags c =
     ] in
     field-written 10 2 c.if-flag.put_u16 c.self.inside.bytes c.put_u16.new.bytes c.put_u16.ensures (omega arith) small ∙ value
 
-pub returns-clause-upper : goal.returns-clause-upper
-returns-clause-upper c =
-    let one : (c.if-flag.put_u16 ≡ 0) ⊎ (c.if-flag.put_u16 ≡ 4) = elim c.if-flag.branch [ then-flag w ↦ inr w.put_u16-is | else-flag w ↦ inl w.put_u16-is ] in
-    rw (← c.self.view_is) (flags-noted c.self.inside.bytes c.put_u16.new.bytes c.self.inside.count c.if-flag.put_u16 c.self.invariant.0 c.put_u16.ensures one).upper
-
 pub returns-clause-places : goal.returns-clause-places
 returns-clause-places c =
     let one : (c.if-flag.put_u16 ≡ 0) ⊎ (c.if-flag.put_u16 ≡ 4) = elim c.if-flag.branch [ then-flag w ↦ inr w.put_u16-is | else-flag w ↦ inl w.put_u16-is ] in
-    rw (← c.self.view_is) (λ i h. (flags-noted c.self.inside.bytes c.put_u16.new.bytes c.self.inside.count c.if-flag.put_u16 c.self.invariant.0 c.put_u16.ensures one).pointers i)
+    let a = c.self.inside.bytes in
+    let b = c.put_u16.new.bytes in
+    let noted = flags-noted a b c.self.inside.count c.if-flag.put_u16 c.self.invariant.0 c.put_u16.ensures one in
+    rw (← c.self.view_is) (places-kept c.self.inside.count a b noted.upper (λ i h. noted.pointers i))

@@ -3,6 +3,7 @@ use Rattle.page_sheet.specs.Sheet.{SheetView}
 use Rattle.page_layout.specs.declared.pointer.Pointer.TheVariants as pointer
 use Rattle.page_layout.specs.Layout.{pointer_in}
 use Rattle.page_sheet.proofs.HeaderSet.{IsReheaded, header-set, header-none}
+use Rattle.page_sheet.proofs.PlacingLemmas.{places-kept}
 use Rattle.page_sheet.proofs.LyingLemmas.{alike-same, lying-kept}
 use Rattle.page_sheet.proofs.sheet.Sheet.set_header.Goals as goal
 
@@ -33,18 +34,16 @@ returns-in-Normal-clause-change c = rw (← c.self.view_is) (reheaded c).change
 pub returns-in-Normal-clause-flags : goal.returns-in-Normal-clause-flags
 returns-in-Normal-clause-flags c = rw (← c.self.view_is) (reheaded c).flags
 
-pub returns-in-Normal-clause-upper : goal.returns-in-Normal-clause-upper
-returns-in-Normal-clause-upper c = rw (← c.self.view_is) (reheaded c).upper
-
 pub returns-in-Normal-clause-places : goal.returns-in-Normal-clause-places
-returns-in-Normal-clause-places c = rw (← c.self.view_is) (reheaded c).pointers
+returns-in-Normal-clause-places c =
+    let done = reheaded c in
+    rw (← c.self.view_is) (places-kept c.self.inside.count c.self.inside.bytes c.write_header.new.bytes done.upper done.pointers)
 
 pub returns-in_default : goal.returns-in_default
 returns-in_default c = record {
   count = refl;
   change = refl;
   flags = refl;
-  upper = refl;
-  places = λ i h. refl;
+  places = refl;
   slots = header-none c.args.self.now.bytes c.args.self.now.count c.args.index c.pointer.result c.args.header c.requires.there c.pointer.ensures.value c.in_default.not-Normal;
 }

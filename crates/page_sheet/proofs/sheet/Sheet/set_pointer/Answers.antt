@@ -42,5 +42,5 @@ returns-clause-flags c = rw (← c.self.view_is) (repointed c).flags
 pub returns-clause-upper : goal.returns-clause-upper
 returns-clause-upper c = rw (← c.self.view_is) (repointed c).upper
 
-pub returns-clause-places : goal.returns-clause-places
-returns-clause-places c = rw (← c.self.view_is) (λ i h other. (repointed c).others i other)
+pub returns-clause-others : goal.returns-clause-others
+returns-clause-others c = rw (← c.self.view_is) (λ i h other. (repointed c).others i other)
