@@ -8,7 +8,7 @@ use crate::id::number_of_id_status;
 use session_core::{Engine, SlotFate};
 use slot_fates::{DeletedBy, VersionFate};
 
-/// What pruning would do to a slot now. What its kind has not is 0.
+/// What pruning would do to a slot now. Fields that do not apply are 0.
 #[repr(C)]
 #[derive(Clone, Copy)]
 pub struct SandpiperFate {

@@ -31,7 +31,7 @@ impl Model for RowIn {
     ghost view = { λ r. record { key = r.key; cols = r.cols; body = r.body.items } };
 }
 
-/// A plan of what is done to the slots of a page, of any length, and made by whomever.
+/// A plan of what is done to the slots of a page, of any length; anyone may have made it.
 #[derive(Debug, Drop)]
 pub struct PlanIn {
     /// The change number of the page that it was made for.

@@ -149,8 +149,8 @@ fn rest_from(bytes: &[u8], count: usize, first: usize, top: usize) -> (usize, us
     run_from(bytes, count, first, top)
 }
 
-/// Whether no version lies below that of the last slot, if there is one, as is so where all lie in the order of their slots. It is
-/// asked for speed alone: what is promised of `close_hole` does not depend on it.
+/// Whether the last slot's version is the lowest, as it is when versions lie in slot order. It is asked for speed alone: what
+/// `close_hole` promises does not depend on it.
 #[inline(always)]
 fn is_last_lowest(bytes: &[u8], count: usize) -> bool
     requires { IsSound bytes.now count }

@@ -24,8 +24,8 @@ pub(crate) fn position_after<N: Node>(nodes: &[N], from: Option<Entry>) -> TreeP
     }
 }
 
-/// Where the entries after this one begin, or all, where there is none. It is not searched for where it still stands at the position
-/// that is given.
+/// Where the entries after this one begin, or all, where there is none. If the entry is still at the given position, no search is
+/// needed.
 #[inline(always)]
 pub(crate) fn position_near<N: Node>(
     nodes: &[N],
@@ -42,7 +42,7 @@ pub(crate) fn position_near<N: Node>(
     }
 }
 
-/// Where the entries after this one begin. It is not searched for where it still stands at the position that is given.
+/// Where the entries after this one begin. If the entry is still at the given position, no search is needed.
 #[inline(always)]
 fn position_behind<N: Node>(
     nodes: &[N],
@@ -77,8 +77,7 @@ pub(crate) fn position_from<N: Node>(
     }
 }
 
-/// Where the entry stands, or where it would. It is not searched for where it goes right before or right behind the position that is
-/// given, if one is.
+/// Where the entry is, or would go. If a position is given and the entry goes right before or behind it, no search is needed.
 pub(crate) fn position_for<N: Node>(
     nodes: &[N],
     sought: &Entry,
@@ -101,7 +100,7 @@ pub(crate) fn position_for<N: Node>(
     }
 }
 
-/// Where the entry stands, or where it would. It is not searched for where it goes right before or right behind this position.
+/// Where the entry is, or would go. If it goes right before or behind this position, no search is needed.
 fn position_beside<N: Node>(
     nodes: &[N],
     sought: &Entry,
