@@ -1,6 +1,6 @@
 #!/usr/bin/env bash
 # tools/release.sh FOLDER GATE: makes FOLDER/sandpipercot-VERSION-linux-x86_64.tar.gz of a proved build, over what the gate has left: the
-# programs, the library, the header and classes, the crate, the wheel, the documents for callers, SHA256SUMS, and GATE.txt. The last are
+# programs, the library, the header and classes, the crate, the wheel, the documents, SHA256SUMS, and GATE.txt. The last are
 # the end of GATE, the file with all that tools/test.sh said of this commit.
 #
 # It proves the calls for C over what `rt ci` has left (tools/over_gate.py), and stops where that is not there, is older than its sources, or
@@ -44,7 +44,7 @@ trap 'rm -rf "$work"' EXIT
 export SOURCE_DATE_EPOCH=$(git -C "$root" log -1 --format=%ct)
 "$root/tools/install.sh" "$root/crates/sandpiper_c/out/libsandpiper_c.a" "$work/$name" >/dev/null
 install -D -m 755 -t "$work/$name/bin" "${programs[@]}"
-install -D -m 644 -t "$work/$name/share/doc/sandpipercot" "$root"/docs/{callers,recipes,caveats,script,looks,rules,format,judging}.md
+install -D -m 644 -t "$work/$name/share/doc/sandpipercot" "$root"/docs/*.md
 { echo "commit $commit"; tail -n 20 "$gate"; } >"$work/$name/GATE.txt"
 (cd "$work/$name" && find . -type f ! -name SHA256SUMS -printf '%P\n' | LC_ALL=C sort | xargs -d '\n' sha256sum >SHA256SUMS)
 mkdir -p "$1"

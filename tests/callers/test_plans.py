@@ -20,7 +20,7 @@ Fates = Dict[int, str]
 
 
 class Version(NamedTuple):
-    """A slot of a page. What its kind has not is 0."""
+    """A slot of a page. Fields that do not apply are 0."""
 
     kind: Kind
     target: int = 0
