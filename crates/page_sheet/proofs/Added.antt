@@ -18,7 +18,7 @@ use Rattle.page_sheet.proofs.Shown.{shown, part-long, taken-shown}
 use Rattle.page_sheet.specs.declared.slot.Slot.{Slot}
 use Rattle.page_layout.proofs.OrderLemmas.{same_or_other}
 use Rattle.page_layout.proofs.Frames.{Agrees, agrees-with_bytes, agrees-with_number, part-written, number-written, number-outside, pointer-outside, plain-outside, plain-written, part-outside}
-use Rattle.page_sheet.proofs.Sounds.{slots_in-at, length-slots_in, extent-in, part-kept, slot-kept, slots-kept, slots-set, pointer-kept, headed-kept, sound-behind}
+use Rattle.page_sheet.proofs.Sounds.{slots_in-at, length-slots_in, extent-in, part-kept, slot-kept, slots-kept, slots-set, pointer-kept, headed-kept, headed-by, apart-same, sound-behind}
 
 pub record IsBelow (a b : List ℕ) (count from : ℕ) (v : Version) : Type 0 where
   pub sound : IsSound b count
@@ -86,8 +86,6 @@ upper-lowered a b count upper sound gap down aligned written =
     let kept : (j : ℕ) (d : Extent) → j < count → pointer_in a j ≡ Pointer.Normal d → part_of b d ≡ part_of a d = λ j d k there.
     let over : upper_in a ≤ d.from = (extent-in a count j d sound k there).over in
     part-kept a b count 14 16 j d sound agrees k there (inr (omega arith)) in
-    let headed = sound.headed in
-    let flags : flags_in b ≡ flags_in a = at 10 2 (inl (omega arith)) in
     record {
       sound = record {
         long = agrees.long ∙ whole;
@@ -96,20 +94,14 @@ upper-lowered a b count upper sound gap down aligned written =
         gap = subst (λ (u : ℕ). 24 + 4 * count ≤ u) (sym is) gap;
         upper = subst (λ (u : ℕ). u ≤ 8192) (sym is) (omega arith);
         aligned = ap (λ (u : ℕ). u % 8) is ∙ aligned;
-        headed = record {
-          checksum = at 8 2 (inl (omega arith)) ∙ headed.checksum;
-          flags = subst (λ (f : ℕ). (f ≡ 0) ⊎ (f ≡ 4)) (sym flags) headed.flags;
-          special = at 16 2 (inr (omega arith)) ∙ headed.special;
-          version = at 18 2 (inr (omega arith)) ∙ headed.version;
-          prune_id = at 20 4 (inr (omega arith)) ∙ headed.prune_id;
-        };
+        headed = headed-by a b (λ m n low h w. at m n (⊎_elim (λ x. inl (omega arith)) inr w)) sound.headed;
         pointers = λ j h. subst (IsPointer b count) (sym (pointers j)) (pointer-lowered a b count (pointer_in a j) (subst (λ (u : ℕ). u ≤ upper_in a) (sym is) down) (sound.pointers j h) (λ e there. kept j e h there));
         plain = λ j h. plain-outside 14 16 j a b agrees (inr (omega arith)) (sound.plain j h);
-        apart = λ i j h k. ⊎_elim inl (λ far. inr (subst (λ (p : Pointer). AreApart p (pointer_in b j)) (sym (pointers i)) (subst (λ (p : Pointer). AreApart (pointer_in a i) p) (sym (pointers j)) far))) (sound.apart i j h k);
+        apart = λ i j h k. apart-same a b i j (pointers i) (pointers j) (sound.apart i j h k);
       };
       slots = slots-kept count a b (λ j k. slot-kept a b j (pointers j) (λ d there. kept j d k there));
       change = at 0 8 (inl (omega arith));
-      flags = flags;
+      flags = at 10 2 (inl (omega arith));
       upper = is;
       parts = parts;
       pointers = pointers;
@@ -170,7 +162,7 @@ pointer-placed a b count i e sound within good above written =
         gap = subst (λ (u : ℕ). 24 + 4 * count ≤ u) (sym upper) gap;
         upper = subst (λ (u : ℕ). u ≤ 8192) (sym upper) sound.upper;
         aligned = ap (λ (u : ℕ). u % 8) upper ∙ sound.aligned;
-        headed = headed-kept a b lo hi sound.headed agrees (at 10 2 (omega arith)) (inl (omega arith));
+        headed = headed-kept a b lo hi sound.headed agrees (inl (omega arith));
         pointers = λ j h. ⊎_elim
             (λ same. subst (IsPointer b count) (sym (ap (pointer_in b) same ∙ here)) new)
             (λ other. subst (IsPointer b count) (sym (pointers j other)) (pointer-kept a b count (pointer_in a j) upper (sound.pointers j h)
@@ -291,8 +283,6 @@ upper-lifted a b count sound none written =
     let at : (m n : ℕ) → (m + n ≤ 14) ⊎ (16 ≤ m) → number_at m n b ≡ number_at m n a = λ m n h. number-outside 14 16 m n a b agrees h in
     let is : upper_in b ≡ 8192 = ap upper_in written ∙ number-written 14 2 8192 a (omega arith) (omega arith) in
     let pointers : (i : ℕ) → pointer_in b i ≡ pointer_in a i = λ i. pointer-outside 14 16 i a b agrees (inr (omega arith)) in
-    let headed = sound.headed in
-    let flags : flags_in b ≡ flags_in a = at 10 2 (inl (omega arith)) in
     record {
       sound = record {
         long = agrees.long ∙ whole;
@@ -301,20 +291,14 @@ upper-lifted a b count sound none written =
         gap = subst (λ (u : ℕ). 24 + 4 * count ≤ u) (sym is) (omega arith);
         upper = subst (λ (u : ℕ). u ≤ 8192) (sym is) (omega arith);
         aligned = ap (λ (u : ℕ). u % 8) is;
-        headed = record {
-          checksum = at 8 2 (inl (omega arith)) ∙ headed.checksum;
-          flags = subst (λ (f : ℕ). (f ≡ 0) ⊎ (f ≡ 4)) (sym flags) headed.flags;
-          special = at 16 2 (inr (omega arith)) ∙ headed.special;
-          version = at 18 2 (inr (omega arith)) ∙ headed.version;
-          prune_id = at 20 4 (inr (omega arith)) ∙ headed.prune_id;
-        };
+        headed = headed-by a b (λ m n low h w. at m n (⊎_elim (λ x. inl (omega arith)) inr w)) sound.headed;
         pointers = λ j h. subst (IsPointer b count) (sym (pointers j)) (pointer-bare a b count (pointer_in a j) (λ e there. none j e h there) (sound.pointers j h));
         plain = λ j h. plain-outside 14 16 j a b agrees (inr (omega arith)) (sound.plain j h);
-        apart = λ i j h k. ⊎_elim inl (λ far. inr (subst (λ (p : Pointer). AreApart p (pointer_in b j)) (sym (pointers i)) (subst (λ (p : Pointer). AreApart (pointer_in a i) p) (sym (pointers j)) far))) (sound.apart i j h k);
+        apart = λ i j h k. apart-same a b i j (pointers i) (pointers j) (sound.apart i j h k);
       };
       slots = slots-kept count a b (λ j k. slot-kept a b j (pointers j) (λ d there. absurd (none j d k there)));
       change = at 0 8 (inl (omega arith));
-      flags = flags;
+      flags = at 10 2 (inl (omega arith));
       upper = is;
       pointers = pointers;
     }

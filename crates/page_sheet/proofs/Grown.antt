@@ -13,7 +13,7 @@ use Rattle.page_sheet.proofs.Shown.{shown, part-long}
 use Rattle.page_layout.proofs.OrderLemmas.{same_or_other, below_or_last}
 use Rattle.page_layout.proofs.Frames.{Agrees, agrees-with_number, number-written, number-outside, pointer-outside, plain-outside, plain-written, part-outside}
 use Rattle.page_layout.proofs.PointerLemmas.{pointer-read, word-small}
-use Rattle.page_sheet.proofs.Sounds.{extent-in, part-kept, slot-kept, slots-kept}
+use Rattle.page_sheet.proofs.Sounds.{extent-in, part-kept, slot-kept, slots-kept, headed-by, apart-same}
 
 pub record IsGrown (a b : List ℕ) (count : ℕ) : Type 0 where
   pub sound : IsSound b (count + 1)
@@ -57,13 +57,11 @@ grown a m b count sound few room first second =
     let last : pointer_in b count ≡ Pointer.Unused = pointer-outside 12 14 count m b agrees_2 (inr (omega arith)) ∙ pointer-read m count ∙ ap pointer_of zero_read in
     let lower : lower_in b ≡ 24 + 4 * (count + 1) = ap lower_in second ∙ number-written 12 2 (24 + 4 * (count + 1)) m (omega arith) (omega arith) in
     let upper : upper_in b ≡ upper_in a = at 14 2 (omega arith) (inr (omega arith)) in
-    let flags : flags_in b ≡ flags_in a = at 10 2 (omega arith) (inl (omega arith)) in
     let parts : (j : ℕ) (d : Extent) → j < count → pointer_in a j ≡ Pointer.Normal d → part_of b d ≡ part_of a d = λ j d h is.
     let good = extent-in a count j d sound h is in
     let over : upper_in a ≤ d.from = good.over in
     let size = part-long a d whole good in
     part-outside 12 14 d m b agrees_2 (omega arith) (inr (omega arith)) ∙ part-kept a m count lo hi j d sound agrees_1 h is (inr (omega arith)) in
-    let headed = sound.headed in
     record {
       sound = record {
         long = agrees_2.long ∙ agrees_1.long ∙ whole;
@@ -72,13 +70,7 @@ grown a m b count sound few room first second =
         gap = subst (λ (u : ℕ). 24 + 4 * (count + 1) ≤ u) (sym upper) (omega arith);
         upper = subst (λ (u : ℕ). u ≤ 8192) (sym upper) top;
         aligned = ap (λ (u : ℕ). u % 8) upper ∙ sound.aligned;
-        headed = record {
-          checksum = at 8 2 (omega arith) (inl (omega arith)) ∙ headed.checksum;
-          flags = subst (λ (f : ℕ). (f ≡ 0) ⊎ (f ≡ 4)) (sym flags) headed.flags;
-          special = at 16 2 (omega arith) (inr (omega arith)) ∙ headed.special;
-          version = at 18 2 (omega arith) (inr (omega arith)) ∙ headed.version;
-          prune_id = at 20 4 (omega arith) (inr (omega arith)) ∙ headed.prune_id;
-        };
+        headed = headed-by a b (λ m n low h w. at m n h (⊎_elim inl (λ x. inr (omega arith)) w)) sound.headed;
         pointers = λ j h. ⊎_elim
             (λ same. subst (IsPointer b (count + 1)) (sym (ap (pointer_in b) same ∙ last)) tt)
             (λ other. let below = below_or_last j count h other in
@@ -95,8 +87,7 @@ grown a m b count sound few room first second =
             (λ same. inr (subst (λ (q : Pointer). AreApart (pointer_in b j) q) (sym (ap (pointer_in b) same ∙ last)) (unused-apart (pointer_in b j))))
             (λ too. let below_j = below_or_last j count h other in
             let below_k = below_or_last k count g too in
-            ⊎_elim inl (λ far. inr (subst (λ (q : Pointer). AreApart q (pointer_in b k)) (sym (pointers j below_j))
-            (subst (λ (q : Pointer). AreApart (pointer_in a j) q) (sym (pointers k below_k)) far))) (sound.apart j k below_j below_k))
+            apart-same a b j k (pointers j below_j) (pointers k below_k) (sound.apart j k below_j below_k))
             (same_or_other k count))
             (same_or_other j count);
       };
@@ -104,7 +95,7 @@ grown a m b count sound few room first second =
           ∙ ap (λ (s : Slot). slots_in count b ++ s ∷ []) (shown b count Pointer.Unused (sym last))
           ∙ ap (λ (xs : List Slot). xs ++ Slot.Unused ∷ []) (slots-kept count a b (λ j h. slot-kept a b j (pointers j h) (λ d is. parts j d h is)));
       change = at 0 8 (omega arith) (inl (omega arith));
-      flags = flags;
+      flags = at 10 2 (omega arith) (inl (omega arith));
       upper = upper;
       pointers = pointers;
       last = last;

@@ -17,7 +17,7 @@ use Rattle.page_layout.proofs.PointerLemmas.{rounded-up, word-back, word-small, 
 use Rattle.page_sheet.proofs.Shown.{shown, taken-shown}
 use Rattle.page_layout.proofs.OrderLemmas.{same_or_other, below_or_last}
 use Rattle.page_layout.proofs.Frames.{Agrees, agrees-with_bytes, agrees-with_number, part-written, number-written, number-outside, pointer-outside, plain-outside, plain-written, part-outside}
-use Rattle.page_sheet.proofs.Sounds.{extent-in, slot-kept, slots-kept, slots_in-at, length-slots_in}
+use Rattle.page_sheet.proofs.Sounds.{extent-in, headed-by, apart-same, slot-kept, slots-kept, slots_in-at, length-slots_in}
 use Rattle.page_sheet.proofs.Added.{below-aligned, above-apart, apart-above}
 use Rattle.page_sheet.proofs.HeaderSet.{same_extent}
 
@@ -247,8 +247,6 @@ compacted old new b count top sound packed room written =
     let end : d.from + next_multiple_of d.len 8 ≤ 8192 = o.within in
     let up = rounded-up d.len in
     part-outside 14 16 d new b agrees (omega arith) (inr (omega arith)) in
-    let headed = sound.headed in
-    let flags : flags_in b ≡ flags_in old = at 10 2 (omega arith) (inl (omega arith)) in
     let extents : (j : ℕ) (d : Extent) → j < count → pointer_in new j ≡ Pointer.Normal d → IsExtent b d = λ j d h there. extent-packed new b top d is (parts j d h there) (packed.over j d h there) in
     record {
       sound = record {
@@ -258,20 +256,14 @@ compacted old new b count top sound packed room written =
         gap = subst (λ (u : ℕ). 24 + 4 * count ≤ u) (sym is) (omega arith);
         upper = subst (λ (u : ℕ). u ≤ 8192) (sym is) (omega arith);
         aligned = ap (λ (u : ℕ). u % 8) is ∙ packed.even;
-        headed = record {
-          checksum = at 8 2 (omega arith) (inl (omega arith)) ∙ headed.checksum;
-          flags = subst (λ (f : ℕ). (f ≡ 0) ⊎ (f ≡ 4)) (sym flags) headed.flags;
-          special = at 16 2 (omega arith) (inr (omega arith)) ∙ headed.special;
-          version = at 18 2 (omega arith) (inr (omega arith)) ∙ headed.version;
-          prune_id = at 20 4 (omega arith) (inr (omega arith)) ∙ headed.prune_id;
-        };
+        headed = headed-by old b (λ m n low h w. at m n h (⊎_elim (λ x. inl (omega arith)) inr w)) sound.headed;
         pointers = λ j h. good j h (pointer_in old j) refl (pointers j) (extents j);
         plain = λ j h. plain-outside 14 16 j new b agrees (inr (omega arith)) (packed.plain j h);
-        apart = λ i j h k. ⊎_elim inl (λ far. inr (subst (λ (p : Pointer). AreApart p (pointer_in b j)) (sym (pointers i)) (subst (λ (p : Pointer). AreApart (pointer_in new i) p) (sym (pointers j)) far))) (packed.apart i j h k);
+        apart = λ i j h k. apart-same new b i j (pointers i) (pointers j) (packed.apart i j h k);
       };
       slots = slots-kept count old b (λ j h. slot-kept new b j (pointers j) (λ d there. parts j d h there) ∙ packed.slots j h);
       change = at 0 8 (omega arith) (inl (omega arith));
-      flags = flags;
+      flags = at 10 2 (omega arith) (inl (omega arith));
       upper = subst (λ (u : ℕ). u + sum_by bytes_taken (slots_in count old) ≡ 8192) (sym is) sum;
       order = λ j d h there. packed.order j d h (sym (pointers j) ∙ there);
     }

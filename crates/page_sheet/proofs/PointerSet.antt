@@ -11,7 +11,7 @@ use Rattle.page_layout.specs.Sound.{IsSound, IsPointer, AreApart, HasPlainWord, 
 use Rattle.page_sheet.proofs.Shown.{shown}
 use Rattle.page_layout.proofs.OrderLemmas.{same_or_other}
 use Rattle.page_layout.proofs.Frames.{Agrees, agrees-with_number, number-written, number-outside, pointer-outside, plain-outside, plain-written}
-use Rattle.page_sheet.proofs.Sounds.{extent-in, part-kept, slot-kept, slots-set, pointer-kept, headed-kept}
+use Rattle.page_sheet.proofs.Sounds.{extent-in, part-kept, slot-kept, slots-set, pointer-kept, headed-kept, apart-same}
 use Rattle.page_layout.proofs.PointerLemmas.{word-back, word-small, pointer-read, beside}
 
 -- Pointers without a version.
@@ -99,7 +99,7 @@ pointer-set a b count i p sound within bare written =
         gap = subst (λ (u : ℕ). 24 + 4 * count ≤ u) (sym upper) gap;
         upper = subst (λ (u : ℕ). u ≤ 8192) (sym upper) sound.upper;
         aligned = ap (λ (u : ℕ). u % 8) upper ∙ sound.aligned;
-        headed = headed-kept a b lo hi sound.headed agrees (at 10 2 (omega arith)) (inl (omega arith));
+        headed = headed-kept a b lo hi sound.headed agrees (inl (omega arith));
         pointers = λ j h. ⊎_elim
             (λ same. subst (IsPointer b count) (sym (ap (pointer_in b) same ∙ here)) (bare-good b count p bare))
             (λ other. subst (IsPointer b count) (sym (pointers j other)) (pointer-kept a b count (pointer_in a j) upper (sound.pointers j h)
@@ -113,8 +113,7 @@ pointer-set a b count i p sound within bare written =
             (λ same. inr (subst (λ (q : Pointer). AreApart q (pointer_in b k)) (sym (ap (pointer_in b) same ∙ here)) (bare-apart count p (pointer_in b k) bare)))
             (λ other. ⊎_elim
             (λ same. inr (subst (λ (q : Pointer). AreApart (pointer_in b j) q) (sym (ap (pointer_in b) same ∙ here)) (apart-bare count (pointer_in b j) p bare)))
-            (λ too. ⊎_elim inl (λ far. inr (subst (λ (q : Pointer). AreApart q (pointer_in b k)) (sym (pointers j other))
-            (subst (λ (q : Pointer). AreApart (pointer_in a j) q) (sym (pointers k too)) far))) (sound.apart j k h g))
+            (λ too. apart-same a b j k (pointers j other) (pointers k too) (sound.apart j k h g))
             (same_or_other k i))
             (same_or_other j i);
       };

@@ -54,6 +54,12 @@ pointer-kept a b count (Pointer.Normal e) upper good parts =
 pointer-kept a b count (Pointer.Redirect target) upper good parts = good
 pointer-kept a b count Pointer.Dead upper good parts = tt
 
+-- two that stay are apart as they were
+pub apart-same : (a b : List ℕ) (i j : ℕ) → pointer_in b i ≡ pointer_in a i → pointer_in b j ≡ pointer_in a j
+    → (i ≡ j) ⊎ AreApart (pointer_in a i) (pointer_in a j) → (i ≡ j) ⊎ AreApart (pointer_in b i) (pointer_in b j)
+apart-same a b i j left right were =
+    ⊎_elim inl (λ far. inr (subst (λ (p : Pointer). AreApart p (pointer_in b j)) (sym left) (subst (λ (p : Pointer). AreApart (pointer_in a i) p) (sym right) far))) were
+
 pub sound-from : (a b : List ℕ) (count : ℕ) → IsSound a count → length b ≡ 8192 → lower_in b ≡ lower_in a → upper_in b ≡ upper_in a → IsHeaded b
     → ((j : ℕ) → j < count → pointer_in b j ≡ pointer_in a j) → ((j : ℕ) → j < count → HasPlainWord b j)
     → ((j : ℕ) (e : Extent) → j < count → pointer_in a j ≡ Pointer.Normal e → first_fault (part_of b e) ≡ None) → IsSound b count
@@ -67,7 +73,7 @@ sound-from a b count sound long lower upper headed pointers plain parts = record
   headed = headed;
   pointers = λ j h. subst (IsPointer b count) (sym (pointers j h)) (pointer-kept a b count (pointer_in a j) upper (sound.pointers j h) (λ e is. parts j e h is));
   plain = plain;
-  apart = λ i j h k. ⊎_elim inl (λ far. inr (subst (λ (p : Pointer). AreApart p (pointer_in b j)) (sym (pointers i h)) (subst (λ (p : Pointer). AreApart (pointer_in a i) p) (sym (pointers j k)) far))) (sound.apart i j h k);
+  apart = λ i j h k. apart-same a b i j (pointers i h) (pointers j k) (sound.apart i j h k);
 }
 
 -- the bytes of a version lie within the page and behind the pointers
@@ -95,17 +101,20 @@ slot-by a b j Pointer.Dead is same parts = shown b j Pointer.Dead (is ∙ sym sa
 pub slot-kept : (a b : List ℕ) (j : ℕ) → pointer_in b j ≡ pointer_in a j → ((e : Extent) → pointer_in a j ≡ Pointer.Normal e → part_of b e ≡ part_of a e) → slot_in b j ≡ slot_in a j
 slot-kept a b j same parts = slot-by a b j (pointer_in a j) refl same parts
 
+-- the fixed fields of the header stay where all but pd_lower and pd_upper do
+pub headed-by : (a b : List ℕ) → ((m n : ℕ) → 8 ≤ m → m + n ≤ 24 → (m + n ≤ 12) ⊎ (16 ≤ m) → number_at m n b ≡ number_at m n a) → IsHeaded a → IsHeaded b
+headed-by a b at headed = record {
+  checksum = at 8 2 (omega arith) (omega arith) (inl (omega arith)) ∙ headed.checksum;
+  flags = subst (λ (f : ℕ). (f ≡ 0) ⊎ (f ≡ 4)) (sym (at 10 2 (omega arith) (omega arith) (inl (omega arith)))) headed.flags;
+  special = at 16 2 (omega arith) (omega arith) (inr (omega arith)) ∙ headed.special;
+  version = at 18 2 (omega arith) (omega arith) (inr (omega arith)) ∙ headed.version;
+  prune_id = at 20 4 (omega arith) (omega arith) (inr (omega arith)) ∙ headed.prune_id;
+}
+
 -- the fixed fields of the header, which lie outside
-pub headed-kept : (a b : List ℕ) (lo hi : ℕ) → IsHeaded a → Agrees lo hi a b → flags_in b ≡ flags_in a → (24 ≤ lo) ⊎ (hi ≤ 8) → IsHeaded b
-headed-kept a b lo hi headed agrees flags where_ =
-    let at : (i n : ℕ) → 8 ≤ i → i + n ≤ 24 → number_at i n b ≡ number_at i n a = λ i n h k.
-    number-outside lo hi i n a b agrees (⊎_elim (λ x. inl (omega arith)) (λ x. inr (omega arith)) where_) in record {
-      checksum = at 8 2 (omega arith) (omega arith) ∙ headed.checksum;
-      flags = subst (λ (f : ℕ). (f ≡ 0) ⊎ (f ≡ 4)) (sym flags) headed.flags;
-      special = at 16 2 (omega arith) (omega arith) ∙ headed.special;
-      version = at 18 2 (omega arith) (omega arith) ∙ headed.version;
-      prune_id = at 20 4 (omega arith) (omega arith) ∙ headed.prune_id;
-    }
+pub headed-kept : (a b : List ℕ) (lo hi : ℕ) → IsHeaded a → Agrees lo hi a b → (24 ≤ lo) ⊎ (hi ≤ 8) → IsHeaded b
+headed-kept a b lo hi headed agrees where_ =
+    headed-by a b (λ m n low h w. number-outside lo hi m n a b agrees (⊎_elim (λ x. inl (omega arith)) (λ x. inr (omega arith)) where_)) headed
 
 -- A write behind the pointers.
 
@@ -114,7 +123,7 @@ pub sound-behind : (a b : List ℕ) (count lo hi : ℕ) → IsSound a count → 
 sound-behind a b count lo hi sound agrees behind parts =
     let at : (i n : ℕ) → i + n ≤ 24 → number_at i n b ≡ number_at i n a = λ i n h. number-outside lo hi i n a b agrees (inl (omega arith)) in
     sound-from a b count sound (agrees.long ∙ sound.long) (at 12 2 (omega arith)) (at 14 2 (omega arith))
-    (headed-kept a b lo hi sound.headed agrees (at 10 2 (omega arith)) (inl (omega arith)))
+    (headed-kept a b lo hi sound.headed agrees (inl (omega arith)))
     (λ j h. pointer-outside lo hi j a b agrees (inl (omega arith))) (λ j h. plain-outside lo hi j a b agrees (inl (omega arith)) (sound.plain j h)) parts
 
 -- A write of the change number or of the flags.
@@ -148,9 +157,8 @@ pub change-noted : (a b : List ℕ) (count x : ℕ) → IsSound a count → b �
 change-noted a b count x sound e =
     let long = sound.long in
     let agrees : Agrees 0 8 a b = subst (Agrees 0 8 a) (sym e) (agrees-with_number 0 8 x a (omega arith)) in
-    let flags : flags_in b ≡ flags_in a = number-outside 0 8 10 2 a b agrees (inr (omega arith)) in
     record {
-      sound = sound-field a b count 0 8 sound agrees (omega arith) (headed-kept a b 0 8 sound.headed agrees flags (inr (omega arith)));
+      sound = sound-field a b count 0 8 sound agrees (omega arith) (headed-kept a b 0 8 sound.headed agrees (inr (omega arith)));
       slots = slots-field a b count 0 8 sound agrees (omega arith);
       upper = number-outside 0 8 14 2 a b agrees (inr (omega arith));
       pointers = λ j. pointer-outside 0 8 j a b agrees (inr (omega arith));

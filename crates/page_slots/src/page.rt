@@ -376,7 +376,7 @@ impl Page {
 
     /// Adds a version with this header of this row, which it copies nowhere but into its place: in the lowest unused slot, or else
     /// in a new last one, and answers the slot's number. The header has no fault, and the version's size is not over the room.
-    /// It takes no memory.
+    /// It goes right below the others, which are moved together first where the gap is too small. It takes no memory.
     pub fn add_row(&mut self, header: Header, row: &Row) -> u16
         requires faultless { header_fault header ≡ None }
         requires room { rounded_size_of row.now ≤ room_of self.old.slots }
