@@ -1,11 +1,12 @@
 -- What an edit of both columns does to the entries.
-use Rattle.std.proofs.Common.{◌≡◌, ◌∙◌, ◌<ℤ◌, is_lt, ℕ, zero, suc, ◌<◌, ◌≤◌, ℤ, List, [], ◌∷◌, ◌++◌, length, get_or, take, drop, set, true, false, Some, slice_get, sym, ap, refl, arith}
-use Rattle.std.specs.List.{insert}
+use Rattle.std.proofs.Common.{◌≡◌, ◌∙◌, ◌<ℤ◌, is_lt, ℕ, zero, suc, ◌+◌, ◌-◌, ◌<◌, ◌≤◌, min, inl, inr, ℤ, List, [], ◌∷◌, ◌++◌, length, get_or, take, drop, set, true, false, Some, slice_get, sym, ap, refl, arith}
+use Rattle.std.specs.List.{insert, copy_within}
 use Rattle.std.specs.Cmp.{int_cmp_is}
 use Rattle.std.specs.declared.cmp.Ordering.TheVariants.{Less, Greater}
+use Rattle.std.proofs.lemmas.Bool.{cases_lt}
 use Rattle.std.proofs.lemmas.Option.{get_or_from_slice_get}
-use Rattle.std.proofs.lemmas.List.Edits.{length-insert}
-use Rattle.std.proofs.lemmas.List.{length-take-le}
+use Rattle.std.proofs.lemmas.List.Edits.{length-insert, paste_all}
+use Rattle.std.proofs.lemmas.List.{length-drop, length-take-le, take_at}
 use Rattle.xid_circle.specs.declared.Tid.{Tid}
 use Rattle.index_entries.specs.declared.entry.Entry.{Entry}
 use Rattle.index_entries.specs.Order.{comparison}
@@ -99,19 +100,34 @@ entry_put value key ls ls' ps ps' xs i l p e alike is within at_l at_p of_v of_k
     entry_same v k t e a b c = rw (a, b, c) refl
 
 pub still_columns : {L : Type 0} (ls ls' : List L) (ps ps' : List ShortTid) (i : ℕ) (l : L) (p : ShortTid) (label_room place_room label_room' place_room' : ℕ)
-    → AreColumns (length ls) (length ps) label_room place_room → i ≤ length ls → length ls < 128 → ls' ≡ insert ls i l → ps' ≡ insert ps i p → label_room ≤ label_room' → place_room ≤ place_room'
+    → AreColumns (length ls) (length ps) label_room place_room → i ≤ length ls → length ls < 128 → (64 ≤ length ls → 128 ≤ min label_room place_room) → ls' ≡ insert ls i l → ps' ≡ insert ps i p → label_room ≤ label_room' → place_room ≤ place_room'
     → AreColumns (length ls') (length ps') label_room' place_room'
-still_columns ls ls' ps ps' i l p label_room place_room label_room' place_room' are within room at_l at_p more_l more_p =
+still_columns ls ls' ps ps' i l p label_room place_room label_room' place_room' are within few room at_l at_p more_l more_p =
     let one = ap length at_l ∙ length-insert ls i l within in
     let two = ap length at_p ∙ length-insert ps i p (omega (arith, within, are.alike)) in
     record {
       alike = omega (arith, one, two, are.alike);
-      few = omega (arith, one, room);
+      few = omega (arith, one, few);
       labels_reserved = omega (arith, more_l, are.labels_reserved);
       places_reserved = omega (arith, more_p, are.places_reserved);
+      large = λ many. let both = room (omega (arith, many, one)) in (omega (arith, both, more_l), omega (arith, both, more_p));
     }
 
+-- there is room for one more
+pub room_for : (n label_room place_room : ℕ) → n < 128 → 64 ≤ label_room → 64 ≤ place_room → (64 ≤ n → 128 ≤ min label_room place_room) → (n < label_room) × (n < place_room)
+room_for n label_room place_room few labels places large = elim (cases_lt n 64) [
+  | inl less ↦ (omega (arith, less, labels), omega (arith, less, places))
+  | inr more ↦ let both = large more in (omega (arith, few, both), omega (arith, few, both))
+]
+
 -- Both columns are parted.
+
+-- what is moved down takes the place of all
+pub moved_down : {X : Type 0} (xs : List X) (place : ℕ) → place ≤ length xs → take (length xs - place) (copy_within xs place (length xs) 0) ≡ drop place xs
+moved_down xs place within =
+    let left = length-drop place xs in
+    ap (take (length xs - place)) (paste_all xs 0 (drop place xs) (length xs - place) (sym left))
+    ∙ take_at (drop place xs) (drop (0 + (length xs - place)) xs) (length xs - place) left
 
 pub entries_with-front : {L : Type 0} (value : L → ℤ) (key : L → ℕ) (ls ls' : List L) (ps ps' : List ShortTid) (xs : List Entry) (n : ℕ) → entries_with value key ls ps ≡ xs → ls' ≡ take n ls → ps' ≡ take n ps
     → entries_with value key ls' ps' ≡ take n xs

@@ -92,17 +92,19 @@ dead_there value key ls ps xs place p dead d alike is within at there =
 -- Those to dead places are removed.
 
 -- of the entries there were at first, the first places were looked at, and so many from the beginning on are kept
-pub record IsRemoving {L : Type 0} (value : L → ℤ) (key : L → ℕ) (dead : List Tid) (first : List Entry) (from kept place : ℕ) (ls : List L) (ps : List ShortTid) (label_room place_room : ℕ) : Type 0 where
+pub record IsRemoving {L : Type 0} (value : L → ℤ) (key : L → ℕ) (dead : List Tid) (first : List Entry) (room from kept place : ℕ) (ls : List L) (ps : List ShortTid) (label_room place_room : ℕ) : Type 0 where
   pub entries : take kept (entries_with value key ls ps) ++ filter (stays dead) (drop place (entries_with value key ls ps)) ≡ take from first ++ filter (stays dead) (drop from first)
   pub order : kept ≤ place
   pub labels : length ls ≡ length first
   pub places : length ps ≡ length first
   pub few : length first ≤ 128
-  pub labels_reserved : 128 ≤ label_room
-  pub places_reserved : 128 ≤ place_room
+  pub half : 64 ≤ room
+  pub large : 64 < length first → 128 ≤ room
+  pub labels_reserved : room ≤ label_room
+  pub places_reserved : room ≤ place_room
 
-module _ {L : Type 0} (value : L → ℤ) (key : L → ℕ) (dead : List Tid) (first : List Entry) (from kept place : ℕ) (ls : List L) (ps : List ShortTid) (label_room place_room : ℕ)
-    (so_far : IsRemoving value key dead first from kept place ls ps label_room place_room) (p : ShortTid) (b : Bool) (d : Entry)
+module _ {L : Type 0} (value : L → ℤ) (key : L → ℕ) (dead : List Tid) (first : List Entry) (room from kept place : ℕ) (ls : List L) (ps : List ShortTid) (label_room place_room : ℕ)
+    (so_far : IsRemoving value key dead first room from kept place ls ps label_room place_room) (p : ShortTid) (b : Bool) (d : Entry)
     (within : place < length first) (at : p ≡ get_or ps place p) (says : IsTrue b ↔ Contains dead (long p)) where
   fate : b ≡ not (stays dead (get_or (entries_with value key ls ps) place d))
   fate = fate_at value key ls ps place d p dead b (omega (arith, within, so_far.labels)) (so_far.labels ∙ sym so_far.places) at says
@@ -110,19 +112,21 @@ module _ {L : Type 0} (value : L → ℤ) (key : L → ℕ) (dead : List Tid) (f
   inside : place < length (entries_with value key ls ps)
   inside = omega (arith, within, so_far.labels, (counts value key ls ps (entries_with value key ls ps) (so_far.labels ∙ sym so_far.places) refl).0)
 
-  pub removing_one : b ≡ true → IsRemoving value key dead first from kept (place + 1) ls ps label_room place_room
+  pub removing_one : b ≡ true → IsRemoving value key dead first room from kept (place + 1) ls ps label_room place_room
   removing_one gone = record {
     entries = passed_over (stays dead) (entries_with value key ls ps) kept place d inside (goes_from b (stays dead (get_or (entries_with value key ls ps) place d)) fate gone) ∙ so_far.entries;
     order = omega (arith, so_far.order);
     labels = so_far.labels;
     places = so_far.places;
     few = so_far.few;
+    half = so_far.half;
+    large = so_far.large;
     labels_reserved = so_far.labels_reserved;
     places_reserved = so_far.places_reserved;
   }
 
   pub keeping_one : (l : L) (ls' : List L) (ps' : List ShortTid) (label_room' place_room' : ℕ) → b ≡ false → l ≡ get_or ls place l → ls' ≡ set ls kept l → ps' ≡ set ps kept p
-      → label_room ≤ label_room' → place_room ≤ place_room' → IsRemoving value key dead first from (kept + 1) (place + 1) ls' ps' label_room' place_room'
+      → label_room ≤ label_room' → place_room ≤ place_room' → IsRemoving value key dead first room from (kept + 1) (place + 1) ls' ps' label_room' place_room'
   keeping_one l ls' ps' label_room' place_room' alive at_l of_ls of_ps more_l more_p =
       let xs = entries_with value key ls ps in
       let e = entry_with value key l p in
@@ -139,6 +143,8 @@ module _ {L : Type 0} (value : L → ℤ) (key : L → ℕ) (dead : List Tid) (f
         labels = ap length of_ls ∙ length-set ls kept l ∙ so_far.labels;
         places = ap length of_ps ∙ length-set ps kept p ∙ so_far.places;
         few = so_far.few;
+        half = so_far.half;
+        large = so_far.large;
         labels_reserved = omega (arith, so_far.labels_reserved, more_l);
         places_reserved = omega (arith, so_far.places_reserved, more_p);
       }

@@ -1,9 +1,9 @@
 -- Entries as columns.
-use Rattle.std.specs.Prelude.{◌≡◌, ◌≤◌, ℤ, List, [], ◌∷◌}
+use Rattle.std.specs.Prelude.{◌≡◌, ◌<◌, ◌≤◌, ℤ, List, [], ◌∷◌}
 use Rattle.xid_circle.specs.Numbers.{Key, Count}
 use Rattle.xid_circle.specs.declared.Tid.{Tid}
 use Rattle.index_entries.specs.declared.entry.Entry.{Entry}
-use Rattle.index_entries.specs.declared.node.TheConstants.{MOST_PARTS}
+use Rattle.index_entries.specs.declared.node.TheConstants.{MOST_PARTS, HALF}
 use Rattle.entry_columns.specs.declared.short_tid.ShortTid.{ShortTid}
 
 -- a place as others have it
@@ -20,9 +20,17 @@ entries_with value key [] places = []
 entries_with value key (label ∷ labels) [] = []
 entries_with value key (label ∷ labels) (place ∷ places) = entry_with value key label place ∷ entries_with value key labels places
 
--- as many labels as places, and room for all that there may be
+-- columns as others see them
+pub record ColumnsView : Type 0 where
+  -- in order
+  pub entries : List Entry
+  -- for so many there are places in memory
+  pub room : Count
+
+-- as many labels as places, and room for half of all that there may be; for all of them where there are more than half
 pub record AreColumns (labels places label_room place_room : Count) : Type 0 where
   pub alike : labels ≡ places
   pub few : labels ≤ MOST_PARTS
-  pub labels_reserved : MOST_PARTS ≤ label_room
-  pub places_reserved : MOST_PARTS ≤ place_room
+  pub labels_reserved : HALF ≤ label_room
+  pub places_reserved : HALF ≤ place_room
+  pub large : HALF < labels → (MOST_PARTS ≤ label_room) × (MOST_PARTS ≤ place_room)

@@ -12,12 +12,12 @@ ghost use Rattle.entry_columns.specs.Columns.{entries_with, long};
 use crate::label::Label;
 use crate::short_tid::{PAGES, ShortTid};
 use dead_places::is_among;
-use index_entries::{Entry, MOST_PARTS, compare};
+use index_entries::{Entry, HALF, MOST_PARTS, compare};
 use std::alloc::{AllocError, Global};
 use std::marker::Model;
 use xid_circle::Tid;
 
-/// At most 128 entries: a column of their labels, and one of their places. There is always room for all of them in memory.
+/// At most 128 entries: a column of their labels, and one of their places. There is room in memory for 64 of them, or for all.
 #[derive(Debug, Drop)]
 pub struct EntryColumns<L: Label> {
     labels: Vec<L>,
@@ -25,31 +25,36 @@ pub struct EntryColumns<L: Label> {
 }
 
 impl<L: Label> Model for EntryColumns<L> {
-    ghost use Rattle.std.specs.Prelude.{List, length, vec_capacity};
-    ghost use Rattle.index_entries.specs.declared.entry.Entry.{Entry as Seen};
-    ghost use Rattle.entry_columns.specs.Columns.{entries_with, AreColumns};
+    ghost use Rattle.std.specs.Prelude.{length, min, vec_capacity};
+    ghost use Rattle.entry_columns.specs.Columns.{ColumnsView, entries_with, AreColumns};
 
-    ghost Value = { List Seen };
+    ghost Value = { ColumnsView };
 
-    ghost view = { λ e. entries_with L.value_of L.key_of e.labels.items e.places.items };
+    ghost view = { λ e. record {
+      entries = entries_with L.value_of L.key_of e.labels.items e.places.items;
+      room = min (vec_capacity e.labels) (vec_capacity e.places);
+    } };
 
     ghost invariant = { λ e. AreColumns (length e.labels.items) (length e.places.items)
         (vec_capacity e.labels) (vec_capacity e.places) };
 }
 
 impl<L: Label> EntryColumns<L> {
-    /// No entries.
-    pub fn new(alloc: Global) -> Result<Self, AllocError>
-        ensures { IfOk result (λ entries. entries ≡ []) }
+    /// No entries, and room for so many.
+    pub fn new(alloc: Global, room: usize) -> Result<Self, AllocError>
+        requires { HALF ≤ room }
+        ensures none { IfOk result (λ columns. columns.entries ≡ []) }
+        ensures room { IfOk result (λ columns. columns.room ≡ room) }
     {
-        let labels = Vec::with_capacity(alloc, MOST_PARTS)?;
-        let places = Vec::with_capacity(alloc, MOST_PARTS)?;
+        let labels = Vec::with_capacity(alloc, room)?;
+        let places = Vec::with_capacity(alloc, room)?;
         Ok(EntryColumns { labels, places })
     }
 
     /// Takes all entries out.
     pub fn clear(&mut self)
-        ensures { self.new ≡ [] }
+        ensures none { self.new.entries ≡ [] }
+        ensures room { self.old.room ≤ self.new.room }
     {
         self.labels.clear();
         self.places.clear();
@@ -58,17 +63,25 @@ impl<L: Label> EntryColumns<L> {
     /// The number of entries.
     #[inline(always)]
     pub fn len(&self) -> usize
-        ensures value { result ≡ length self.now }
+        ensures value { result ≡ length self.now.entries }
         ensures limit { result ≤ MOST_PARTS }
+        ensures large { HALF < result → MOST_PARTS ≤ self.now.room }
     {
         self.places.len()
+    }
+
+    /// For so many entries there are places in memory.
+    pub fn room(&self) -> usize
+        ensures { result ≡ self.now.room }
+    {
+        self.labels.capacity().min(self.places.capacity())
     }
 
     /// The entry at this place.
     #[inline(always)]
     pub fn at(&self, place: usize) -> Entry
-        requires { place < length self.now }
-        ensures { slice_get self.now place ≡ Some result }
+        requires { place < length self.now.entries }
+        ensures { slice_get self.now.entries place ≡ Some result }
     {
         let label = self.labels[place];
         Entry {
@@ -81,7 +94,7 @@ impl<L: Label> EntryColumns<L> {
     /// The entry at this place, if there is one.
     #[inline(always)]
     pub fn get(&self, place: usize) -> Option<Entry>
-        ensures { result ≡ slice_get self.now place }
+        ensures { result ≡ slice_get self.now.entries place }
     {
         if place < self.len() {
             Some(self.at(place))
@@ -93,8 +106,9 @@ impl<L: Label> EntryColumns<L> {
     /// Whether the entry at this place comes before another.
     #[inline(always)]
     pub fn is_before(&self, place: usize, sought: &Entry) -> bool
-        requires { place < length self.now }
-        ensures { HoldsAt (λ entry. result ≡ is_lt (comparison entry sought.now)) self.now place }
+        requires { place < length self.now.entries }
+        ensures { HoldsAt (λ entry. result ≡ is_lt (comparison entry sought.now)) self.now.entries
+            place }
     {
         // most are told apart by their values, many by the first test, and then no place is looked at
         let value = self.labels[place].value();
@@ -109,33 +123,40 @@ impl<L: Label> EntryColumns<L> {
 
     /// Puts an entry before those from this place on.
     pub fn insert(&mut self, place: usize, entry: Entry)
-        requires in_range { place ≤ length self.old }
-        requires room { length self.old < MOST_PARTS }
+        requires in_range { place ≤ length self.old.entries }
+        requires few { length self.old.entries < MOST_PARTS }
+        requires room { HALF ≤ length self.old.entries → MOST_PARTS ≤ self.old.room }
         requires fits { Fits L.is_by_key entry }
-        ensures { self.new ≡ insert self.old place entry }
+        ensures entries { self.new.entries ≡ insert self.old.entries place entry }
+        ensures room { self.old.room ≤ self.new.room }
     {
         put(&mut self.labels, place, L::new(entry.value, entry.key));
         put(&mut self.places, place, ShortTid::new(entry.tid));
     }
 
-    /// Moves the entries from this place on to columns, in the place of all there.
-    pub fn move_from(&mut self, place: usize, upper: &mut Self)
-        requires { place ≤ length self.old }
-        ensures stay { self.new ≡ take place self.old }
-        ensures moved { upper.new ≡ drop place self.old }
+    /// Moves the entries before this place to columns, in the place of all there.
+    pub fn move_before(&mut self, place: usize, lower: &mut Self)
+        requires in_range { place ≤ length self.old.entries }
+        requires room { HALF < place → MOST_PARTS ≤ lower.old.room }
+        ensures moved { lower.new.entries ≡ take place self.old.entries }
+        ensures stay { self.new.entries ≡ drop place self.old.entries }
+        ensures room { self.old.room ≤ self.new.room }
+        ensures room_too { lower.old.room ≤ lower.new.room }
     {
-        move_part(&mut self.labels, place, &mut upper.labels);
-        move_part(&mut self.places, place, &mut upper.places);
+        move_part(&mut self.labels, place, &mut lower.labels);
+        move_part(&mut self.places, place, &mut lower.places);
     }
 
     /// The first place, from this one on, of an entry that leads to a dead place; the end, where none does.
     pub fn next_dead(&self, from: usize, dead: &[Tid]) -> usize
-        requires in_range { from ≤ length self.now }
+        requires in_range { from ≤ length self.now.entries }
         requires ascending { AreAscending dead.now }
-        ensures in_range { result ≤ length self.now }
-        ensures dead { IfSome (slice_get self.now result) (λ e. Contains dead.now e.tid) }
-        ensures kept { take result self.now ++ filter (stays dead.now) (drop result self.now)
-            ≡ take from self.now ++ filter (stays dead.now) (drop from self.now) }
+        ensures in_range { result ≤ length self.now.entries }
+        ensures dead { IfSome (slice_get self.now.entries result) (λ e. Contains dead.now e.tid) }
+        ensures kept { take result self.now.entries
+            ++ filter (stays dead.now) (drop result self.now.entries)
+            ≡ take from self.now.entries
+            ++ filter (stays dead.now) (drop from self.now.entries) }
     {
         for place in from..self.places.len() {
             if is_dead(dead, self.places[place]) {
@@ -147,11 +168,13 @@ impl<L: Label> EntryColumns<L> {
 
     /// Removes the entries to dead places from this place on, and moves those behind them up.
     pub fn remove_dead(&mut self, from: usize, dead: &[Tid])
-        requires in_range { from ≤ length self.old }
+        requires in_range { from ≤ length self.old.entries }
         requires ascending { AreAscending dead.now }
-        ensures entries { self.new
-            ≡ take from self.old ++ filter (stays dead.now) (drop from self.old) }
-        ensures shorter { length self.new ≤ length self.old }
+        ensures entries { self.new.entries
+            ≡ take from self.old.entries
+            ++ filter (stays dead.now) (drop from self.old.entries) }
+        ensures shorter { length self.new.entries ≤ length self.old.entries }
+        ensures room { self.old.room ≤ self.new.room }
     {
         let mut kept = from;
         for place in from..self.places.len() {
@@ -190,19 +213,20 @@ fn put<T: Copy>(items: &mut Vec<T>, place: usize, item: T)
     let _done = items.insert(place, item);
 }
 
-/// Moves the items from this place on to another list, in the place of all there. There is room for them in memory.
-fn move_part<T: Copy>(items: &mut Vec<T>, place: usize, upper: &mut Vec<T>)
+/// Moves the items before this place to another list, in the place of all there. There is room for them in memory.
+fn move_part<T: Copy>(items: &mut Vec<T>, place: usize, lower: &mut Vec<T>)
     requires in_range { place ≤ vec_len items.old }
-    requires room { vec_len items.old ≤ vec_capacity upper.old }
-    ensures stay { items.new.items ≡ take place items.old.items }
-    ensures moved { upper.new.items ≡ drop place items.old.items }
+    requires room { place ≤ vec_capacity lower.old }
+    ensures moved { lower.new.items ≡ take place items.old.items }
+    ensures stay { items.new.items ≡ drop place items.old.items }
     ensures capacity { vec_capacity items.old ≤ vec_capacity items.new }
-    ensures capacity_too { vec_capacity upper.old ≤ vec_capacity upper.new }
+    ensures capacity_too { vec_capacity lower.old ≤ vec_capacity lower.new }
 {
-    upper.clear();
+    lower.clear();
     // never refused, since there is room
-    let _done = upper.extend_from_slice(&items[place..]);
-    items.truncate(place);
+    let _done = lower.extend_from_slice(&items[..place]);
+    items.copy_within(place.., 0);
+    items.truncate(items.len() - place);
 }
 
 /// Whether this place is dead.

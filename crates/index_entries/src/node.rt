@@ -1,6 +1,6 @@
 //! Nodes: what an index is made of.
 
-ghost use Rattle.std.specs.Prelude.{◌≡◌, ◌<◌, ◌≤◌, ◌+◌, ◌++◌, ◌⊎◌, ℕ, List, [], length, slice_get, IfOk, IfErr, IfSome, IfNone, IsTrue, OnOk, OnErr, ◌↔◌};
+ghost use Rattle.std.specs.Prelude.{◌≡◌, ◌<◌, ◌≤◌, ◌+◌, ◌*◌, ◌++◌, ◌⊎◌, ℕ, List, [], length, slice_get, IfOk, IfErr, IfSome, IfNone, IsTrue, OnOk, OnErr, ◌↔◌};
 ghost use Rattle.std.specs.Bool.{OnTrue};
 ghost use Rattle.std.specs.List.{insert};
 ghost use Rattle.std.specs.Option.{option_map};
@@ -55,8 +55,11 @@ pub trait Node: Drop {
     // the number of parts
     ghost size: { Self → ℕ };
 
-    // the number of nodes that it is made of, itself among them
+    // the number of nodes that it is made of, itself among them, where a leaf with places for 128 entries counts twice
     ghost nodes: { Self → ℕ };
+
+    // the number of leaves with places for 128 entries that have 64 or more
+    ghost long: { Self → ℕ };
 
     // which entries it may have
     ghost Fits: { Seen → Type 0 };
@@ -78,6 +81,9 @@ pub trait Node: Drop {
 
     // each kind of them has a place for one that is emptied
     ghost HasPlaces: { Self.Spares → Type 0 };
+
+    // among them are places for 128 entries, so that a leaf with fewer gets them without memory
+    ghost HasReserve: { Self.Spares → Type 0 };
 
     /// A node without parts.
     fn new(alloc: Global) -> Result<Self, AllocError>
@@ -174,7 +180,8 @@ pub trait Node: Drop {
         ensures part_too { (0 < size upper.new) × (size upper.new < MOST_PARTS) }
         ensures neat { IsNeat self.new }
         ensures neat_too { IsNeat upper.new }
-        ensures nodes { nodes self.new + nodes upper.new ≡ nodes self.old + 1 }
+        ensures nodes { nodes self.old < nodes self.new + nodes upper.new }
+        ensures long { long self.old ≤ long self.new + long upper.new }
         ensures position { IsHalf IsPosition self.new upper.new result }
         ensures rank { rank_half entries rank self.new upper.new result ≡ rank self.old position };
 
@@ -200,11 +207,18 @@ pub trait Node: Drop {
             (nodes self.new ≡ nodes self.old → (k : ℕ) → HasLeft spares.old k
             → HasLeft spares.new k) }
         ensures places { HasPlaces spares.old → HasPlaces spares.new }
-        ensures first { OnOk result (size self.old ≡ 0 → HasPlaces spares.new) }
+        ensures first { OnOk result
+            (size self.old ≡ 0 → HasPlaces spares.new × HasReserve spares.new) }
+        ensures long { long self.old ≤ long self.new }
+        ensures reserve { OnOk result
+            (HasReserve spares.old → HasReserve spares.new ⊎ (long self.old < long self.new)) }
+        ensures reserve_kept { OnErr result (HasReserve spares.old → HasReserve spares.new) }
         ensures err { OnErr result (entries self.new ≡ entries self.old) }
         ensures refused { OnErr result (¬ HasLeft spares.old 1) }
         ensures full { OnErr result
-            ((size self.old ≡ 0) ⊎ (MOST_PARTS ≤ length (entries self.old))) };
+            ((size self.old ≡ 0) ⊎ (MOST_PARTS ≤ length (entries self.old))
+            ⊎ (¬ HasReserve spares.old
+            × (HALF * (long self.old + 1) ≤ length (entries self.old)))) };
 
     /// Removes entries to dead places, from this position on as far as its leaf goes. The parts that are left without any are set
     /// aside, if there is a place for them. It does nothing where no entry follows.
@@ -224,7 +238,10 @@ pub trait Node: Drop {
         ensures spares { (k : ℕ) → HasLeft spares.old k → HasLeft spares.new k }
         ensures places { HasPlaces spares.old → HasPlaces spares.new }
         ensures emptied { 0 < size self.old → size self.new ≡ 0 → HasPlaces spares.old
-            → HasLeft spares.new 1 };
+            → HasReserve spares.new → HasLeft spares.new 1 }
+        ensures reserve { HasReserve spares.old → HasReserve spares.new }
+        ensures returned { HasPlaces spares.old
+            → HasReserve spares.new ⊎ (long self.old ≤ long self.new) };
 
     /// No spares.
     fn no_spares(alloc: Global) -> Self::Spares;
@@ -238,6 +255,7 @@ pub trait Node: Drop {
         ensures ok { OnOk result (HasLeft spares.new count) }
         ensures kept { (k : ℕ) → HasLeft spares.old k → HasLeft spares.new k }
         ensures places { HasPlaces spares.old → HasPlaces spares.new }
+        ensures reserve { HasReserve spares.old → HasReserve spares.new }
         ensures err { OnErr result (¬ HasLeft spares.old count) };
 
     // a node without parts has no entries, and any other has some
@@ -250,6 +268,9 @@ pub trait Node: Drop {
 
     // it is a node itself
     ghost itself: { (node : Self) → 0 < nodes node };
+
+    // each of its long leaves has half of the entries that one may have
+    ghost halves: { (node : Self) → 64 * long node ≤ length (entries node) };
 
     // an entry stands before the end of the node
     ghost inside: { (node : Self) (position : Self.Position) → IsEntry node position

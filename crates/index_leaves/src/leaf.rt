@@ -1,7 +1,8 @@
 //! A leaf: entries that stand together in memory.
 
-ghost use Rattle.std.specs.Prelude.{◌≡◌, ◌<◌, ◌≤◌, ◌+◌, ◌-◌, ◌++◌, [], ◌∷◌, ◌↔◌, refl, length, take, drop, not, IfOk, IfErr, IfSome, IfNone, IsTrue, Some, slice_get, vec_len, vec_capacity};
+ghost use Rattle.std.specs.Prelude.{◌≡◌, ◌<◌, ◌≤◌, ◌+◌, ◌-◌, ◌++◌, ◌⊎◌, ◌↔◌, length, take, drop, not, IfOk, IfErr, IfSome, IfNone, IsTrue, OnOk, OnErr, Some, slice_get, vec_len, vec_capacity};
 ghost use Rattle.std.proofs.Common.{arith};
+ghost use Rattle.std.proofs.lemmas.List.{nil_from_length};
 ghost use Rattle.std.specs.List.{insert, filter};
 ghost use Rattle.std.specs.Option.{option_map};
 ghost use Rattle.index_entries.specs.Order.{IsAscending};
@@ -9,16 +10,20 @@ ghost use Rattle.index_entries.specs.Sets.{IsAt, IsEndAt, IsGapFor, GoesBehind, 
 ghost use Rattle.index_entries.specs.Lists.{IsFirst, IsLast, stays};
 ghost use Rattle.entry_columns.specs.Fits.{Fits};
 ghost use Rattle.index_leaves.specs.Bounds.{AreOn};
+ghost use Rattle.index_leaves.specs.Lists.{halves_more, long_leaves, Outgrows, IsSmallAndFull, HaveListPlaces};
 ghost use Rattle.dead_places.specs.Places.{AreAscending};
 
+use crate::spare_lists::SpareLists;
 use dead_places::{DeadSet, NO_PAGES, PageBounds, widen};
 use entry_columns::{EntryColumns, Label};
 use index_entries::{Entry, HALF, Half, MOST_PARTS, Node, Swept, compare, is_before, is_same};
 use std::alloc::{AllocError, Global};
 use std::marker::Model;
+use std::mem;
 use xid_circle::Tid;
 
-/// At most 128 entries. There is always room for all of them in memory: 1.5 KiB in an index by key, 2.5 KiB in another.
+/// At most 128 entries. It begins with places for 64, of 0.75 KiB in an index by key and 1.25 KiB in another, and gets a list of twice as
+/// many where it outgrows these. Where it is split the upper half keeps the large list.
 #[derive(Debug, Drop)]
 pub struct Leaf<L: Label> {
     /// The first entry, if there is one. A search that passes this leaf looks at nothing else of it, and the leaves of a branch
@@ -34,44 +39,47 @@ pub struct Leaf<L: Label> {
 }
 
 impl<L: Label> Model for Leaf<L> {
-    ghost use Rattle.std.specs.Prelude.{List};
-    ghost use Rattle.index_entries.specs.declared.entry.Entry.{Entry as Seen};
+    ghost use Rattle.entry_columns.specs.Columns.{ColumnsView};
     ghost use Rattle.index_leaves.specs.Keeps.{IsLeaf};
 
-    ghost Value = { List Seen };
+    ghost Value = { ColumnsView };
 
     ghost view = { λ l. l.entries };
 
-    ghost invariant = { λ l. IsLeaf l.first l.last l.entries l.pages };
+    ghost invariant = { λ l. IsLeaf l.first l.last l.entries.entries l.pages };
 }
 
 impl<L: Label> Node for Leaf<L> {
     type Position = usize;
 
-    type Spares = ();
+    type Spares = SpareLists<L>;
 
-    ghost entries = { λ l. l };
+    ghost entries = { λ l. l.entries };
 
-    ghost size = { λ l. length l };
+    ghost size = { λ l. length l.entries };
 
-    ghost nodes = { λ l. 1 };
+    ghost nodes = { λ l. 1 + halves_more l.room };
+
+    ghost long = { long_leaves };
 
     ghost Fits = { Fits L.is_by_key };
 
     ghost IsNeat = { λ l. Unit {0} };
 
-    ghost IsPosition = { λ l position. position ≤ length l };
+    ghost IsPosition = { λ l position. position ≤ length l.entries };
 
-    ghost IsEntry = { λ l position. (position < length l) × (position < 128) };
+    ghost IsEntry = { λ l position. (position < length l.entries) × (position < 128) };
 
     ghost rank = { λ l position. position };
 
-    ghost HasLeft = { λ spares k. Unit {0} };
+    ghost HasLeft = { λ spares k. k ≤ spares.large };
 
-    ghost HasPlaces = { λ spares. Unit {0} };
+    ghost HasPlaces = { HaveListPlaces };
+
+    ghost HasReserve = { λ spares. 0 < spares.large };
 
     fn new(alloc: Global) -> Result<Self, AllocError> {
-        let entries = EntryColumns::new(alloc)?;
+        let entries = EntryColumns::new(alloc, HALF)?;
         let tid = Tid { page: 0, slot: 0 };
         let none = Entry {
             value: 0,
@@ -134,8 +142,10 @@ impl<L: Label> Node for Leaf<L> {
     }
 
     fn split(&mut self, upper: &mut Self, position: usize) -> Half<usize> {
+        // keys that come in order go to the upper half: so it keeps the places for more
+        mem::swap(&mut self.entries, &mut upper.entries);
         let kept = kept_with(position);
-        self.entries.move_from(kept, &mut upper.entries);
+        upper.entries.move_before(kept, &mut self.entries);
         upper.first = first_or(&upper.entries, self.first);
         self.first = first_or(&self.entries, self.first);
         upper.last = last_or(&upper.entries, self.last);
@@ -153,11 +163,15 @@ impl<L: Label> Node for Leaf<L> {
 
     fn insert(
         &mut self,
-        _spares: &mut (),
+        spares: &mut SpareLists<L>,
         position: usize,
         entry: Entry,
     ) -> Result<(), AllocError> {
         let count = self.entries.len();
+        // with any other number there is a place
+        if count % HALF == 0 {
+            make_place(&mut self.entries, spares)?;
+        }
         self.entries.insert(position, entry);
         self.first = first_with(self.first, position, entry);
         self.last = last_with(self.last, count, position, entry);
@@ -169,7 +183,7 @@ impl<L: Label> Node for Leaf<L> {
     #[inline(always)]
     fn sweep_from(
         &mut self,
-        _spares: &mut (),
+        spares: &mut SpareLists<L>,
         position: usize,
         dead: &DeadSet,
     ) -> Option<Swept<usize>> {
@@ -189,6 +203,7 @@ impl<L: Label> Node for Leaf<L> {
             });
         }
         self.entries.remove_dead(goes, near);
+        spares.take_back(&mut self.entries);
         self.first = first_or(&self.entries, self.first);
         self.last = last_or(&self.entries, last);
         self.pages = bounds_of(&self.entries);
@@ -202,18 +217,19 @@ impl<L: Label> Node for Leaf<L> {
         })
     }
 
-    fn no_spares(_alloc: Global) {}
-
-    fn has_left(_spares: &(), _count: usize) -> bool {
-        true
+    fn no_spares(alloc: Global) -> SpareLists<L> {
+        SpareLists::new(alloc)
     }
 
-    fn add_spares(_spares: &mut (), _count: usize) -> Result<(), AllocError> {
-        Ok(())
+    fn has_left(spares: &SpareLists<L>, count: usize) -> bool {
+        count <= spares.len()
     }
 
-    ghost none = { elim
-        [ [] ↦ λ none. refl | entry ∷ rest ↦ λ none. absurd (omega (arith, none)) ] };
+    fn add_spares(spares: &mut SpareLists<L>, count: usize) -> Result<(), AllocError> {
+        spares.add(count)
+    }
+
+    ghost none = { λ l none. nil_from_length l.entries none };
 
     ghost some = { λ l neat some. some };
 
@@ -221,13 +237,47 @@ impl<L: Label> Node for Leaf<L> {
 
     ghost itself = { λ l. omega arith };
 
+    ghost halves = { λ l. omega arith };
+
     ghost inside = { λ l position entry. entry.0 };
 
     ghost before = { λ l position entry. omega (arith, entry.0) };
 
     ghost within = { λ l position within. within };
 
-    ghost fewer = { λ spares k enough. tt };
+    ghost fewer = { λ spares k enough. omega (arith, enough) };
+}
+
+/// Sees to a place for one more entry. The first of all takes none that is not there, but has a large list kept ready for the leaf that
+/// first outgrows its own.
+#[inline(never)]
+fn make_place<L: Label>(
+    entries: &mut EntryColumns<L>,
+    spares: &mut SpareLists<L>,
+) -> Result<(), AllocError>
+    requires few { length entries.old.entries < MOST_PARTS }
+    requires none { (length entries.old.entries ≡ 0) ⊎ (HALF ≤ length entries.old.entries) }
+    ensures entries { entries.new.entries ≡ entries.old.entries }
+    ensures place { OnOk result
+        (HALF ≤ length entries.old.entries → MOST_PARTS ≤ entries.new.room) }
+    ensures kept { entries.old.room ≤ entries.new.room }
+    ensures large { spares.old.large ≤ spares.new.large + 1 }
+    ensures taken { (spares.old.large ≤ spares.new.large) ⊎ Outgrows entries.old entries.new }
+    ensures places { HaveListPlaces spares.old → HaveListPlaces spares.new }
+    ensures first { OnOk result
+        (length entries.old.entries ≡ 0 → HaveListPlaces spares.new × (0 < spares.new.large)) }
+    ensures same { OnErr result (spares.old.large ≤ spares.new.large) }
+    ensures refused { OnErr result (spares.old.large ≡ 0) }
+    ensures full { OnErr result
+        ((length entries.old.entries ≡ 0) ⊎ IsSmallAndFull entries.old) }
+{
+    if entries.len() == 0 {
+        return spares.add(1);
+    }
+    if entries.room() >= MOST_PARTS {
+        return Ok(());
+    }
+    spares.widen(entries)
 }
 
 /// How many entries a full leaf keeps when it is split for one more at this position: the first 64 of all stay, be the new one among
@@ -257,7 +307,7 @@ fn last_with(last: Entry, count: usize, place: usize, entry: Entry) -> Entry
 
 /// The pages that these entries lead to.
 fn bounds_of<L: Label>(entries: &EntryColumns<L>) -> PageBounds
-    ensures { AreOn result entries.now }
+    ensures { AreOn result entries.now.entries }
 {
     let mut bounds = NO_PAGES;
     for place in 0..entries.len() {
@@ -285,9 +335,9 @@ fn guess(sought: &Entry, first: &Entry, spread: u64, count: usize) -> usize {
 /// Where the entry stands among these, or where it would. It looks at the guess first, and then beside what it saw, four times
 /// as far each time, but never farther than halving would.
 fn search<L: Label>(entries: &EntryColumns<L>, sought: &Entry, guess: usize) -> Result<usize, usize>
-    requires { IsAscending entries.now }
-    ensures found { IfOk result (IsAt entries.now sought.now) }
-    ensures absent { IfErr result (IsGapFor entries.now sought.now) }
+    requires { IsAscending entries.now.entries }
+    ensures found { IfOk result (IsAt entries.now.entries sought.now) }
+    ensures absent { IfErr result (IsGapFor entries.now.entries sought.now) }
 {
     let mut low = 0;
     let mut high = entries.len();
@@ -312,7 +362,7 @@ fn search<L: Label>(entries: &EntryColumns<L>, sought: &Entry, guess: usize) -> 
 
 /// Whether this entry stands at this place.
 fn is_at<L: Label>(entries: &EntryColumns<L>, sought: &Entry, place: usize) -> bool
-    ensures { IsTrue result ↔ IsAt entries.now sought.now place }
+    ensures { IsTrue result ↔ IsAt entries.now.entries sought.now place }
 {
     match entries.get(place) {
         Some(entry) => compare(&entry, sought).is_eq(),
@@ -328,8 +378,8 @@ fn stands_in<L: Label>(
     sought: &Entry,
     place: usize,
 ) -> bool
-    requires { IsLast last.now entries.now }
-    ensures there { IsTrue result ↔ IsAt entries.now sought.now place }
+    requires { IsLast last.now entries.now.entries }
+    ensures there { IsTrue result ↔ IsAt entries.now.entries sought.now place }
     ensures few { IsTrue result → place < MOST_PARTS }
 {
     if place >= entries.len() {
@@ -341,9 +391,9 @@ fn stands_in<L: Label>(
 /// The entry at this place, where the last one is known. So a sweep goes on from it without a look at the others.
 #[inline(always)]
 fn there<L: Label>(entries: &EntryColumns<L>, last: &Entry, place: usize) -> Entry
-    requires in_range { place < length entries.now }
-    requires last { IsLast last.now entries.now }
-    ensures { slice_get entries.now place ≡ Some result }
+    requires in_range { place < length entries.now.entries }
+    requires last { IsLast last.now entries.now.entries }
+    ensures { slice_get entries.now.entries place ≡ Some result }
 {
     let count = entries.len();
     if place + 1 == count {
@@ -356,8 +406,8 @@ fn there<L: Label>(entries: &EntryColumns<L>, last: &Entry, place: usize) -> Ent
 /// The entry at this place, if there is one; and whether another of these stands behind it, of another value or another key.
 #[inline(always)]
 fn look_at<L: Label>(entries: &EntryColumns<L>, place: usize) -> Option<(Entry, bool)>
-    ensures entry { option_map (λ found. found.0) result ≡ slice_get entries.now place }
-    ensures end { IfSome result (λ found. IsTrue found.1 → IsEndAt entries.now found.0 place) }
+    ensures entry { option_map (λ found. found.0) result ≡ slice_get entries.now.entries place }
+    ensures end { IfSome result (λ found. IsTrue found.1 → IsEndAt entries.now.entries found.0 place) }
 {
     match entries.get(place) {
         Some(entry) => Some((entry, is_end(entries, entry, place))),
@@ -368,7 +418,7 @@ fn look_at<L: Label>(entries: &EntryColumns<L>, place: usize) -> Option<(Entry, 
 /// Whether another of these entries stands behind this place, of another value or another key than this one.
 #[inline(always)]
 fn is_end<L: Label>(entries: &EntryColumns<L>, entry: Entry, place: usize) -> bool
-    ensures { IsTrue result → IsEndAt entries.now entry place }
+    ensures { IsTrue result → IsEndAt entries.now.entries entry place }
 {
     let behind = place.saturating_add(1);
     if behind >= entries.len() {
@@ -386,10 +436,10 @@ fn gap_near<L: Label>(
     near: usize,
     is_last: bool,
 ) -> Option<usize>
-    requires { IsAscending entries.now }
-    ensures in_range { IfSome result (λ place. place ≤ length entries.now) }
-    ensures behind { IfSome result (GoesBehind entries.now sought.now) }
-    ensures before { IfSome result (GoesBefore entries.now sought.now is_last) }
+    requires { IsAscending entries.now.entries }
+    ensures in_range { IfSome result (λ place. place ≤ length entries.now.entries) }
+    ensures behind { IfSome result (GoesBehind entries.now.entries sought.now) }
+    ensures before { IfSome result (GoesBefore entries.now.entries sought.now is_last) }
 {
     // behind what stands there, or before it
     let next = near.saturating_add(1);
@@ -409,8 +459,8 @@ fn gap_near<L: Label>(
 
 /// Whether an entry stands right before this place, and before the sought one.
 fn goes_behind<L: Label>(entries: &EntryColumns<L>, sought: &Entry, place: usize) -> bool
-    requires { IsAscending entries.now }
-    ensures { IsTrue result → GoesBehind entries.now sought.now place }
+    requires { IsAscending entries.now.entries }
+    ensures { IsTrue result → GoesBehind entries.now.entries sought.now place }
 {
     if place == 0 {
         return false;
@@ -428,8 +478,8 @@ fn goes_before<L: Label>(
     place: usize,
     is_last: bool,
 ) -> bool
-    requires { IsAscending entries.now }
-    ensures { IsTrue result → GoesBefore entries.now sought.now is_last place }
+    requires { IsAscending entries.now.entries }
+    ensures { IsTrue result → GoesBefore entries.now.entries sought.now is_last place }
 {
     match entries.get(place) {
         Some(behind) => is_before(sought, &behind),
@@ -439,7 +489,7 @@ fn goes_before<L: Label>(
 
 /// The first of these entries, or another where there is none.
 fn first_or<L: Label>(entries: &EntryColumns<L>, other: Entry) -> Entry
-    ensures { IsFirst result entries.now }
+    ensures { IsFirst result entries.now.entries }
 {
     match entries.get(0) {
         Some(first) => first,
@@ -449,7 +499,7 @@ fn first_or<L: Label>(entries: &EntryColumns<L>, other: Entry) -> Entry
 
 /// The last of these entries, or another where there is none.
 fn last_or<L: Label>(entries: &EntryColumns<L>, other: Entry) -> Entry
-    ensures { IsLast result entries.now }
+    ensures { IsLast result entries.now.entries }
 {
     match entries.get(entries.len().saturating_sub(1)) {
         Some(last) => last,
@@ -459,11 +509,11 @@ fn last_or<L: Label>(entries: &EntryColumns<L>, other: Entry) -> Entry
 
 /// The first place, from this one on, of an entry that leads to a dead place; the end, where none does.
 fn next_to_go<L: Label>(entries: &EntryColumns<L>, from: usize, dead: &[Tid]) -> usize
-    requires in_range { from ≤ length entries.now }
+    requires in_range { from ≤ length entries.now.entries }
     requires ascending { AreAscending dead.now }
-    ensures in_range { result ≤ length entries.now }
-    ensures kept { take result entries.now ++ filter (stays dead.now) (drop result entries.now)
-        ≡ take from entries.now ++ filter (stays dead.now) (drop from entries.now) }
+    ensures in_range { result ≤ length entries.now.entries }
+    ensures kept { take result entries.now.entries ++ filter (stays dead.now) (drop result entries.now.entries)
+        ≡ take from entries.now.entries ++ filter (stays dead.now) (drop from entries.now.entries) }
 {
     // the entries of most leaves lead to other pages
     if dead.is_empty() {

@@ -7,5 +7,7 @@
 #![tactic(auto)]
 
 mod leaf;
+mod spare_lists;
 
 pub use leaf::Leaf;
+pub use spare_lists::SpareLists;

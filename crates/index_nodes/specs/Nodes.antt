@@ -80,8 +80,9 @@ abbrev pub HavePlaces : {B : Type 0} → (B → Type 0) → ℕ → B → Type 0
 HavePlaces HasPlaces capacity below = (1 ≤ capacity) × HasPlaces below
 
 -- none of the nodes that are set aside goes, nor a place for one
-pub record KeepsSpares {B : Type 0} (HasLeft : B → Count → Type 0) (HasPlaces : B → Type 0) (count count' capacity capacity' : Count) (below below' : B) : Type 0 where
+pub record KeepsSpares {B : Type 0} (HasLeft : B → Count → Type 0) (HasPlaces HasReserve : B → Type 0) (count count' capacity capacity' : Count) (below below' : B) : Type 0 where
   pub nodes : count ≤ count'
   pub left : (k : ℕ) → HasLeft below k → HasLeft below' k
   pub list : capacity ≤ capacity'
   pub places : HasPlaces below → HasPlaces below'
+  pub reserve : HasReserve below → HasReserve below'

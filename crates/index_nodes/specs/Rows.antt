@@ -1,6 +1,7 @@
 -- What holds of nodes one after another where it holds of each: the laws of a branch. No definition: these are proofs.
-use Rattle.std.proofs.Common.{◌≡◌, ℕ, zero, suc, ◌+◌, ◌<◌, ◌≤◌, Option, Some, None, List, [], ◌∷◌, length, map, take, slice_get, IfSome, IsSomeAnd, sym, ap, refl, subst, arith}
+use Rattle.std.proofs.Common.{◌≡◌, ℕ, zero, suc, ◌+◌, ◌*◌, ◌<◌, ◌≤◌, Option, Some, None, List, [], ◌∷◌, length, map, take, sum_by, slice_get, IfSome, IsSomeAnd, sym, ap, refl, subst, arith}
 use Rattle.std.proofs.lemmas.List.{length-append}
+use Rattle.std.proofs.lemmas.List.Sums.{sum_by-cons}
 use Rattle.std.proofs.lemmas.List.Elements.{All-tail}
 use Rattle.std.proofs.lemmas.Option.{slice_get_within}
 use Rattle.index_entries.specs.declared.entry.Entry.{Entry}
@@ -29,6 +30,16 @@ many_with entries IsNeat size some (n ∷ nodes) neat =
     let first = some n prefix.0 prefix.1 in
     let rest = many_with entries IsNeat size some nodes (All-tail (λ n. IsNeat n × (0 < size n)) n nodes neat) in
     let whole = length-append (entries n) (all entries nodes) in
+    omega arith
+
+pub halves_with : {N : Type 0} (entries : N → List Entry) (long : N → ℕ) (halves : (n : N) → 64 * long n ≤ length (entries n)) (nodes : List N)
+    → 64 * sum_by long nodes ≤ length (all entries nodes)
+halves_with entries long halves [] = omega arith
+halves_with entries long halves (n ∷ nodes) =
+    let first = halves n in
+    let rest = halves_with entries long halves nodes in
+    let whole = length-append (entries n) (all entries nodes) in
+    let sum = sum_by-cons long n nodes in
     omega arith
 
 -- A position in a node is one among all.

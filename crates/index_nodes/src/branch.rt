@@ -2,7 +2,7 @@
 
 ghost use Rattle.std.specs.Prelude.{◌≡◌, ◌≤◌, ◌++◌, [], suc, length, sum_by, vec_len, vec_capacity};
 ghost use Rattle.std.proofs.Common.{arith};
-ghost use Rattle.index_nodes.specs.Rows.{none_without, some_with, many_with, rank_within, rank_inside, entry_is_position};
+ghost use Rattle.index_nodes.specs.Rows.{none_without, some_with, many_with, halves_with, rank_within, rank_inside, entry_is_position};
 ghost use Rattle.index_nodes.specs.Nodes.{all, rank_in, AreNeat, IsPositionIn, IsEntryIn, AreLeft, HavePlaces};
 
 use crate::nodes::{self, Spares, TreePosition};
@@ -39,6 +39,8 @@ impl<N: Node> Node for Branch<N> {
 
     ghost nodes = { λ b. suc (sum_by N.nodes b) };
 
+    ghost long = { λ b. sum_by N.long b };
+
     ghost Fits = { N.Fits };
 
     ghost IsNeat = { λ b. AreNeat N.IsNeat N.size b };
@@ -52,6 +54,8 @@ impl<N: Node> Node for Branch<N> {
     ghost HasLeft = { λ spares k. AreLeft N.HasLeft (vec_len spares.nodes) spares.below k };
 
     ghost HasPlaces = { λ spares. HavePlaces N.HasPlaces (vec_capacity spares.nodes) spares.below };
+
+    ghost HasReserve = { λ spares. N.HasReserve spares.below };
 
     fn new(alloc: Global) -> Result<Self, AllocError> {
         let nodes = Vec::with_capacity(alloc, MOST_PARTS)?;
@@ -170,6 +174,8 @@ impl<N: Node> Node for Branch<N> {
     ghost many = { λ b neat. many_with N.entries N.IsNeat N.size N.some b neat };
 
     ghost itself = { λ b. omega arith };
+
+    ghost halves = { λ b. halves_with N.entries N.long N.halves b };
 
     ghost inside = { λ b position entry. rank_inside N.entries N.rank N.IsEntry N.inside b position
         entry };

@@ -1,6 +1,6 @@
 //! Nodes, one after another: looking for an entry's position, putting one there, and removing entries from all of them.
 
-ghost use Rattle.std.specs.Prelude.{◌≡◌, ◌<◌, ◌≤◌, ◌+◌, ◌-◌, ◌⊎◌, ℕ, [], length, map, max, sum_by, true, ◌↔◌, ◌^◌, IsTrue, IfOk, IfErr, IfSome, IfNone, OnOk, OnErr, vec_len, vec_capacity, slice_get, option_copied};
+ghost use Rattle.std.specs.Prelude.{◌≡◌, ◌<◌, ◌≤◌, ◌+◌, ◌*◌, ◌-◌, ◌⊎◌, ℕ, [], length, map, max, sum_by, true, ◌↔◌, ◌^◌, IsTrue, IfOk, IfErr, IfSome, IfNone, OnOk, OnErr, vec_len, vec_capacity, slice_get, option_copied};
 ghost use Rattle.std.specs.Bool.{OnTrue};
 ghost use Rattle.std.specs.List.{insert};
 ghost use Rattle.std.specs.Option.{option_map};
@@ -11,7 +11,7 @@ ghost use Rattle.index_nodes.specs.Nodes.{all, rank_in, before_node, AreNeat, Ar
 ghost use Rattle.index_entries.specs.Sweeps.{IsSwept};
 
 use dead_places::DeadSet;
-use index_entries::{Entry, Half, MOST_PARTS, Node, Swept};
+use index_entries::{Entry, HALF, Half, MOST_PARTS, Node, Swept};
 use std::alloc::AllocError;
 
 /// A place among nodes.
@@ -240,7 +240,8 @@ fn split<N: Node>(
     ensures opened { IsOpened N.entries N.size N.rank N.IsPosition nodes.old.items nodes.new.items
         position result }
     ensures neat { AreNeat N.IsNeat N.size nodes.new.items }
-    ensures nodes { sum_by N.nodes nodes.new.items ≡ sum_by N.nodes nodes.old.items + 1 }
+    ensures nodes { sum_by N.nodes nodes.old.items < sum_by N.nodes nodes.new.items }
+    ensures long { sum_by N.long nodes.old.items ≤ sum_by N.long nodes.new.items }
     ensures count { vec_len nodes.new ≡ vec_len nodes.old + 1 }
     ensures capacity { vec_capacity nodes.old ≤ vec_capacity nodes.new }
 {
@@ -282,6 +283,7 @@ fn open<N: Node>(
         ((vec_capacity nodes.old - vec_len nodes.old ≡ 0) ⊎ (vec_len spare.old ≡ 0)) }
     ensures full { OnErr result (MOST_PARTS ≤ length (all N.entries nodes.old.items)) }
     ensures grown { sum_by N.nodes nodes.old.items ≤ sum_by N.nodes nodes.new.items }
+    ensures long { sum_by N.long nodes.old.items ≤ sum_by N.long nodes.new.items }
     ensures unspent_list { OnOk result
         (sum_by N.nodes nodes.new.items ≡ sum_by N.nodes nodes.old.items
         → vec_capacity nodes.old - vec_len nodes.old ≤ vec_capacity nodes.new - vec_len nodes.new) }
@@ -331,7 +333,10 @@ fn insert_first<N: Node>(
     ensures places { HavePlaces N.HasPlaces (vec_capacity spares.old.nodes) spares.old.below
         → HavePlaces N.HasPlaces (vec_capacity spares.new.nodes) spares.new.below }
     ensures first { OnOk result
-        (HavePlaces N.HasPlaces (vec_capacity spares.new.nodes) spares.new.below) }
+        (HavePlaces N.HasPlaces (vec_capacity spares.new.nodes) spares.new.below
+        × N.HasReserve spares.new.below) }
+    ensures reserve_kept { OnErr result
+        (N.HasReserve spares.old.below → N.HasReserve spares.new.below) }
     ensures err { OnErr result (nodes.new.items ≡ nodes.old.items) }
     ensures refused { OnErr result
         ((vec_capacity nodes.old - vec_len nodes.old ≡ 0) ⊎ (vec_len spares.old.nodes ≡ 0)
@@ -371,13 +376,23 @@ pub fn insert<N: Node>(
     ensures places { HavePlaces N.HasPlaces (vec_capacity spares.old.nodes) spares.old.below
         → HavePlaces N.HasPlaces (vec_capacity spares.new.nodes) spares.new.below }
     ensures first { OnOk result (length nodes.old.items ≡ 0
-        → HavePlaces N.HasPlaces (vec_capacity spares.new.nodes) spares.new.below) }
+        → HavePlaces N.HasPlaces (vec_capacity spares.new.nodes) spares.new.below
+        × N.HasReserve spares.new.below) }
+    ensures long { sum_by N.long nodes.old.items ≤ sum_by N.long nodes.new.items }
+    ensures reserve { OnOk result (N.HasReserve spares.old.below
+        → N.HasReserve spares.new.below
+        ⊎ (sum_by N.long nodes.old.items < sum_by N.long nodes.new.items)) }
+    ensures reserve_kept { OnErr result
+        (N.HasReserve spares.old.below → N.HasReserve spares.new.below) }
     ensures err { OnErr result (all N.entries nodes.new.items ≡ all N.entries nodes.old.items) }
     ensures refused { OnErr result
         ((vec_capacity nodes.old - vec_len nodes.old ≡ 0) ⊎ (vec_len spares.old.nodes ≡ 0)
         ⊎ ¬ N.HasLeft spares.old.below 1) }
     ensures full { OnErr result
-        ((length nodes.old.items ≡ 0) ⊎ (MOST_PARTS ≤ length (all N.entries nodes.old.items))) }
+        ((length nodes.old.items ≡ 0) ⊎ (MOST_PARTS ≤ length (all N.entries nodes.old.items))
+        ⊎ (¬ N.HasReserve spares.old.below
+        × (HALF * (sum_by N.long nodes.old.items + 1)
+        ≤ length (all N.entries nodes.old.items)))) }
     ensures grown { sum_by N.nodes nodes.old.items ≤ sum_by N.nodes nodes.new.items }
     ensures unspent { OnOk result
         (sum_by N.nodes nodes.new.items ≡ sum_by N.nodes nodes.old.items
@@ -470,6 +485,7 @@ fn drop_empty<N: Node>(nodes: &mut Vec<N>, spare: &mut Vec<N>, number: usize)
         → vec_len nodes.new < vec_capacity nodes.new }
     ensures spare { vec_len spare.old ≤ vec_len spare.new }
     ensures places { vec_capacity spare.old ≤ vec_capacity spare.new }
+    ensures long { sum_by N.long nodes.new.items ≡ sum_by N.long nodes.old.items }
     ensures size { vec_len nodes.new < vec_len nodes.old
         → IfSome (slice_get nodes.old.items number) (λ n. N.size n ≡ 0) }
     ensures emptied { vec_len nodes.new < vec_len nodes.old → 1 ≤ vec_capacity spare.old
@@ -529,12 +545,16 @@ fn sweep_one<N: Node>(
     ensures capacity { vec_capacity nodes.old ≤ vec_capacity nodes.new }
     ensures room { vec_len nodes.new < vec_len nodes.old
         → vec_len nodes.new < vec_capacity nodes.new }
-    ensures kept { KeepsSpares N.HasLeft N.HasPlaces (vec_len spares.old.nodes)
+    ensures kept { KeepsSpares N.HasLeft N.HasPlaces N.HasReserve (vec_len spares.old.nodes)
         (vec_len spares.new.nodes) (vec_capacity spares.old.nodes)
         (vec_capacity spares.new.nodes) spares.old.below spares.new.below }
     ensures emptied { 0 < length nodes.old.items → length nodes.new.items ≡ 0
         → HavePlaces N.HasPlaces (vec_capacity spares.old.nodes) spares.old.below
+        → N.HasReserve spares.new.below
         → AreLeft N.HasLeft (vec_len spares.new.nodes) spares.new.below 1 }
+    ensures returned { HavePlaces N.HasPlaces (vec_capacity spares.old.nodes) spares.old.below
+        → N.HasReserve spares.new.below
+        ⊎ (sum_by N.long nodes.old.items ≤ sum_by N.long nodes.new.items) }
 {
     let others = position.node + 1 < nodes.len();
     match nodes[position.node].sweep_from(&mut spares.below, position.inner, dead) {
@@ -569,12 +589,16 @@ pub fn sweep_from<N: Node>(
     ensures capacity { vec_capacity nodes.old ≤ vec_capacity nodes.new }
     ensures room { vec_len nodes.new < vec_len nodes.old
         → vec_len nodes.new < vec_capacity nodes.new }
-    ensures kept { KeepsSpares N.HasLeft N.HasPlaces (vec_len spares.old.nodes)
+    ensures kept { KeepsSpares N.HasLeft N.HasPlaces N.HasReserve (vec_len spares.old.nodes)
         (vec_len spares.new.nodes) (vec_capacity spares.old.nodes)
         (vec_capacity spares.new.nodes) spares.old.below spares.new.below }
     ensures emptied { 0 < length nodes.old.items → length nodes.new.items ≡ 0
         → HavePlaces N.HasPlaces (vec_capacity spares.old.nodes) spares.old.below
+        → N.HasReserve spares.new.below
         → AreLeft N.HasLeft (vec_len spares.new.nodes) spares.new.below 1 }
+    ensures returned { HavePlaces N.HasPlaces (vec_capacity spares.old.nodes) spares.old.below
+        → N.HasReserve spares.new.below
+        ⊎ (sum_by N.long nodes.old.items ≤ sum_by N.long nodes.new.items) }
 {
     // where there are no nodes
     if position.node >= nodes.len() {
@@ -605,12 +629,16 @@ fn sweep_next<N: Node>(
     ensures capacity { vec_capacity nodes.old ≤ vec_capacity nodes.new }
     ensures room { vec_len nodes.new < vec_len nodes.old
         → vec_len nodes.new < vec_capacity nodes.new }
-    ensures kept { KeepsSpares N.HasLeft N.HasPlaces (vec_len spares.old.nodes)
+    ensures kept { KeepsSpares N.HasLeft N.HasPlaces N.HasReserve (vec_len spares.old.nodes)
         (vec_len spares.new.nodes) (vec_capacity spares.old.nodes)
         (vec_capacity spares.new.nodes) spares.old.below spares.new.below }
     ensures emptied { 0 < length nodes.old.items → length nodes.new.items ≡ 0
         → HavePlaces N.HasPlaces (vec_capacity spares.old.nodes) spares.old.below
+        → N.HasReserve spares.new.below
         → AreLeft N.HasLeft (vec_len spares.new.nodes) spares.new.below 1 }
+    ensures returned { HavePlaces N.HasPlaces (vec_capacity spares.old.nodes) spares.old.below
+        → N.HasReserve spares.new.below
+        ⊎ (sum_by N.long nodes.old.items ≤ sum_by N.long nodes.new.items) }
 {
     if number >= nodes.len() {
         return None;

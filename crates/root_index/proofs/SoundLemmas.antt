@@ -1,5 +1,5 @@
 -- What the calls of an index keep.
-use Rattle.std.proofs.Common.{◌≡◌, ◌∙◌, ℕ, zero, suc, ◌+◌, ◌-◌, ◌^◌, ◌<◌, ◌≤◌, ◌⊎◌, inl, inr, max, List, length, Option, slice_get, sym, ap, refl, subst, arith}
+use Rattle.std.proofs.Common.{◌≡◌, ◌∙◌, ℕ, zero, suc, ◌+◌, ◌-◌, ◌^◌, ◌<◌, ◌≤◌, ◌⊎◌, inl, inr, ⊎_elim, max, List, length, Option, slice_get, sym, ap, refl, subst, arith}
 use Rattle.std.specs.List.{insert}
 use Rattle.std.proofs.lemmas.Bool.{cases_lt}
 use Rattle.std.proofs.lemmas.List.Edits.{length-insert}
@@ -8,7 +8,7 @@ use Rattle.index_entries.specs.Order.{IsAscending}
 use Rattle.index_entries.specs.Sets.{AddsEntry, IsAt, IsGapFor, IsLeast}
 use Rattle.index_nodes.specs.declared.nodes.TreePosition.{TreePosition}
 use Rattle.index_nodes.specs.Nodes.{all, rank_in, AreNeat, IsStartIn}
-use Rattle.root_index.specs.Trees.{Tree, among, IsNeatTree, SetAside, IsSoundIndex}
+use Rattle.root_index.specs.Trees.{Tree, among, long_among, IsNeatTree, SetAside, IsSoundIndex}
 use Rattle.index_entries.proofs.SetLemmas.{ascending-insert, adds-inserted, first_is_least}
 
 -- what is left for one insert fewer
@@ -20,10 +20,10 @@ left_after HasLeft HasLeft' next none (suc k) left =
     subst HasLeft' less (next k (subst HasLeft is left))
 
 module _ (trees new : List Tree) (aside aside' : SetAside) (count promised : ℕ) (sound : IsSoundIndex trees aside count promised) where
-  pub sound_inserted : (x : Entry) (rank count' promised' : ℕ) → IsGapFor (among trees) x rank → among new ≡ insert (among trees) rank x → AreNeat IsNeatTree (λ tree. length tree) new → aside'.HasPlaces
+  pub sound_inserted : (x : Entry) (rank count' promised' : ℕ) → IsGapFor (among trees) x rank → among new ≡ insert (among trees) rank x → AreNeat IsNeatTree (λ tree. length tree) new → aside'.HasPlaces → aside'.HasReserve ⊎ (0 < long_among new)
       → aside.places ≤ aside'.places + 1 → aside.trees ≤ aside'.trees + 1 → ((k : ℕ) → aside.HasLeft (k + 1) → aside'.HasLeft k) → aside'.HasLeft 0 → count' ≡ count + 1 → promised' ≡ promised - 1 → count' < 2 ^ 64
       → IsSoundIndex new aside' count' promised'
-  sound_inserted x rank count' promised' gap made neat places in_room in_spare next none counted kept fits =
+  sound_inserted x rank count' promised' gap made neat places ready in_room in_spare next none counted kept fits =
       let up = ascending-insert (among trees) x rank sound.ascending gap in
       let longer = length-insert (among trees) rank x gap.in_range in
       let before = sound.counted in
@@ -39,14 +39,15 @@ module _ (trees new : List Tree) (aside aside' : SetAside) (count promised : ℕ
         in_trees = omega arith;
         below = subst aside'.HasLeft (sym kept) (left_after aside.HasLeft aside'.HasLeft next none promised sound.below);
         places = λ some. places;
+        ready = λ some. ready;
         countable = omega arith;
       }
 
   -- what was promised for others is kept where it is still enough
-  pub sound_unspent : (x : Entry) (rank count' promised' : ℕ) → IsGapFor (among trees) x rank → among new ≡ insert (among trees) rank x → AreNeat IsNeatTree (λ tree. length tree) new → aside'.HasPlaces
+  pub sound_unspent : (x : Entry) (rank count' promised' : ℕ) → IsGapFor (among trees) x rank → among new ≡ insert (among trees) rank x → AreNeat IsNeatTree (λ tree. length tree) new → aside'.HasPlaces → aside'.HasReserve ⊎ (0 < long_among new)
       → count' ≡ count + 1 → promised ≤ aside'.places → promised ≤ aside'.trees → aside'.HasLeft promised → count' + promised < 2 ^ 64 → promised' ≡ promised
       → IsSoundIndex new aside' count' promised'
-  sound_unspent x rank count' promised' gap made neat places counted in_list in_trees below countable is =
+  sound_unspent x rank count' promised' gap made neat places ready counted in_list in_trees below countable is =
       let up = ascending-insert (among trees) x rank sound.ascending gap in
       let longer = length-insert (among trees) rank x gap.in_range in
       let before = sound.counted in
@@ -59,6 +60,7 @@ module _ (trees new : List Tree) (aside aside' : SetAside) (count promised : ℕ
         in_trees = omega (arith, is, in_trees);
         below = subst aside'.HasLeft (sym is) below;
         places = λ some. places;
+        ready = λ some. ready;
         countable = omega (arith, is, countable);
       }
 
@@ -122,8 +124,8 @@ most_is a b most is = elim (cases_lt a b) [ inl less ↦ inr (omega (arith, is))
 -- an index that has room for more
 pub sound_roomier : (trees new : List Tree) (aside aside' : SetAside) (count promised given most : ℕ) → IsSoundIndex trees aside count promised → new ≡ trees
     → aside.places ≤ aside'.places → given ≤ aside'.places → aside.trees ≤ aside'.trees → given ≤ aside'.trees → ((k : ℕ) → aside.HasLeft k → aside'.HasLeft k) → aside'.HasLeft given
-    → (aside.HasPlaces → aside'.HasPlaces) → most ≡ max promised given → count + given < 2 ^ 64 → IsSoundIndex new aside' count most
-sound_roomier trees new aside aside' count promised given most sound same kept_room in_room kept_spare in_spare kept left places is fits =
+    → (aside.HasPlaces → aside'.HasPlaces) → (aside.HasReserve → aside'.HasReserve) → most ≡ max promised given → count + given < 2 ^ 64 → IsSoundIndex new aside' count most
+sound_roomier trees new aside aside' count promised given most sound same kept_room in_room kept_spare in_spare kept left places reserve is fits =
     let which = most_is promised given most is in
     let in_list = sound.in_list in
     let in_trees = sound.in_trees in
@@ -136,5 +138,6 @@ sound_roomier trees new aside aside' count promised given most sound same kept_r
       in_trees = omega arith;
       below = max_left aside'.HasLeft promised given most (kept promised sound.below) left which;
       places = λ some. places (sound.places some);
+      ready = λ some. ⊎_elim (λ has. inl (reserve has)) (λ long. inr (subst (λ (ts : List Tree). 0 < long_among ts) (sym same) long)) (sound.ready some);
       countable = omega arith;
     }

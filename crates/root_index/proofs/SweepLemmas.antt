@@ -19,7 +19,7 @@ use Rattle.index_entries.specs.Lists.{stays}
 use Rattle.index_nodes.specs.Nodes.{all, rank_in, AreNeat, IsStartIn}
 use Rattle.index_nodes.specs.Rows.{none_without}
 use Rattle.index_entries.specs.Sweeps.{IsSwept}
-use Rattle.root_index.specs.Trees.{Tree, tree_entries, among, IsNeatTree, SetAside, IsSoundIndex}
+use Rattle.root_index.specs.Trees.{Tree, tree_entries, among, long_among, IsNeatTree, SetAside, IsSoundIndex}
 use Rattle.root_index.specs.Pieces.{RemovesPiece}
 use Rattle.root_index.specs.View.{free_places}
 use Rattle.index_entries.proofs.OrderLemmas.{Precedes-not_back, not_before_itself, ascending-tail, ascending-head}
@@ -210,15 +210,20 @@ some_nodes entries (n ∷ nodes) some = omega arith
 abbrev pub IsPromisedAfter : ℕ → ℕ → ℕ → Type 0
 IsPromisedAfter nodes promised promised' = (0 < nodes → promised' ≡ promised) × (nodes ≡ 0 → promised' ≡ max promised 1)
 
+none_long : (trees : List Tree) → length trees ≡ 0 → long_among trees ≡ 0
+none_long [] none = refl
+none_long (tree ∷ trees) none = absurd (omega (arith, none))
+
 pub sound_swept : {S : Type 0} (old new : List Tree) (aside aside' : SetAside) (count count' promised promised' rank : ℕ) (dead : List Tid) (swept : Swept S) → IsSoundIndex old aside count promised
     → IsSwept (among old) (among new) rank dead swept → AreNeat IsNeatTree (λ tree. length tree) new → aside.places ≤ aside'.places → aside.trees ≤ aside'.trees
-    → ((k : ℕ) → aside.HasLeft k → aside'.HasLeft k) → (aside.HasPlaces → aside'.HasPlaces) → (length new ≡ 0 → aside.HasPlaces → (1 ≤ aside'.places) × (1 ≤ aside'.trees) × aside'.HasLeft 1)
+    → ((k : ℕ) → aside.HasLeft k → aside'.HasLeft k) → (aside.HasPlaces → aside'.HasPlaces) → (aside.HasReserve → aside'.HasReserve) → (aside.HasPlaces → aside'.HasReserve ⊎ (long_among old ≤ long_among new))
+    → (length new ≡ 0 → aside.HasPlaces → aside'.HasReserve → (1 ≤ aside'.places) × (1 ≤ aside'.trees) × aside'.HasLeft 1)
     → count' ≡ count - swept.removed → IsPromisedAfter (length new) promised promised' → IsSoundIndex new aside' count' promised'
-sound_swept old new aside aside' count count' promised promised' rank dead swept sound s neat in_room in_spare kept places emptied counted after = elim (cases_lt 0 (length new)) [
-  | inl some ↦ of_promised promised' (inl (after.0 some)) (omega (arith, after.0 some, list, in_room)) (omega (arith, after.0 some, trees, in_spare)) (omega (arith, after.0 some, bound, whole, before, counted))
+sound_swept old new aside aside' count count' promised promised' rank dead swept sound s neat in_room in_spare kept places reserve returned emptied counted after = elim (cases_lt 0 (length new)) [
+  | inl left ↦ of_promised promised' (inl (after.0 left)) (omega (arith, after.0 left, list, in_room)) (omega (arith, after.0 left, trees, in_spare)) (omega (arith, after.0 left, bound, whole, before, counted))
   | inr none ↦
       let empty : length new ≡ 0 = omega (arith, none) in
-      let one = emptied empty (sound.places (omega (arith, before, some_swept (among old) (among new) rank dead swept s))) in
+      let one = emptied empty (sound.places some) (⊎_elim (λ has. has) (λ long. absurd (omega (arith, long, none_long new empty))) ready) in
       let is = after.1 empty in
       let no_entry = ap length (none_without tree_entries new empty) in
       elim (cases_lt 0 promised) [
@@ -243,6 +248,12 @@ sound_swept old new aside aside' count count' promised promised' rank dead swept
     whole : swept.removed + length (among new) ≡ length (among old)
     whole = fewer_swept (among old) (among new) rank dead swept s
 
+    some : 0 < count
+    some = omega (arith, before, some_swept (among old) (among new) rank dead swept s)
+
+    ready : aside'.HasReserve ⊎ (0 < long_among new)
+    ready = ⊎_elim (λ has. inl (reserve has)) (λ long. ⊎_elim (λ has. inl has) (λ kept. inr (omega (arith, long, kept))) (returned (sound.places some))) (sound.ready some)
+
     of_promised : (p : ℕ) → (p ≡ promised) ⊎ ((p ≡ 1) × aside'.HasLeft 1) → p ≤ aside'.places → p ≤ aside'.trees → count' + p < 2 ^ 64
         → IsSoundIndex new aside' count' p
     of_promised p which fits enough countable = record {
@@ -252,7 +263,8 @@ sound_swept old new aside aside' count count' promised promised' rank dead swept
       in_list = fits;
       in_trees = enough;
       below = ⊎_elim (λ is. subst aside'.HasLeft (sym is) (kept promised sound.below)) (λ one. subst aside'.HasLeft (sym one.0) one.1) which;
-      places = λ some. places (sound.places (omega (arith, before, some_swept (among old) (among new) rank dead swept s)));
+      places = λ left. places (sound.places some);
+      ready = λ left. ready;
       countable = countable;
     }
 

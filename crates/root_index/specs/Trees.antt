@@ -1,30 +1,42 @@
 -- How an index keeps its entries.
-use Rattle.std.specs.Prelude.{◌≡◌, ◌<◌, ◌≤◌, ◌+◌, ◌^◌, ℕ, suc, List, length, sum_by, vec_len, vec_capacity}
+use Rattle.std.specs.Prelude.{◌≡◌, ◌<◌, ◌≤◌, ◌+◌, ◌^◌, ◌⊎◌, ℕ, suc, List, length, sum_by, vec_len, vec_capacity}
 use Rattle.xid_circle.specs.Numbers.{Count}
 use Rattle.index_entries.specs.declared.entry.Entry.{Entry}
 use Rattle.index_entries.specs.Order.{IsAscending}
+use Rattle.entry_columns.specs.Columns.{ColumnsView}
+use Rattle.index_leaves.specs.Lists.{halves_more, long_leaves, ListsView, HaveListPlaces}
 use Rattle.index_nodes.specs.declared.nodes.Spares.{Spares}
 use Rattle.index_nodes.specs.Nodes.{all, AreNeat, AreLeft, HavePlaces}
 
--- A tree as contracts see it: its branches, each the list of its leaves, and these the lists of their entries.
+-- A tree as contracts see it: its branches, each the list of its leaves.
+
+abbrev pub Branch : Type 0
+Branch = List ColumnsView
 
 abbrev pub Tree : Type 0
-Tree = List (List (List Entry))
+Tree = List Branch
+
+abbrev pub branch_entries : Branch → List Entry
+branch_entries branch = all (λ (leaf : ColumnsView). leaf.entries) branch
 
 abbrev pub tree_entries : Tree → List Entry
-tree_entries tree = all (λ (branch : List (List Entry)). all (λ (leaf : List Entry). leaf) branch) tree
+tree_entries tree = all branch_entries tree
 
 -- the entries of the trees, one tree after another
 abbrev pub among : List Tree → List Entry
 among trees = all tree_entries trees
 
--- the number of nodes that they are made of
+-- the number of nodes that they are made of, where a leaf with places for 128 entries counts twice
 abbrev pub nodes_of : List Tree → ℕ
-nodes_of trees = sum_by (λ (tree : Tree). suc (sum_by (λ (branch : List (List Entry)). suc (sum_by (λ (leaf : List Entry). 1) branch)) tree)) trees
+nodes_of trees = sum_by (λ (tree : Tree). suc (sum_by (λ (branch : Branch). suc (sum_by (λ (leaf : ColumnsView). 1 + halves_more leaf.room) branch)) tree)) trees
+
+-- the number of leaves with places for 128 entries that have 64 or more
+abbrev pub long_among : List Tree → ℕ
+long_among trees = sum_by (λ (tree : Tree). sum_by (λ (branch : Branch). sum_by long_leaves branch) tree) trees
 
 -- no leaf of the branch is empty
-abbrev pub IsNeatBranch : List (List Entry) → Type 0
-IsNeatBranch branch = AreNeat (λ (leaf : List Entry). Unit {0}) (λ leaf. length leaf) branch
+abbrev pub IsNeatBranch : Branch → Type 0
+IsNeatBranch branch = AreNeat (λ (leaf : ColumnsView). Unit {0}) (λ leaf. length leaf.entries) branch
 
 -- nor a branch of the tree
 abbrev pub IsNeatTree : Tree → Type 0
@@ -33,14 +45,14 @@ IsNeatTree tree = AreNeat IsNeatBranch (λ branch. length branch) tree
 -- What is set aside below the trees.
 
 abbrev pub SpareLeaves : Type 0
-SpareLeaves = Spares (List Entry) (Unit {0})
+SpareLeaves = Spares ColumnsView ListsView
 
 abbrev pub SpareBranches : Type 0
-SpareBranches = Spares (List (List Entry)) SpareLeaves
+SpareBranches = Spares Branch SpareLeaves
 
--- the spare leaves are enough for so many inserts
+-- the spare leaves are enough for so many inserts, and the lists for those that outgrow theirs
 abbrev pub AreLeavesLeft : SpareLeaves → Count → Type 0
-AreLeavesLeft leaves k = AreLeft (λ none k. Unit {0}) (vec_len leaves.nodes) leaves.below k
+AreLeavesLeft leaves k = AreLeft (λ (lists : ListsView) k. k ≤ lists.large) (vec_len leaves.nodes) leaves.below k
 
 -- and the spare branches too
 abbrev pub AreBranchesLeft : SpareBranches → Count → Type 0
@@ -48,11 +60,15 @@ AreBranchesLeft branches k = AreLeft AreLeavesLeft (vec_len branches.nodes) bran
 
 -- a leaf that is emptied has a place
 abbrev pub HaveLeafPlaces : SpareLeaves → Type 0
-HaveLeafPlaces leaves = HavePlaces (λ none. Unit {0}) (vec_capacity leaves.nodes) leaves.below
+HaveLeafPlaces leaves = HavePlaces HaveListPlaces (vec_capacity leaves.nodes) leaves.below
 
 -- and a branch too
 abbrev pub HaveBranchPlaces : SpareBranches → Type 0
 HaveBranchPlaces branches = HavePlaces HaveLeafPlaces (vec_capacity branches.nodes) branches.below
+
+-- a leaf that outgrows its list gets a larger one without memory
+abbrev pub HaveReserve : SpareBranches → Type 0
+HaveReserve branches = 0 < branches.below.below.large
 
 -- what is set aside for inserts to come, and for nodes that are emptied
 pub record SetAside : Type 1 where
@@ -64,6 +80,8 @@ pub record SetAside : Type 1 where
   pub HasLeft : Count → Type 0
   -- each kind of node that is emptied has a place
   pub HasPlaces : Type 0
+  -- a leaf that outgrows its list gets a larger one
+  pub HasReserve : Type 0
 
 -- the trees, what is set aside beside them, the count of entries, and how many more may come without memory
 pub record IsSoundIndex (trees : List Tree) (aside : SetAside) (count promised : Count) : Type 0 where
@@ -78,4 +96,6 @@ pub record IsSoundIndex (trees : List Tree) (aside : SetAside) (count promised :
   pub below : aside.HasLeft promised
   -- once there is an entry, a sweep may empty the nodes that it stands in
   pub places : 0 < count → aside.HasPlaces
+  -- so the next leaf that outgrows its list asks for no memory, or another has half of all that fit into a leaf
+  pub ready : 0 < count → aside.HasReserve ⊎ (0 < long_among trees)
   pub countable : count + promised < 2 ^ 64

@@ -9,7 +9,7 @@ pub record IndexView : Type 0 where
   pub entries : List Entry
   -- for so many inserts nodes are set aside, whatever they split
   pub spare : ℕ
-  -- in so many nodes they stand
+  -- in so many nodes they stand, where a leaf with places for 128 entries counts twice
   pub nodes : ℕ
   -- whether the value of each entry is its key
   pub is_by_key : Bool

@@ -14,7 +14,7 @@ use crate::progress::Progress;
 use dead_places::DeadSet;
 use entry_columns::{Label, fits};
 use index_entries::{Entry, Node, Swept};
-use index_leaves::Leaf;
+use index_leaves::{Leaf, SpareLists};
 use index_nodes::Branch;
 use index_nodes::nodes::{self, Spares, TreePosition};
 use std::alloc::{AllocError, Global};
@@ -49,7 +49,7 @@ pub(crate) struct Index<L: Label> {
     /// its upper half, and the parts of the node above it or of this list.
     trees: Vec<Tree<L>>,
     /// Nodes for splits to come.
-    spares: Spares<Tree<L>, Spares<Branch<Leaf<L>>, Spares<Leaf<L>, ()>>>,
+    spares: Spares<Tree<L>, Spares<Branch<Leaf<L>>, Spares<Leaf<L>, SpareLists<L>>>>,
     /// The number of entries.
     count: u64,
     /// So many more entries take no memory.
@@ -62,7 +62,7 @@ impl<L: Label> Model for Index<L> {
     ghost use Rattle.std.specs.Prelude.{◌-◌, vec_len, vec_capacity};
     ghost use Rattle.root_index.specs.View.{IndexView};
     ghost use Rattle.index_nodes.specs.Nodes.{HavePlaces};
-    ghost use Rattle.root_index.specs.Trees.{among, nodes_of, AreBranchesLeft, HaveBranchPlaces, IsSoundIndex};
+    ghost use Rattle.root_index.specs.Trees.{among, nodes_of, AreBranchesLeft, HaveBranchPlaces, HaveReserve, IsSoundIndex};
 
     ghost Value = { IndexView };
 
@@ -78,6 +78,7 @@ impl<L: Label> Model for Index<L> {
       trees = vec_len x.spares.nodes;
       HasLeft = AreBranchesLeft x.spares.below;
       HasPlaces = HavePlaces HaveBranchPlaces (vec_capacity x.spares.nodes) x.spares.below;
+      HasReserve = HaveReserve x.spares.below;
     }) x.count x.promised };
 }
 
@@ -134,8 +135,8 @@ impl<L: Label> Index<L> {
         self.set_aside(count)
     }
 
-    /// Sets nodes aside for `count` more entries. Each may split a node of each kind, so these are as many leaves, of 1.5 or 2.5 KiB, and
-    /// as many branches of them, of 16 KiB, and trees, of 3.
+    /// Sets nodes aside for `count` more entries. Each may split a node of each kind, so these are as many leaves, of 0.75 or 1.25 KiB, and
+    /// as many branches of them, of 16 KiB, and trees, of 3. Or it takes a leaf that outgrows its list a larger one, of 1.5 or 2.5 KiB.
     fn set_aside(&mut self, count: usize) -> Result<(), AllocError>
         ensures room { OnOk result (count ≤ self.new.spare) }
         ensures refused { OnErr result (self.old.spare < count) }

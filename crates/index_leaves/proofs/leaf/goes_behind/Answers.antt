@@ -6,5 +6,5 @@ use Rattle.index_leaves.proofs.leaf.goes_behind.Goals as goal
 
 pub returns-in-Some : goal.returns-in-Some
 returns-in-Some g c = λ yes.
-    behind_one c.args.entries.now c.args.sought.now c.in-Some.before c.args.place c.requires (omega (arith, c.if-place-eq0.false)) (sym c.get.ensures ∙ c.in-Some.is)
+    behind_one c.args.entries.now.entries c.args.sought.now c.in-Some.before c.args.place c.requires (omega (arith, c.if-place-eq0.false)) (sym c.get.ensures ∙ c.in-Some.is)
     (less_from_test (comparison c.in-Some.before c.args.sought.now) (sym c.is_before.ensures ∙ yes))

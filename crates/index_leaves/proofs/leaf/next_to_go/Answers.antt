@@ -7,6 +7,6 @@ use Rattle.index_leaves.proofs.leaf.next_to_go.Goals as goal
 
 pub returns-then-is_empty-clause-kept : goal.returns-then-is_empty-clause-kept
 returns-then-is_empty-clause-kept g c =
-    subst (λ n. take n c.args.entries.now ++ filter (stays c.args.dead.now) (drop n c.args.entries.now)
-    ≡ take c.args.from c.args.entries.now ++ filter (stays c.args.dead.now) (drop c.args.from c.args.entries.now)) (sym c.len.ensures.value)
-    (none_dead c.args.dead.now c.args.entries.now c.args.from (grind (arith, nat_tests, c.if-is_empty.true, c.is_empty.ensures)))
+    subst (λ n. take n c.args.entries.now.entries ++ filter (stays c.args.dead.now) (drop n c.args.entries.now.entries)
+    ≡ take c.args.from c.args.entries.now.entries ++ filter (stays c.args.dead.now) (drop c.args.from c.args.entries.now.entries)) (sym c.len.ensures.value)
+    (none_dead c.args.dead.now c.args.entries.now.entries c.args.from (grind (arith, nat_tests, c.if-is_empty.true, c.is_empty.ensures)))

@@ -6,7 +6,7 @@ use Rattle.index_leaves.proofs.leaf.search.Goals.{then-is_before, else-is_before
 
 pub loop-low-preserved : goal.loop-low-preserved
 loop-low-preserved g c =
-    let xs = c.args.entries.now in
+    let xs = c.args.entries.now.entries in
     let x = c.args.sought.now in
     let kept = c.loop-low.invariant in
     let from_low = kept.from_low c.loop-low-test.true in
@@ -30,5 +30,5 @@ loop-low-preserved g c =
 
 pub returns-else-is_at-clause-absent : goal.returns-else-is_at-clause-absent
 returns-else-is_at-clause-absent g c =
-    gap-from_bracket c.args.entries.now c.args.sought.now c.loop-low.low c.loop-low.high c.requires c.loop-low.invariant.bracket c.loop-low-test.false
+    gap-from_bracket c.args.entries.now.entries c.args.sought.now c.loop-low.low c.loop-low.high c.requires c.loop-low.invariant.bracket c.loop-low-test.false
     (λ there. absurd (let yes = c.is_at.ensures.1 there in let no = c.if-is_at.false in cc))

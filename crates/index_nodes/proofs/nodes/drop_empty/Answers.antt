@@ -1,6 +1,7 @@
-use Rattle.std.proofs.Common.{◌∙◌, ap, sym, subst, arith}
+use Rattle.std.proofs.Common.{◌∙◌, length, sum_by, ap, sym, subst, arith}
 use Rattle.index_nodes.specs.Nodes.{all, AreNeat}
 use Rattle.index_nodes.proofs.RowLemmas.{item}
+use Rattle.index_nodes.proofs.NodeLemmas.{count_removed}
 use Rattle.index_nodes.proofs.SweepLemmas.{none_removed, neat_removed, neat_filled}
 use Rattle.index_nodes.proofs.nodes.drop_empty.Goals as goal
 
@@ -21,3 +22,10 @@ returns-else-len-eq0-clause-neat g c =
     let nodes = c.args.nodes.now.items in
     let at = item nodes c.args.number c.index.result.now c.requires.in_range c.index.ensures in
     neat_filled g.N.Node.IsNeat g.N.Node.size nodes c.args.number c.requires.in_range c.requires.neat c.index.result.now at (omega (arith, c.len.ensures.value, c.if-len-eq0.false))
+
+pub returns-then-len-eq0-clause-long : goal.returns-then-len-eq0-clause-long
+returns-then-len-eq0-clause-long g c =
+    let nodes = c.args.nodes.now.items in
+    let empty = ap length (g.met.N.Node.none c.index.result.now (omega (arith, c.len.ensures.value, c.if-len-eq0.true))) in
+    ap (sum_by g.N.Node.long) c.remove-empty.ensures.items
+    ∙ count_removed g.N.Node.long nodes c.args.number c.index.result.now c.requires.in_range c.index.ensures (omega (arith, empty, g.met.N.Node.halves c.index.result.now))

@@ -1,4 +1,4 @@
-use Rattle.std.proofs.Common.{◌≡◌, ◌<◌, ◌≤◌, inr, length, vec_len, subst, arith, rules}
+use Rattle.std.proofs.Common.{◌≡◌, ◌<◌, ◌≤◌, ◌+◌, ◌*◌, ◌⊎◌, inl, inr, length, sum_by, vec_len, ⊎_elim, subst, arith, rules}
 use Rattle.std.proofs.lemmas.Bool.Decides.{nat_tests}
 use Rattle.std.proofs.lemmas.List.{nil_from_length}
 use Rattle.std.proofs.lemmas.Grind.{common_steps}
@@ -81,9 +81,36 @@ returns-clause-full g c =
     let new = c.open.new.nodes.items in
     let opened = c.in_ok-position.ensures.opened in
     let at = opened_at (λ n. (g.N.Node.size n < 128) × g.N.Node.IsPosition n c.in_ok-position.position.inner) new c.in_ok-position.position.node c.index_mut.result.now opened.room c.index_mut.ensures.value in
+    let Reserve : Type 0 = g.N.Node.HasReserve c.args.spares.now.below in
+    let k = sum_by g.N.Node.long c.args.nodes.now.items in
     on_err_weaker c.insert.result
-    (λ full. inr (subst (λ es. 128 ≤ length es) opened.same (full_below g.N.Node.entries g.N.Node.IsNeat g.N.Node.size new c.in_ok-position.position.node c.index_mut.result.now c.open.ensures.neat at full)))
+    (λ full. inr (subst (λ es. (128 ≤ length es) ⊎ ((¬ Reserve) × (64 * (k + 1) ≤ length es))) opened.same
+    (full_below g.N.Node.entries g.N.Node.IsNeat g.N.Node.size new c.in_ok-position.position.node c.index_mut.result.now c.open.ensures.neat at Reserve g.N.Node.long k g.met.N.Node.halves c.open.ensures.long full)))
     c.insert.ensures.full
+
+-- long leaves, and what is set aside for the next
+
+pub returns-then-is_empty-clause-reserve : goal.returns-then-is_empty-clause-reserve
+returns-then-is_empty-clause-reserve g c = on_ok_weaker c.insert_first.result (λ both has. inl both.1) c.insert_first.ensures.first
+
+pub returns-clause-long : goal.returns-clause-long
+returns-clause-long g c =
+    let new = c.open.new.nodes.items in
+    let at = opened_at (λ n. (g.N.Node.size n < 128) × g.N.Node.IsPosition n c.in_ok-position.position.inner) new c.in_ok-position.position.node c.index_mut.result.now c.in_ok-position.ensures.opened.room c.index_mut.ensures.value in
+    let within = slice_get_within new c.in_ok-position.position.node c.index_mut.result.now at in
+    let put = count_put g.N.Node.long new c.in_ok-position.position.node c.index_mut.result.now within c.index_mut.ensures.value c.insert.new.self in
+    omega (arith, put, c.insert.ensures.long, c.open.ensures.long)
+
+pub returns-clause-reserve : goal.returns-clause-reserve
+returns-clause-reserve g c =
+    let new = c.open.new.nodes.items in
+    let at = opened_at (λ n. (g.N.Node.size n < 128) × g.N.Node.IsPosition n c.in_ok-position.position.inner) new c.in_ok-position.position.node c.index_mut.result.now c.in_ok-position.ensures.opened.room c.index_mut.ensures.value in
+    let within = slice_get_within new c.in_ok-position.position.node c.index_mut.result.now at in
+    let put = count_put g.N.Node.long new c.in_ok-position.position.node c.index_mut.result.now within c.index_mut.ensures.value c.insert.new.self in
+    let opened = c.open.ensures.long in
+    on_ok_weaker c.insert.result
+    (λ kept has. ⊎_elim (λ still. inl still) (λ more. inr (omega (arith, put, opened, more))) (kept has))
+    c.insert.ensures.reserve
 
 -- nodes that were set aside are taken only where there are more nodes then
 

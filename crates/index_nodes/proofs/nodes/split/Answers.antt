@@ -2,7 +2,7 @@ use Rattle.std.proofs.Common.{◌∙◌, ◌<◌, ◌+◌, sym, subst}
 use Rattle.index_nodes.specs.Nodes.{AreNeat, IsOpened}
 use Rattle.index_nodes.proofs.RowLemmas.{item}
 use Rattle.index_nodes.proofs.RowGrowthLemmas.{split_to_is, all_split, opened_low, opened_high}
-use Rattle.index_nodes.proofs.NodeLemmas.{count_split}
+use Rattle.index_nodes.proofs.NodeLemmas.{count_split, count_kept}
 use Rattle.index_nodes.proofs.nodes.split.Goals as goal
 
 pub returns-in-Lower-clause-opened : goal.returns-in-Lower-clause-opened
@@ -52,3 +52,13 @@ pub returns-in-Upper-clause-nodes : goal.returns-in-Upper-clause-nodes
 returns-in-Upper-clause-nodes g c =
     count_split g.N.Node.nodes c.args.nodes.now.items c.args.position.node c.index_mut.result.now c.requires.node c.index_mut.ensures.value c.put_node.new.nodes.items c.split-half.new.self
     c.split-half.new.upper c.put_node.ensures.items c.split-half.ensures.nodes
+
+pub returns-in-Lower-clause-long : goal.returns-in-Lower-clause-long
+returns-in-Lower-clause-long g c =
+    count_kept g.N.Node.long c.args.nodes.now.items c.args.position.node c.index_mut.result.now c.requires.node c.index_mut.ensures.value c.put_node.new.nodes.items c.split-half.new.self
+    c.split-half.new.upper c.put_node.ensures.items c.split-half.ensures.long
+
+pub returns-in-Upper-clause-long : goal.returns-in-Upper-clause-long
+returns-in-Upper-clause-long g c =
+    count_kept g.N.Node.long c.args.nodes.now.items c.args.position.node c.index_mut.result.now c.requires.node c.index_mut.ensures.value c.put_node.new.nodes.items c.split-half.new.self
+    c.split-half.new.upper c.put_node.ensures.items c.split-half.ensures.long

@@ -5,4 +5,4 @@ use Rattle.entry_columns.proofs.columns.EntryColumns.next_dead.Given as goal
 
 -- the entries so far stay
 abbrev pub invariant-loop-place : goal.invariant-loop-place
-invariant-loop-place g l = take l.place l.self ++ filter (stays l.dead) (drop l.place l.self) ≡ take l.from l.self ++ filter (stays l.dead) (drop l.from l.self)
+invariant-loop-place g l = take l.place l.self.entries ++ filter (stays l.dead) (drop l.place l.self.entries) ≡ take l.from l.self.entries ++ filter (stays l.dead) (drop l.from l.self.entries)

@@ -43,3 +43,10 @@ returns-clause-nodes g c =
     let all = ap (sum_by g.N.Node.nodes) is in
     let both = sum_by-append g.N.Node.nodes c.move_half.new.lower.items c.move_half.new.upper.items in
     omega (arith, all, both)
+
+pub returns-clause-long : goal.returns-clause-long
+returns-clause-long g c =
+    let is : c.move_half.new.lower.items ++ c.move_half.new.upper.items ≡ c.args.self.now = c.move_half.ensures.nodes ∙ c.self.view_is in
+    let all = ap (sum_by g.N.Node.long) is in
+    let both = sum_by-append g.N.Node.long c.move_half.new.lower.items c.move_half.new.upper.items in
+    omega (arith, all, both)

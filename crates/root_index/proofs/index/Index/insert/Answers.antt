@@ -5,7 +5,7 @@ use Rattle.index_entries.specs.Sets.{AddsEntry}
 use Rattle.index_entries.proofs.SetLemmas.{adds-there, absent_in_gap, on_err}
 use Rattle.root_index.specs.Trees.{among, nodes_of}
 use Rattle.root_index.proofs.SoundLemmas.{ascending_there, found_there, gap_there, adds_in_gap, sound_inserted, sound_unspent, none_promised, none_countable}
-use Rattle.root_index.proofs.FullLemmas.{full_among, no_room, room_less, places_after}
+use Rattle.root_index.proofs.FullLemmas.{full_among, no_room, room_less, places_after, ready_after}
 use Rattle.root_index.proofs.index.Index.insert.Goals as goal
 
 pub position_for-requires-clause-ascending : goal.position_for-requires-clause-ascending
@@ -32,25 +32,26 @@ pub returns-in_err-insert-clause-memory : goal.returns-in_err-insert-clause-memo
 returns-in_err-insert-clause-memory g c =
     let trees = c.self.inside.trees.items in
     let gap = gap_there _ _ trees c.deref.result.now c.args.entry c.in-Err.position c.deref.ensures.value c.in-Err.ensures.absent in
-    let none = none_promised _ _ _ _ c.self.invariant (λ k left. (omega (arith, left.0), (omega (arith, left.1.0), tt))) c.in_err-insert.ensures.refused in
+    let none = none_promised _ _ _ _ c.self.invariant (λ k left. (omega (arith, left.0), (omega (arith, left.1.0), omega (arith, left.1.1)))) c.in_err-insert.ensures.refused in
     on_err c.from_residual.result ((room_in c.args.self.now ≡ 0) × (¬ Contains c.args.self.now.entries c.args.entry))
     (subst (λ (v : IndexView). (room_in v ≡ 0) × (¬ Contains v.entries c.args.entry)) c.self.view_is
-    (no_room c.self.inside.promised (length (among trees)) none (full_among trees c.in_err-insert.ensures.full), absent_in_gap (among trees) c.args.entry _ gap))
+    (no_room c.self.inside.promised (length (among trees)) none (full_among trees _ (λ some. c.self.invariant.ready (omega (arith, some, c.self.invariant.counted))) c.in_err-insert.ensures.full), absent_in_gap (among trees) c.args.entry _ gap))
 
 -- it goes to its place
 pub invariant_of-self-2 : goal.invariant_of-self-2
 invariant_of-self-2 g c =
     let gap = gap_there _ _ c.self.inside.trees.items c.deref.result.now c.args.entry c.in-Err.position c.deref.ensures.value c.in-Err.ensures.absent in
     let now = c.in_ok-insert.ensures in
-    let places = places_after c.self.inside.trees.items c.self.inside.count _ _ c.self.invariant.neat c.self.invariant.counted c.self.invariant.places now.places now.first in
+    let places = places_after c.self.inside.trees.items c.self.inside.count _ _ c.self.invariant.neat c.self.invariant.counted c.self.invariant.places now.places (λ none. (now.first none).0) in
+    let ready = ready_after c.self.inside.trees.items c.insert.new.nodes.items c.self.inside.count _ _ c.self.invariant.neat c.self.invariant.counted c.self.invariant.ready now.reserve now.long (λ none. (now.first none).1) in
     elim c.still_promised-self-inside.ensures.fewer [
       | inl fewer ↦
           sound_inserted c.self.inside.trees.items c.insert.new.nodes.items _ _ c.self.inside.count c.self.inside.promised c.self.invariant
-          c.args.entry _ (c.self.inside.count + 1) _ gap now.entries now.neat places now.room now.spare now.below (omega arith, (omega arith, tt)) refl fewer
+          c.args.entry _ (c.self.inside.count + 1) _ gap now.entries now.neat places ready now.room now.spare now.below (omega arith, (omega arith, omega arith)) refl fewer
           (omega (arith, c.self.invariant.countable, c.if-self.false))
       | inr kept ↦
           sound_unspent c.self.inside.trees.items c.insert.new.nodes.items _ _ c.self.inside.count c.self.inside.promised c.self.invariant
-          c.args.entry _ (c.self.inside.count + 1) _ gap now.entries now.neat places refl kept.0.0 kept.0.1 kept.0.2 kept.0.3 kept.1
+          c.args.entry _ (c.self.inside.count + 1) _ gap now.entries now.neat places ready refl kept.0.0 kept.0.1 kept.0.2 kept.0.3 kept.1
     ]
 
 pub returns-clause-adds : goal.returns-clause-adds

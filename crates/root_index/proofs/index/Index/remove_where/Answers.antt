@@ -18,7 +18,8 @@ invariant_of-self g c =
     let some = some_nodes tree_entries c.self.inside.trees.items (some_swept _ _ _ _ _ now.swept) in
     sound_swept c.self.inside.trees.items c.sweep_from.new.nodes.items _ _ c.self.inside.count _ c.self.inside.promised _ _ c.args.dead.now c.in-Some.swept
     c.self.invariant now.swept now.neat (omega (arith, now.shorter, now.capacity)) kept.nodes kept.left (λ places. (omega (arith, kept.list, places.0), kept.places places.1))
-    (λ empty places. let left = c.sweep_from.ensures.emptied some empty places in
+    kept.reserve c.sweep_from.ensures.returned
+    (λ empty places reserve. let left = c.sweep_from.ensures.emptied some empty places reserve in
     (omega (arith, empty, c.sweep_from.ensures.room (omega (arith, empty, some))), left.0, left.1))
     refl (c.promised_after_sweep-self-inside.ensures.left, c.promised_after_sweep-self-inside.ensures.emptied)
 
