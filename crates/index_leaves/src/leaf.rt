@@ -161,6 +161,7 @@ impl<L: Label> Node for Leaf<L> {
         }
     }
 
+    #[inline(always)]
     fn insert(
         &mut self,
         spares: &mut SpareLists<L>,
@@ -248,8 +249,7 @@ impl<L: Label> Node for Leaf<L> {
     ghost fewer = { λ spares k enough. omega (arith, enough) };
 }
 
-/// Sees to a place for one more entry. The first of all takes none that is not there, but has a large list kept ready for the leaf that
-/// first outgrows its own.
+/// Sees to a place for one more entry. With the first of all a large list is set aside, for the leaf that outgrows its own next.
 #[inline(never)]
 fn make_place<L: Label>(
     entries: &mut EntryColumns<L>,
