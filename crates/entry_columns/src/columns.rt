@@ -198,6 +198,7 @@ pub fn fits<L: Label>(entry: &Entry) -> bool
 }
 
 /// Puts an item before those from this place on. There is room for it in memory.
+#[inline(always)]
 fn put<T: Copy>(items: &mut Vec<T>, place: usize, item: T)
     requires in_range { place ≤ vec_len items.old }
     requires room { vec_len items.old < vec_capacity items.old }

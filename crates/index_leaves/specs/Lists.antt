@@ -1,5 +1,5 @@
 -- Lists of entries with places for 64 or for 128.
-use Rattle.std.specs.Prelude.{◌≡◌, ◌<◌, ◌≤◌, ◌+◌, ◌-◌, min, ℕ, length}
+use Rattle.std.specs.Prelude.{◌<◌, ◌≤◌, ◌+◌, ◌-◌, min, ℕ, length}
 use Rattle.xid_circle.specs.Numbers.{Count}
 use Rattle.index_entries.specs.declared.node.TheConstants.{MOST_PARTS, HALF}
 use Rattle.entry_columns.specs.Columns.{ColumnsView}

@@ -161,6 +161,7 @@ impl<L: Label> Node for Leaf<L> {
         }
     }
 
+    #[inline(always)]
     fn insert(
         &mut self,
         spares: &mut SpareLists<L>,
@@ -248,8 +249,7 @@ impl<L: Label> Node for Leaf<L> {
     ghost fewer = { λ spares k enough. omega (arith, enough) };
 }
 
-/// Sees to a place for one more entry. The first of all takes none that is not there, but has a large list kept ready for the leaf that
-/// first outgrows its own.
+/// Sees to a place for one more entry. With the first of all a large list is set aside, for the leaf that outgrows its own next.
 #[inline(never)]
 fn make_place<L: Label>(
     entries: &mut EntryColumns<L>,
@@ -407,7 +407,8 @@ fn there<L: Label>(entries: &EntryColumns<L>, last: &Entry, place: usize) -> Ent
 #[inline(always)]
 fn look_at<L: Label>(entries: &EntryColumns<L>, place: usize) -> Option<(Entry, bool)>
     ensures entry { option_map (λ found. found.0) result ≡ slice_get entries.now.entries place }
-    ensures end { IfSome result (λ found. IsTrue found.1 → IsEndAt entries.now.entries found.0 place) }
+    ensures end { IfSome result
+        (λ found. IsTrue found.1 → IsEndAt entries.now.entries found.0 place) }
 {
     match entries.get(place) {
         Some(entry) => Some((entry, is_end(entries, entry, place))),
@@ -512,8 +513,10 @@ fn next_to_go<L: Label>(entries: &EntryColumns<L>, from: usize, dead: &[Tid]) ->
     requires in_range { from ≤ length entries.now.entries }
     requires ascending { AreAscending dead.now }
     ensures in_range { result ≤ length entries.now.entries }
-    ensures kept { take result entries.now.entries ++ filter (stays dead.now) (drop result entries.now.entries)
-        ≡ take from entries.now.entries ++ filter (stays dead.now) (drop from entries.now.entries) }
+    ensures kept { take result entries.now.entries
+        ++ filter (stays dead.now) (drop result entries.now.entries)
+        ≡ take from entries.now.entries
+        ++ filter (stays dead.now) (drop from entries.now.entries) }
 {
     // the entries of most leaves lead to other pages
     if dead.is_empty() {

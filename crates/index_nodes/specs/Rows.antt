@@ -5,6 +5,7 @@ use Rattle.std.proofs.lemmas.List.Sums.{sum_by-cons}
 use Rattle.std.proofs.lemmas.List.Elements.{All-tail}
 use Rattle.std.proofs.lemmas.Option.{slice_get_within}
 use Rattle.index_entries.specs.declared.entry.Entry.{Entry}
+use Rattle.index_entries.specs.declared.node.TheConstants.{HALF}
 use Rattle.index_nodes.specs.declared.nodes.TreePosition.{TreePosition}
 use Rattle.index_entries.specs.Lists.{concatenated}
 use Rattle.index_nodes.specs.Nodes.{all, AreNeat, inner_rank, rank_in, IsPositionIn, IsEntryIn}
@@ -32,8 +33,8 @@ many_with entries IsNeat size some (n ∷ nodes) neat =
     let whole = length-append (entries n) (all entries nodes) in
     omega arith
 
-pub halves_with : {N : Type 0} (entries : N → List Entry) (long : N → ℕ) (halves : (n : N) → 64 * long n ≤ length (entries n)) (nodes : List N)
-    → 64 * sum_by long nodes ≤ length (all entries nodes)
+pub halves_with : {N : Type 0} (entries : N → List Entry) (long : N → ℕ) (halves : (n : N) → HALF * long n ≤ length (entries n)) (nodes : List N)
+    → HALF * sum_by long nodes ≤ length (all entries nodes)
 halves_with entries long halves [] = omega arith
 halves_with entries long halves (n ∷ nodes) =
     let first = halves n in

@@ -10,13 +10,13 @@ use Rattle.index_nodes.specs.Nodes.{all, AreNeat, AreLeft, HavePlaces}
 
 -- A tree as contracts see it: its branches, each the list of its leaves.
 
-abbrev pub Branch : Type 0
-Branch = List ColumnsView
+abbrev pub BranchView : Type 0
+BranchView = List ColumnsView
 
 abbrev pub Tree : Type 0
-Tree = List Branch
+Tree = List BranchView
 
-abbrev pub branch_entries : Branch → List Entry
+abbrev pub branch_entries : BranchView → List Entry
 branch_entries branch = all (λ (leaf : ColumnsView). leaf.entries) branch
 
 abbrev pub tree_entries : Tree → List Entry
@@ -28,14 +28,14 @@ among trees = all tree_entries trees
 
 -- the number of nodes that they are made of, where a leaf with places for 128 entries counts twice
 abbrev pub nodes_of : List Tree → ℕ
-nodes_of trees = sum_by (λ (tree : Tree). suc (sum_by (λ (branch : Branch). suc (sum_by (λ (leaf : ColumnsView). 1 + halves_more leaf.room) branch)) tree)) trees
+nodes_of trees = sum_by (λ (tree : Tree). suc (sum_by (λ (branch : BranchView). suc (sum_by (λ (leaf : ColumnsView). 1 + halves_more leaf.room) branch)) tree)) trees
 
 -- the number of leaves with places for 128 entries that have 64 or more
 abbrev pub long_among : List Tree → ℕ
-long_among trees = sum_by (λ (tree : Tree). sum_by (λ (branch : Branch). sum_by long_leaves branch) tree) trees
+long_among trees = sum_by (λ (tree : Tree). sum_by (λ (branch : BranchView). sum_by long_leaves branch) tree) trees
 
 -- no leaf of the branch is empty
-abbrev pub IsNeatBranch : Branch → Type 0
+abbrev pub IsNeatBranch : BranchView → Type 0
 IsNeatBranch branch = AreNeat (λ (leaf : ColumnsView). Unit {0}) (λ leaf. length leaf.entries) branch
 
 -- nor a branch of the tree
@@ -48,7 +48,7 @@ abbrev pub SpareLeaves : Type 0
 SpareLeaves = Spares ColumnsView ListsView
 
 abbrev pub SpareBranches : Type 0
-SpareBranches = Spares Branch SpareLeaves
+SpareBranches = Spares BranchView SpareLeaves
 
 -- the spare leaves are enough for so many inserts, and the lists for those that outgrow theirs
 abbrev pub AreLeavesLeft : SpareLeaves → Count → Type 0

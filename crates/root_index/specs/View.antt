@@ -14,8 +14,8 @@ pub record IndexView : Type 0 where
   -- whether the value of each entry is its key
   pub is_by_key : Bool
 
--- Where there are fewer than 128 entries no node is full: all have places for as many as are lacking. Without any entry that is
--- so if nodes are set aside, for these are taken first.
+-- Where there are fewer than 128 entries no node is full, and the one leaf that may lack places gets those that are kept ready. Without any
+-- entry that is so if nodes are set aside, for these are taken first.
 abbrev pub free_places : (entries spare : Count) → Count
 free_places zero zero = 0
 free_places zero (suc spare) = MOST_PARTS

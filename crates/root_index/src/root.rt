@@ -110,7 +110,8 @@ impl RootIndex {
 
     /// Adds an entry that fits. One that is there already stays there once. Memory is refused only where the entry is not there, no room
     /// was made for it, and there was never an entry or there are 128 or more, so that a node may be full; or where the entries could
-    /// not be counted any more. They stay as they were then. The room that was made for others is kept where no node is split.
+    /// not be counted any more. They stay as they were then. The room that was made for others is kept where no node is split, and no leaf
+    /// outgrows its places.
     pub fn insert(&mut self, entry: Entry) -> Result<(), AllocError>
         requires { Fits self.old.is_by_key entry }
         ensures adds { OnOk result (AddsEntry self.old.entries self.new.entries entry) }

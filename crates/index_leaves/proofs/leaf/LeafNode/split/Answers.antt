@@ -1,4 +1,4 @@
-use Rattle.std.proofs.Common.{◌∙◌, ◌++◌, ap, take, arith, List}
+use Rattle.std.proofs.Common.{◌∙◌, ◌++◌, ap, take, List}
 use Rattle.std.proofs.lemmas.List.{take-append-drop}
 use Rattle.index_entries.specs.declared.entry.Entry.{Entry}
 use Rattle.entry_columns.specs.Columns.{ColumnsView}
