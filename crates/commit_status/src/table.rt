@@ -163,9 +163,9 @@ impl StatusTable {
         if distance(self.first, self.next) >= self.stop_age {
             return Err(GiveFault::NeedsFreeze);
         }
-        if let Err(_) = self.entries.reserve(1) {
+        let Ok(()) = self.entries.reserve(1) else {
             return Err(GiveFault::NoMemory);
-        }
+        };
         self.entries.push(parent);
         let given = self.next;
         self.next = next(given);

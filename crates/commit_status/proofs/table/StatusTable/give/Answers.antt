@@ -10,10 +10,10 @@ use Rattle.commit_status.proofs.table.StatusTable.give.Goals as goal
 pub invariant_of-self : goal.invariant_of-self
 invariant_of-self c = table-kept _ _ _ _ _ _ _ c.reserve.ensures.items c.self.invariant
 
-pub returns-in-Err-clause-refused : goal.returns-in-Err-clause-refused
-returns-in-Err-clause-refused c =
-    let none = c.in-Err.ensures.refused in
-    let left = c.in-Err.ensures.lacking in
+pub returns-in_default-clause-refused : goal.returns-in_default-clause-refused
+returns-in_default-clause-refused c =
+    let none = c.in_default.ensures.refused in
+    let left = c.in_default.ensures.lacking in
     window-same _ _ _ _ _ _ c.reserve.ensures.items (omega arith) ∙ c.self.view_is
 
 pub push-requires-clause-few : goal.push-requires-clause-few
