@@ -148,9 +148,6 @@ there-lt (c ∷ cs) (suc i) a at = let l = there-lt cs i a at in omega arith
 
 -- Children that are in order stay so.
 
-pub none-kept : AreChildren [] 0
-none-kept = record { in_order = λ i j a b l at bt. absurd (cc); within = λ i a at. absurd (cc) }
-
 pub more-kept : (cs : List Child) (count more : ℕ) → count ≤ more → AreChildren cs count → AreChildren cs more
 more-kept cs count more le are = record {
   in_order = are.in_order;

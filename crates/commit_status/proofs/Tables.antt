@@ -174,10 +174,3 @@ under-given v w None r same e h q at = absurd (cc)
 under-given v w (Some x) r same e h q at =
     let is : x.0 ≡ q = (let s : Some x.0 ≡ Some q = sym e ∙ at in cc) in
     some-from_is (place v q) (subst (λ u. IsSome (place u q)) (sym same) (subst (λ y. IsSome (place w y)) is h))
-
--- and is an id
-pub parent-is_normal : (w : Window) (o : Option Xid) → IfSome o (λ p. IsGiven w p.0) → IfSome o (λ p. IsNormal p.0)
-parent-is_normal w None h = h
-parent-is_normal w (Some x) h =
-    let found = some-from_is (place w x.0) h in
-    (at-from_place w.first (length w.entries) x.0 found.0 found.1).normal

@@ -172,7 +172,8 @@ impl StatusTable {
         Ok(given)
     }
 
-    /// Makes room, so that the next `n` calls of `give` take no memory. No id changes, also where memory is refused.
+    /// Makes room, so that the next `n` calls of `give` take no memory. No id changes, also where memory is refused. (How ids are kept is
+    /// private to this type.)
     pub fn make_room(&mut self, n: usize) -> Result<(), AllocError>
         ensures room { OnOk result (n ≤ self.new.spare) }
         ensures refused { OnErr result (self.old.spare < n) }

@@ -111,7 +111,8 @@ impl DeadSet {
         part_on(self.tids.as_slice(), pages)
     }
 
-    /// Adds a place. One that is there already stays there once. It takes constant time where the place is above all others.
+    /// Adds a place. One that is there already stays there once. It takes constant time where the place is above all others. (The list is
+    /// private to this type.)
     pub fn insert(&mut self, tid: Tid)
         requires { length self.old < MOST_PLACES }
         ensures adds { AddsPlace self.old self.new tid }

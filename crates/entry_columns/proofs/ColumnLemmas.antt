@@ -122,13 +122,6 @@ room_for n label_room place_room few labels places large = elim (cases_lt n 64) 
 
 -- Both columns are parted.
 
--- what is moved down takes the place of all
-pub moved_down : {X : Type 0} (xs : List X) (place : ℕ) → place ≤ length xs → take (length xs - place) (copy_within xs place (length xs) 0) ≡ drop place xs
-moved_down xs place within =
-    let left = length-drop place xs in
-    ap (take (length xs - place)) (paste_all xs 0 (drop place xs) (length xs - place) (sym left))
-    ∙ take_at (drop place xs) (drop (0 + (length xs - place)) xs) (length xs - place) left
-
 pub entries_with-front : {L : Type 0} (value : L → ℤ) (key : L → ℕ) (ls ls' : List L) (ps ps' : List ShortTid) (xs : List Entry) (n : ℕ) → entries_with value key ls ps ≡ xs → ls' ≡ take n ls → ps' ≡ take n ps
     → entries_with value key ls' ps' ≡ take n xs
 entries_with-front value key ls ls' ps ps' xs n is of_ls of_ps =

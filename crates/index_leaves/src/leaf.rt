@@ -113,6 +113,7 @@ impl<L: Label> Node for Leaf<L> {
         search(&self.entries, sought, guess)
     }
 
+    // (These look at the columns by functions of their own, which are proved without a leaf.)
     #[inline(always)]
     fn stands_at(&self, sought: &Entry, position: usize) -> bool {
         stands_in(&self.entries, &self.last, sought, position)

@@ -80,6 +80,7 @@ impl SessionEngine {
     }
 
     /// Where the entry by key of the next new root is looked for first: a hint, so nothing changes that anybody sees of the engine.
+    /// It is a call of its own, so that this is said of the engine once.
     pub(crate) fn expect_entry(&mut self, near: Option<PositionHint>)
         ensures { self.new ≡ self.old }
     {

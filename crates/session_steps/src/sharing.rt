@@ -25,7 +25,7 @@ impl SessionEngine {
         self.heap.share(number, self.alloc)
     }
 
-    /// The statuses of all ids that are remembered.
+    /// The statuses of all ids that are remembered. It is a call of its own for who asks for nothing else of the table.
     pub fn statuses(&self) -> &StatusTable
         ensures { result.now ≡ self.now.heap.statuses }
     {

@@ -86,7 +86,7 @@ impl OwnIds {
         self.ids.as_slice()
     }
 
-    /// Whether an id is one of them.
+    /// Whether an id is one of them. (The list is private to this type.)
     pub fn contains(&self, x: Xid) -> bool
         ensures { IsTrue result ↔ Contains self.now.ids x.0 }
     {

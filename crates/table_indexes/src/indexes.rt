@@ -200,7 +200,8 @@ impl Indexes {
         self.make_room()
     }
 
-    /// Says that the next entry by key goes right before or right behind this position, as [`RootIndex::expect`] does.
+    /// Says that the next entry by key goes right before or right behind this position, as [`RootIndex::expect`] does. (The
+    /// index by key is private to this type.)
     pub fn expect(&mut self, near: PositionHint)
         ensures { self.new ≡ self.old }
     {

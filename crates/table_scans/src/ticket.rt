@@ -67,7 +67,7 @@ fn rows_in(alloc: Global, page: &Page, numbers: &[u16]) -> Result<Vec<Row>, Allo
 }
 
 /// The rows of the page that the session saw when it took the ticket, in the order of their slots. Memory is refused only where there is
-/// a row.
+/// a row. (What a ticket holds is private to it.)
 pub fn resolve(ticket: &Ticket) -> Result<Vec<Row>, AllocError>
     ensures rows { IfOk result (λ rows. rows.items ≡ ticket_rows ticket.now) }
     ensures refused { OnErr result (ticket_rows ticket.now ≢ []) }
