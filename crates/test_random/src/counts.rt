@@ -283,23 +283,33 @@ impl Counts {
 
     /// The name of a kind that never came, or too seldom, if there is one.
     pub(crate) fn missing(&self) -> Option<&'static str> {
+        match self.first_missing() {
+            Some(place) => Some(NAMES[place]),
+            None => None,
+        }
+    }
+
+    // (The names are a constant, which is made anew wherever it is named.)
+    fn first_missing(&self) -> Option<usize>
+        ensures { IfSome result (λ place. place < 51) }
+    {
         for place in 0..KINDS {
             if self.counts[place] == 0 {
-                return Some(NAMES[place]);
+                return Some(place);
             }
         }
         let passed = self.counts[PASSED];
         if passed < MANY || passed < self.counts[NEAR] {
-            return Some(NAMES[PASSED]);
+            return Some(PASSED);
         }
         if self.counts[CUT] < MANY_CUTS {
-            return Some(NAMES[CUT]);
+            return Some(CUT);
         }
         if self.counts[MADE] < MANY_MADE {
-            return Some(NAMES[MADE]);
+            return Some(MADE);
         }
         if self.counts[DEADLOCK] < MANY_DEADLOCKS {
-            return Some(NAMES[DEADLOCK]);
+            return Some(DEADLOCK);
         }
         None
     }

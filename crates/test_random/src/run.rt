@@ -398,6 +398,27 @@ impl Run {
             Err(difference) => Err(self.failure(None, difference)),
         }
     }
+
+    // (It borrows the run, which would otherwise be given up wherever a step fails.)
+    fn do_all(
+        &mut self,
+        alloc: Global,
+        bodies: &Bodies,
+        counts: &mut Counts,
+    ) -> Result<(), Failure> {
+        self.do_drawn(alloc, bodies, counts)?;
+        self.count_pages(counts);
+        self.end_all(alloc, counts)?;
+        self.clear(alloc, counts)?;
+        if has_early_ids(self.number) {
+            self.write_under_early_id(alloc, counts, &mut Generator::new(self.number))?;
+        }
+        if is_turning(self.number) {
+            self.pass_turn(alloc, counts)?;
+            counts.add_turning(self.passage.is_whole());
+        }
+        self.count_views(counts)
+    }
 }
 
 /// Does the steps of the run, and has each reply judged. At its end the table is vacuumed while no session is open.
@@ -408,16 +429,5 @@ pub(crate) fn do_run(
     counts: &mut Counts,
 ) -> Result<(), Failure> {
     let mut run = Run::new(alloc, number)?;
-    run.do_drawn(alloc, bodies, counts)?;
-    run.count_pages(counts);
-    run.end_all(alloc, counts)?;
-    run.clear(alloc, counts)?;
-    if has_early_ids(number) {
-        run.write_under_early_id(alloc, counts, &mut Generator::new(number))?;
-    }
-    if is_turning(number) {
-        run.pass_turn(alloc, counts)?;
-        counts.add_turning(run.passage.is_whole());
-    }
-    run.count_views(counts)
+    run.do_all(alloc, bodies, counts)
 }
