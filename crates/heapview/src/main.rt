@@ -24,45 +24,58 @@ fn ends(rt: &impl Eprint, ended: Result<(), ShellFault>) -> ExitCode {
     }
 }
 
-// The words that the program knows.
-fn command<'a>(alloc: Global) -> Result<Command<'a>, AllocError> {
-    let run = Command::new(alloc, "run").about("Answers a script of heapsh that may have looks");
-    let journal = Command::new(alloc, "journal").about(
-        "Answers one, and writes each line behind > before its answer",
-    );
-    let talk = Command::new(alloc, "talk").about(
-        "Asks for each line, and says what was expected; help lists the lines",
-    );
-    let draw = Command::new(alloc, "draw")
+// The word draw, and what may stand behind it.
+fn drawing<'a>(alloc: Global) -> Result<Command<'a>, AllocError> {
+    let line = Arg::new(alloc, "line")
+        .long("line")
+        .value_name("N")
+        .help("Draws the table behind line N")
+        .value_parser(clap::value_parser!(u32).range(1..));
+    let page = Arg::new(alloc, "page")
+        .long("page")
+        .value_name("P")
+        .help("Draws page P, and others that are named so")
+        .action(ArgAction::Append)
+        .value_parser(clap::value_parser!(u32));
+    Command::new(alloc, "draw")
         .about("Runs one, and writes a picture of the table as SVG")
-        .arg(
-            Arg::new(alloc, "line")
-                .long("line")
-                .value_name("N")
-                .help("Draws the table behind line N")
-                .value_parser(clap::value_parser!(u32).range(1..)),
-        )?
-        .arg(
-            Arg::new(alloc, "page")
-                .long("page")
-                .value_name("P")
-                .help("Draws page P, and others that are named so")
-                .action(ArgAction::Append)
-                .value_parser(clap::value_parser!(u32)),
-        )?;
-    let story = Command::new(alloc, "story").about(
-        "Runs one, and writes its story as a page of HTML",
-    );
+        .arg(line)?
+        .arg(page)
+}
+
+// A word that stands alone, and what it does.
+fn word<'a>(alloc: Global, name: &'a str, about: &'a str) -> Command<'a> {
+    Command::new(alloc, name).about(about)
+}
+
+// The words that the program knows. (Each is made where it is handed on, so none has to be given up where memory is refused.)
+fn command<'a>(alloc: Global) -> Result<Command<'a>, AllocError> {
     Command::new(alloc, "heapview")
         .version("0.4")
         .about("Runs scripts from standard input over a heap that can be looked into")
         .subcommand_required(true)
         .arg_required_else_help(true)
-        .subcommand(run)?
-        .subcommand(journal)?
-        .subcommand(talk)?
-        .subcommand(draw)?
-        .subcommand(story)
+        .subcommand(word(
+            alloc,
+            "run",
+            "Answers a script of heapsh that may have looks",
+        ))?
+        .subcommand(word(
+            alloc,
+            "journal",
+            "Answers one, and writes each line behind > before its answer",
+        ))?
+        .subcommand(word(
+            alloc,
+            "talk",
+            "Asks for each line, and says what was expected; help lists the lines",
+        ))?
+        .subcommand(drawing(alloc)?)?
+        .subcommand(word(
+            alloc,
+            "story",
+            "Runs one, and writes its story as a page of HTML",
+        ))
 }
 
 // Says what is wrong with the words, with status 1; or help or the version, as asked for.
