@@ -1,5 +1,5 @@
 -- Settings in range have no fault.
-use Rattle.std.proofs.Common.{◌≡◌, ℕ, ◌≤◌, false, None, Some, arith, refl, sym, ◌∙◌}
+use Rattle.std.proofs.Common.{◌≡◌, ℕ, ◌≤◌, false, None, arith, refl, sym, ◌∙◌}
 use Rattle.std.proofs.lemmas.Bool.Decides.{nat_tests}
 use Rattle.std.proofs.lemmas.Option.{none-some}
 use Rattle.calls.specs.declared.settings.Settings.{Settings}

@@ -34,10 +34,10 @@ pub record AreSettings (s : Settings) : Type 0 where
   pub first_xid : (3 ≤ s.first_xid) × (s.first_xid ≤ 4294967295)
   pub dead_limit : (1 ≤ s.dead_limit) × (s.dead_limit ≤ 4096)
 
--- the first setting that is out of its range, if one is
 abbrev pub is_outside : ℕ → ℕ → ℕ → Bool
 is_outside low high n = nat_lt n low || nat_lt high n
 
+-- the first setting that is out of its range, if one is
 abbrev pub fault_in : Settings → Option SettingsFault
 fault_in s =
     if is_outside 1 65536 s.max_pages then Some MaxPages

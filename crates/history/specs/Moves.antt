@@ -1,7 +1,7 @@
 -- To believe, 3 of 5 (docs/reading.md).
 -- What each kind of step makes of the world. The kinds are those of the manual's section on transactions: BEGIN, the
 -- writes, SAVEPOINT, ROLLBACK TO, RELEASE, COMMIT, ROLLBACK, and the calls of a cursor.
-use Rattle.std.specs.Prelude.{ℕ, suc, ◌==◌, not, if◌then◌else◌, List, [], ◌∷◌, ◌++◌, length, Option, Some, None, Bool, true, false, ℤ}
+use Rattle.std.specs.Prelude.{ℕ, suc, ◌==◌, not, if◌then◌else◌, List, [], ◌∷◌, ◌++◌, Option, Some, None, Bool, true, false}
 use Rattle.std.specs.Option.{option_map}
 use Rattle.tuple_header.specs.declared.version.Row.{Row}
 use Rattle.history.specs.History.{Write, Transaction}

@@ -1,7 +1,7 @@
 -- A sound page: what the engine's steps keep, and pruning rests on.
 use Rattle.std.specs.Prelude.{◌≡◌, ◌≢◌, ◌⊎◌, ◌≤◌, ℕ, true, List, length, Option, Some, None, if◌then◌else◌}
 use Rattle.page_sheet.specs.declared.slot.Slot.{Slot}
-use Rattle.page_sheet.specs.declared.slot.Slot.TheVariants.{Unused, Normal, Redirect, Dead}
+use Rattle.page_sheet.specs.declared.slot.Slot.TheVariants.{Normal, Redirect, Dead}
 use Rattle.page_sheet.specs.Slots.{slot_at, version_at}
 use Rattle.tuple_header.specs.Version.{Version}
 use Rattle.tuple_header.specs.Marks.{is_heap_only}

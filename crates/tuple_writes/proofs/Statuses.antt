@@ -7,7 +7,7 @@ use Rattle.page_sheet.specs.declared.slot.Slot.{Slot}
 use Rattle.page_sheet.specs.Slots.{version_at}
 use Rattle.tuple_header.specs.Version.{Version}
 use Rattle.tuple_header.specs.declared.version.Header.{Header}
-use Rattle.tuple_header.specs.Marks.{is_hot_updated, is_heap_only, is_frozen}
+use Rattle.tuple_header.specs.Marks.{is_hot_updated, is_frozen}
 use Rattle.xid_circle.specs.Following.{ReachesIn}
 use Rattle.commit_status.specs.declared.status.Status.{Status}
 use Rattle.commit_status.specs.declared.status.Status.TheVariants.{InProgress, Committed, Aborted}
@@ -16,7 +16,7 @@ use Rattle.commit_status.specs.Changes.{Gives, Finishes}
 use Rattle.commit_status.proofs.Giving.{gives-status}
 use Rattle.commit_status.proofs.Finishing.{finishes-named, finishes-other, finishes-committed_old, commits-cases, aborts-committed}
 use Rattle.visibility.specs.Visible.{IsFrozen}
-use Rattle.hot_chain.specs.Chain.{has_aborted, is_replaced, next_in_chain}
+use Rattle.hot_chain.specs.Chain.{has_aborted, is_replaced}
 use Rattle.sound_page.specs.Links.{link, Reaches}
 use Rattle.sound_page.specs.Sound.{IsIn, SomeRoot, SomeNext, SoundPage}
 use Rattle.sound_page.proofs.Links.{IsLink, link-of, successor-from}

@@ -3,7 +3,7 @@ use Rattle.std.specs.Prelude.{◌≡◌, ℕ, Bool, true, List}
 use Rattle.xid_circle.specs.Numbers.{Id, PageNo, SlotNo, Count}
 use Rattle.xid_circle.specs.declared.Tid.{Tid}
 use Rattle.page_sheet.specs.declared.slot.Slot.{Slot}
-use Rattle.page_sheet.specs.declared.slot.Slot.TheVariants.{Unused, Normal, Redirect, Dead}
+use Rattle.page_sheet.specs.declared.slot.Slot.TheVariants.{Normal}
 use Rattle.page_slots.specs.View.{PageView}
 use Rattle.page_sheet.specs.Slots.{the_slot, with_slot, with_added, free_number, change_unless}
 use Rattle.tuple_header.specs.Hints.{same_but_hints}
