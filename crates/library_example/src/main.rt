@@ -65,11 +65,16 @@ fn tell_step(rt: &impl Print, engine: &mut Engine, what: &str, step: Step) -> io
     }
 }
 
-fn tour(rt: &impl Print, engine: &mut Engine) -> io::Result<()> {
+/// Session 0 writes two rows and commits them.
+fn write_rows(rt: &impl Print, engine: &mut Engine) -> io::Result<()> {
     tell(rt, "0 begins", engine.begin(0))?;
     tell(rt, "0 inserts key 1", engine.insert(0, &row(1, 10)))?;
     tell(rt, "0 inserts key 2", engine.insert(0, &row(2, 20)))?;
-    tell(rt, "0 commits", engine.commit(0))?;
+    tell(rt, "0 commits", engine.commit(0))
+}
+
+/// Sessions 1 and 2 write one key: the first to commit wins, and the other goes on to read what was there before.
+fn write_one_key(rt: &impl Print, engine: &mut Engine) -> io::Result<()> {
     tell(rt, "1 begins", engine.begin(1))?;
     tell(rt, "2 begins", engine.begin(2))?;
     tell(rt, "1 updates key 1", engine.update(1, &row(1, 11)))?;
@@ -79,7 +84,11 @@ fn tour(rt: &impl Print, engine: &mut Engine) -> io::Result<()> {
     if let Some(row) = row_in_view(engine, 2, 1) {
         println!(rt; "2 still sees {}", row.cols[0])?;
     }
-    tell(rt, "2 aborts", engine.abort(2))?;
+    tell(rt, "2 aborts", engine.abort(2))
+}
+
+/// Session 3 scans the table and deletes a row; then its page is pruned.
+fn scan_and_delete(rt: &impl Print, engine: &mut Engine) -> io::Result<()> {
     tell(rt, "3 begins", engine.begin(3))?;
     tell_step(rt, engine, "3 opens a scan", Step::OpenHeap(3))?;
     tell_step(rt, engine, "3 scans", Step::Next(3, 10))?;
@@ -87,6 +96,12 @@ fn tour(rt: &impl Print, engine: &mut Engine) -> io::Result<()> {
     tell(rt, "3 deletes key 2", engine.delete(3, 2))?;
     tell(rt, "3 commits", engine.commit(3))?;
     tell_step(rt, engine, "page 0 is pruned", Step::Prune(0))
+}
+
+fn tour(rt: &impl Print, engine: &mut Engine) -> io::Result<()> {
+    write_rows(rt, engine)?;
+    write_one_key(rt, engine)?;
+    scan_and_delete(rt, engine)
 }
 
 fn main(rt: HostRuntime) -> ExitCode {

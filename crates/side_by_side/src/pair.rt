@@ -494,14 +494,19 @@ impl Pair {
         }
     }
 
+    // The engine's reply to a copy of the step. (It promises nothing: what the engine promises would be carried to the end of `step`.)
+    fn ask(&mut self, alloc: Global, step: &Step) -> Result<Reply, Difference> {
+        match step.copy(alloc) {
+            Ok(copy) => Ok(self.engine.step(copy)),
+            Err(_) => Err(Difference::NoMemory),
+        }
+    }
+
     /// Has the engine do the step, and gives its reply, where it is as it has to be. The engine gets a copy.
     pub fn step(&mut self, alloc: Global, step: &Step) -> Result<Reply, Difference> {
         let before = self.before(step);
         let chains = self.chains(alloc, step)?;
-        let Ok(copy) = step.copy(alloc) else {
-            return Err(Difference::NoMemory);
-        };
-        let reply = self.engine.step(copy);
+        let reply = self.ask(alloc, step)?;
         if let (true, Some(s)) = (makes_fail(&reply), writer_of(step)) {
             // The engine's session has failed, and reads on. In the judge's history it has not yet.
             self.compare_views(&[s])?;
