@@ -9,8 +9,9 @@ use std::sync::Wait;
 use std::sync::atomic::{AtomicU64, Ordering};
 use std::thread::Threads;
 
-pub(crate) fn line(wait: bool, step: Step) -> Line {
-    Line { wait, step }
+/// Adds a line to a list. It promises nothing: what a push does would be carried along to the end of each list.
+pub(crate) fn add(lines: &mut Vec<Line>, wait: bool, step: Step) -> Result<(), AllocError> {
+    lines.push(Line { wait, step })
 }
 
 /// What the workers with these lists have done. Like the function below it promises nothing: what `run_threads` does would be carried
@@ -38,22 +39,26 @@ pub(crate) fn gated_book_of<G: Gate + Sync, R: Threads + Wait + Sync>(
 fn list_of(alloc: Global, s: u8) -> Result<Vec<Line>, AllocError> {
     let own = 100 + u64::from(s);
     let mut lines = Vec::new(alloc);
-    lines.push(line(false, Step::Begin(s)))?;
-    lines.push(line(false, Step::Insert(s, row(alloc, own, 1))))?;
-    lines.push(line(true, Step::Insert(s, row(alloc, 7, i64::from(s)))))?;
-    lines.push(line(false, Step::Get(s, own)))?;
-    lines.push(line(false, Step::OpenKeys(s, 0, 200)))?;
-    lines.push(line(false, Step::Next(s, 0)))?;
-    lines.push(line(false, Step::Close(s)))?;
-    lines.push(line(false, Step::OpenHeap(s)))?;
-    lines.push(line(false, Step::Next(s, 0)))?;
-    lines.push(line(false, Step::Next(s, 0)))?;
+    add(&mut lines, false, Step::Begin(s))?;
+    add(&mut lines, false, Step::Insert(s, row(alloc, own, 1)))?;
+    add(
+        &mut lines,
+        true,
+        Step::Insert(s, row(alloc, 7, i64::from(s))),
+    )?;
+    add(&mut lines, false, Step::Get(s, own))?;
+    add(&mut lines, false, Step::OpenKeys(s, 0, 200))?;
+    add(&mut lines, false, Step::Next(s, 0))?;
+    add(&mut lines, false, Step::Close(s))?;
+    add(&mut lines, false, Step::OpenHeap(s))?;
+    add(&mut lines, false, Step::Next(s, 0))?;
+    add(&mut lines, false, Step::Next(s, 0))?;
     let last = if s % 2 == 0 {
         Step::Abort(s)
     } else {
         Step::Commit(s)
     };
-    lines.push(line(false, last))?;
+    add(&mut lines, false, last)?;
     Ok(lines)
 }
 
@@ -114,7 +119,7 @@ fn two_lists(alloc: Global) -> Result<Vec<Vec<Line>>, AllocError> {
     let mut lists = Vec::new(alloc);
     for s in 0..2u8 {
         let mut lines = Vec::new(alloc);
-        lines.push(line(false, Step::Begin(s)))?;
+        add(&mut lines, false, Step::Begin(s))?;
         lists.push(lines)?;
     }
     Ok(lists)

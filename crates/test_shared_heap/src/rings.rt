@@ -1,6 +1,6 @@
 //! Rings of waits: whoever would close one is told Deadlock, and the others go on once it has aborted.
 
-use crate::lists::{gated_book_of, line};
+use crate::lists::{add, gated_book_of};
 use crate::replay::{Entries, replay};
 use crate::rows::row;
 use session_core::{RunFault, Step};
@@ -51,10 +51,10 @@ fn list_of(alloc: Global, s: u8, sessions: u8) -> Result<Vec<Line>, AllocError> 
     let next = if after < sessions { after } else { 0 };
     let (own, other) = (u64::from(s), u64::from(next));
     let mut lines = Vec::new(alloc);
-    lines.push(line(false, Step::Begin(s)))?;
-    lines.push(line(false, Step::Insert(s, row(alloc, own, 1))))?;
-    lines.push(line(true, Step::Insert(s, row(alloc, other, 1))))?;
-    lines.push(line(false, Step::Abort(s)))?;
+    add(&mut lines, false, Step::Begin(s))?;
+    add(&mut lines, false, Step::Insert(s, row(alloc, own, 1)))?;
+    add(&mut lines, true, Step::Insert(s, row(alloc, other, 1)))?;
+    add(&mut lines, false, Step::Abort(s))?;
     Ok(lines)
 }
 
