@@ -25,7 +25,8 @@ work=$(mktemp -d)
 trap 'rm -rf "$work"' EXIT
 # one object that shows the calls of the header and nothing else
 ld -r --whole-archive -o "$work/sandpipercot.o" "$archive" "$heap"
-objcopy --wildcard --keep-global-symbol='sandpiper_*' "$work/sandpipercot.o"
+nm -g --defined-only "$work/sandpipercot.o" | sed -n 's/^.* T \(sandpiper_[a-z_]*\)$/\1/p' >"$work/names"
+objcopy --keep-global-symbols="$work/names" "$work/sandpipercot.o"
 
 mkdir -p "$prefix/include" "$prefix/lib/pkgconfig" "$prefix/lib/python/sandpipercot"
 rm -f "$prefix/lib/libsandpipercot.a"

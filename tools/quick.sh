@@ -22,12 +22,17 @@ mkdir -p "$1"
 prefix=$(cd "$1" && pwd)
 
 echo "quick.sh: compiles ${programs[*]} and the library side by side, in a minute or two on four processors"
-works=()
+# heapsh is of one module with the library, so that what both call is read and compiled once
+works=() with_library=()
 for program in "${programs[@]}"; do
-    python3 "$root/tools/unproved_shell.py" "$prefix/bin/$program" --soon &
-    works+=($!)
+    if [ "$program" = heapsh ]; then
+        with_library=(heapsh)
+    else
+        python3 "$root/tools/unproved_shell.py" "$prefix/bin/$program" --soon &
+        works+=($!)
+    fi
 done
-python3 "$root/tools/unproved_c.py" "$prefix" --soon &
+python3 "$root/tools/unproved_c.py" "$prefix" --soon ${with_library[@]+"${with_library[@]}"} &
 works+=($!)
 status=0
 for work in "${works[@]}"; do

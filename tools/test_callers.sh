@@ -61,10 +61,23 @@ else
     say "not tried: there is no heapjudge to judge the answers of growth.c (tools/quick.sh PREFIX heapjudge)"
 fi
 
-# Threads that share a table under a lock of their own. What looks for races has to find one where there is no lock.
+# Threads that share a table under a lock of their own. What looks for races has to name one where there is no lock, in one of some runs:
+# that the program fails there is not enough, since its own checks fail too.
+names_a_race() {
+    local words=$1
+    shift
+    for _ in 1 2 3 4 5 6 7 8; do
+        timeout 100 "$@" free >"$work/threads.err" 2>&1 || true
+        ! grep -q "$words" "$work/threads.err" || return 0
+    done
+    say "no race was found where there is no lock"
+    exit 1
+}
 "$compiler" -std=c11 "${flags[@]}" -fsanitize=thread "$tests/threads.c" "$prefix/lib/libsandpipercot.a" -pthread -o "$work/threads"
 say "threads.c, with the thread sanitizer"
-if ! "$work/threads" 2>"$work/threads.err"; then
+if "$work/threads" 2>"$work/threads.err"; then
+    names_a_race "ThreadSanitizer: data race" "$work/threads"
+else
     cat "$work/threads.err" >&2
     grep -q "unexpected memory mapping" "$work/threads.err" || exit 1
     say "not tried: the thread sanitizer does not take this kernel's addresses"
@@ -83,10 +96,7 @@ if command -v valgrind >/dev/null; then
     "$compiler" -std=c11 "${flags[@]}" "$tests/threads.c" "$prefix/lib/libsandpipercot.a" -pthread -o "$work/threads.plain"
     say "threads.c, under valgrind's helgrind, with the lock and without"
     valgrind -q --tool=helgrind --error-exitcode=9 "$work/threads.plain" >/dev/null
-    if valgrind -q --tool=helgrind --error-exitcode=9 "$work/threads.plain" free >/dev/null 2>&1; then
-        say "no race was found where there is no lock"
-        exit 1
-    fi
+    names_a_race "Possible data race" valgrind -q --tool=helgrind "$work/threads.plain"
 fi
 
 # What an example prints has to be what is said beside its script in examples/first_committer_wins.md.

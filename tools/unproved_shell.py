@@ -5,7 +5,6 @@ It is the crate that TO is named like, as bin/heapsh. It stays, so each script t
 the time, and is slower. How: tools/unproved.py.
 """
 import os
-import subprocess
 import sys
 import tempfile
 
@@ -15,14 +14,7 @@ import unproved
 def make(copy: str, program: str, to: str, work: str, way: unproved.Way) -> None:
     """Makes the program of a copy of the repository."""
     module = unproved.without_checks(unproved.module_of(f"{copy}/crates/{program}", work))
-    objects = unproved.compiled(module, work, way)
-    archives = [f"{unproved.KIT}/c/libos_c.a", f"{unproved.KIT}/c/liblibc_c.a"]
-    link = [f"{unproved.KIT}/bin/rattle-link", "--target", "x86_64-unknown-linux-gnu", "--toolchain", f"{unproved.KIT}/toolchain"]
-    linked = subprocess.run([*link, "-o", f"{work}/{program}", *objects, *archives], capture_output=True, text=True, check=False)
-    if linked.returncode != 0:
-        sys.exit(f"unproved_shell.py: it does not link:\n{linked.stderr}")
-    os.makedirs(os.path.dirname(os.path.abspath(to)), exist_ok=True)
-    subprocess.run(["install", "-m", "755", f"{work}/{program}", to], check=True)
+    unproved.link(unproved.compiled(module, work, way), to, work)
 
 
 def main() -> None:

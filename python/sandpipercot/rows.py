@@ -4,6 +4,7 @@ from __future__ import annotations
 import ctypes
 import functools
 import operator
+import reprlib
 import struct
 from typing import Any, Callable, List, NamedTuple, Tuple, cast
 
@@ -38,7 +39,7 @@ def whole(value: object, name: str) -> int:
     try:
         return operator.index(value)  # type: ignore[arg-type]
     except TypeError:
-        raise TypeError(f"{name} is no whole number: {value!r}") from None
+        raise TypeError(f"{name} is no whole number: {reprlib.repr(value)}") from None
 
 
 def fits(value: int, bits: int, name: str) -> int:
@@ -62,7 +63,7 @@ def text_of(value: object, name: str) -> memoryview:
     try:
         return memoryview(value)  # type: ignore[arg-type]
     except TypeError:
-        raise TypeError(f"{name} has no bytes: {value!r}") from None
+        raise TypeError(f"{name} has no bytes: {reprlib.repr(value)}") from None
 
 
 class Places:
@@ -89,9 +90,9 @@ class Places:
             key, cols, body = row
             a, b, c, d = cols
         except TypeError:
-            raise TypeError(f"row is no key, columns and body: {row!r}") from None
+            raise TypeError(f"row is no key, columns and body: {reprlib.repr(row)}") from None
         except ValueError:
-            raise ValueError(f"row has a key, four columns and a body: {row!r}") from None
+            raise ValueError(f"row has a key, four columns and a body: {reprlib.repr(row)}") from None
         columns = [fits_signed(it, f"cols[{number}]") for number, it in enumerate((a, b, c, d))]
         # (one byte too many is enough: the library refuses the row as too large, whatever is behind)
         some = bytes(text_of(body, "body"))[: _c.BODY + 1]

@@ -252,7 +252,9 @@ class BytesTest(TableTest):
             self.assertIsNone(sp.check_page(it))
         self.assertEqual(sp.check_page(memoryview(page)[::2]), sp.PageFault(sp.FaultKind.LENGTH, 0))
         for it in ("x" * sp.PAGE_BYTES, None, 8192, [0] * 8192):
-            self.assertRaises(TypeError, sp.check_page, it)
+            with self.assertRaises(TypeError) as raised:
+                sp.check_page(it)
+            self.assertLess(len(str(raised.exception)), 80)
 
 
 if __name__ == "__main__":

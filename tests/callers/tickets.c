@@ -46,21 +46,22 @@ static void take(struct view *view, uint64_t before) {
     unlock();
 }
 
-/* Each row is there once, and their sum is that of all views. */
-static void check(struct view *view, struct sandpiper_row *rows) {
+/* Each row is there once, and their sum is that of all views. Answers how many have another value than at first. */
+static size_t check(struct view *view, struct sandpiper_row *rows) {
     static bool seen[ROWS];
     int64_t sum = 0;
-    size_t found = 0, count;
+    size_t found = 0, moved = 0, count;
     memset(seen, 0, sizeof seen);
     for (uint32_t page = 0; page < view->pages; page++) {
         uint32_t status = sandpiper_ticket_rows(&view->tickets[page], rows, SANDPIPER_PAGE_ROWS, &count);
         CHECK(status == (count ? SANDPIPER_ROWS : SANDPIPER_NO_ROW));
         for (size_t i = 0; i < count; i++, found++) {
             CHECK(rows[i].key < ROWS && !seen[rows[i].key] && has_body(rows + i, "ticket"));
-            seen[rows[i].key] = true, sum += rows[i].cols[0];
+            seen[rows[i].key] = true, sum += rows[i].cols[0], moved += rows[i].cols[0] != 1;
         }
     }
     CHECK(found == ROWS && sum == ROWS);
+    return moved;
 }
 
 static void close_all(struct view *view) {
@@ -73,7 +74,7 @@ static void *read_views(void *rows) {
     static struct view view;
     for (int round = 0; round < ROUNDS; round++) {
         take(&view, seen_moves + EACH);
-        check(&view, rows), check(&view, rows);
+        CHECK(check(&view, rows) == check(&view, rows));
         close_all(&view);
     }
     lock(), is_read = true, unlock();
@@ -146,7 +147,7 @@ int main(int argc, char **argv) {
     CHECK(pthread_join(reader, NULL) == 0);
     clean();
     CHECK(sandpiper_close(&table) == SANDPIPER_DONE);
-    check(&first, rows);
+    CHECK(check(&first, rows) == 0);
     close_all(&first);
     CHECK(moves >= ROUNDS * EACH && first.pages > 1);
     printf("%d views of %u pages and more were read beside %s transactions\n", ROUNDS, (unsigned)first.pages, moves > 1000 ? "many" : "some");
