@@ -1,12 +1,12 @@
 -- What an edit of both columns does to the entries.
-use Rattle.std.proofs.Common.{◌≡◌, ◌∙◌, ◌<ℤ◌, is_lt, ℕ, zero, suc, ◌+◌, ◌-◌, ◌<◌, ◌≤◌, min, inl, inr, ℤ, List, [], ◌∷◌, ◌++◌, length, get_or, take, drop, set, true, false, Some, slice_get, sym, ap, refl, arith}
-use Rattle.std.specs.List.{insert, copy_within}
+use Rattle.std.proofs.Common.{◌≡◌, ◌∙◌, ◌<ℤ◌, is_lt, ℕ, zero, suc, ◌<◌, ◌≤◌, min, inl, inr, ℤ, List, [], ◌∷◌, ◌++◌, length, get_or, take, drop, set, true, false, Some, slice_get, sym, ap, refl, arith}
+use Rattle.std.specs.List.{insert}
 use Rattle.std.specs.Cmp.{int_cmp_is}
 use Rattle.std.specs.declared.cmp.Ordering.TheVariants.{Less, Greater}
 use Rattle.std.proofs.lemmas.Bool.{cases_lt}
 use Rattle.std.proofs.lemmas.Option.{get_or_from_slice_get}
-use Rattle.std.proofs.lemmas.List.Edits.{length-insert, paste_all}
-use Rattle.std.proofs.lemmas.List.{length-drop, length-take-le, take_at}
+use Rattle.std.proofs.lemmas.List.Edits.{length-insert}
+use Rattle.std.proofs.lemmas.List.{length-take-le}
 use Rattle.xid_circle.specs.declared.Tid.{Tid}
 use Rattle.index_entries.specs.declared.entry.Entry.{Entry}
 use Rattle.index_entries.specs.Order.{comparison}
@@ -137,7 +137,7 @@ entries_with-back value key ls ls' ps ps' xs n is of_ls of_ps =
 pub value_at : {L : Type 0} (value : L → ℤ) (key : L → ℕ) (ls : List L) (ps : List ShortTid) (xs : List Entry) (i : ℕ) (l : L) (d : Entry) → length ls ≡ length ps
     → entries_with value key ls ps ≡ xs → i < length xs → l ≡ get_or ls i l → (get_or xs i d).value ≡ value l
 value_at value key ls ps xs i l d alike is within at_l =
-    let p : ShortTid = record { slot = 0; page = 0 } in
+    let p : ShortTid = record { number = 0 } in
     let at = entries_with-at value key ls ps i l p (omega (arith, within, (counts value key ls ps xs alike is).0)) alike in
     ap (λ (e : Entry). e.value) (get_or_from_slice_get xs i (entry_with value key (get_or ls i l) (get_or ps i p)) d (ap (λ ys. slice_get ys i) (sym is) ∙ at))
     ∙ ap value (sym at_l)

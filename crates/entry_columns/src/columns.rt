@@ -1,14 +1,16 @@
 //! Columns of entries.
 
-ghost use Rattle.std.specs.Prelude.{◌≡◌, ◌<◌, ◌≤◌, ◌++◌, [], ◌↔◌, length, take, drop, IfOk, IfSome, IsTrue, Some, slice_get, vec_len, vec_capacity, Contains};
-ghost use Rattle.std.specs.List.{HoldsAt, insert, filter};
+ghost use Rattle.std.specs.Prelude.{◌≡◌, ◌<◌, ◌≤◌, ◌+◌, ◌++◌, [], ◌↔◌, length, take, drop, IfOk, IfSome, IsTrue, Some, slice_get, vec_len, vec_capacity, Contains};
+ghost use Rattle.std.specs.List.{All, HoldsAt, insert, filter};
 ghost use Rattle.std.specs.Ordering.{is_lt};
 ghost use Rattle.index_entries.specs.Order.{comparison};
 ghost use Rattle.index_entries.specs.Lists.{stays};
 ghost use Rattle.dead_places.specs.Places.{AreAscending};
 ghost use Rattle.entry_columns.specs.Fits.{Fits};
 ghost use Rattle.entry_columns.specs.Columns.{entries_with, long};
+ghost use Rattle.entry_columns.specs.Gaps.{AreOutside};
 
+use crate::gap::{Gap, between};
 use crate::label::Label;
 use crate::short_tid::{PAGES, ShortTid};
 use dead_places::is_among;
@@ -166,6 +168,16 @@ impl<L: Label> EntryColumns<L> {
         self.places.len()
     }
 
+    /// Places to which no entry leads: those behind these, up to the first that one leads to.
+    #[inline(never)]
+    pub fn gap_behind(&self, tids: &[Tid]) -> Gap
+        ensures { AreOutside result self.now.entries }
+    {
+        let from = number_behind(tids);
+        let ahead = least_ahead(&self.places, from);
+        between(from, from.saturating_add(ahead))
+    }
+
     /// Removes the entries to dead places from this place on, and moves those behind them up.
     pub fn remove_dead(&mut self, from: usize, dead: &[Tid])
         requires in_range { from ≤ length self.old.entries }
@@ -228,6 +240,26 @@ fn move_part<T: Copy>(items: &mut Vec<T>, place: usize, lower: &mut Vec<T>)
     let _done = lower.extend_from_slice(&items[..place]);
     items.copy_within(place.., 0);
     items.truncate(items.len() - place);
+}
+
+/// The number behind that of the last of these places, or another where they are not told apart.
+fn number_behind(tids: &[Tid]) -> u32 {
+    match tids.last() {
+        Some(last) if last.page < PAGES => ShortTid::new(*last).number().saturating_add(1),
+        _ => 0,
+    }
+}
+
+/// How far the first of these numbers is ahead of this one, at least. Those before it count as far ahead, so several places take one test.
+fn least_ahead(places: &[ShortTid], from: u32) -> u32
+    ensures { All (λ p. from ≤ p.number → from + result ≤ p.number) places.now }
+{
+    let mut ahead = u32::MAX;
+    for place in 0..places.len() {
+        let number = places[place].number();
+        ahead = ahead.min(number.wrapping_sub(from));
+    }
+    ahead
 }
 
 /// Whether this place is dead.

@@ -1,0 +1,16 @@
+-- Places in a row to which no entry leads.
+use Rattle.std.specs.Prelude.{List}
+use Rattle.std.specs.List.{All}
+use Rattle.xid_circle.specs.declared.Tid.{Tid}
+use Rattle.dead_places.specs.Places.{PlacePrecedes}
+use Rattle.index_entries.specs.declared.entry.Entry.{Entry}
+use Rattle.entry_columns.specs.declared.gap.Gap.{Gap}
+use Rattle.entry_columns.specs.Columns.{long}
+
+-- the place is from the first of them on, and before the end
+abbrev pub IsInside : Gap → Tid → Type 0
+IsInside gap t = (¬ PlacePrecedes t (long gap.from)) × PlacePrecedes t (long gap.to)
+
+-- no entry leads to one of them
+abbrev pub AreOutside : Gap → List Entry → Type 0
+AreOutside gap entries = All (λ e. ¬ IsInside gap e.tid) entries
