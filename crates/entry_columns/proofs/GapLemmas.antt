@@ -1,16 +1,17 @@
 -- Places by their numbers, and what lies in a gap.
-use Rattle.std.proofs.Common.{◌≡◌, ◌∙◌, ℕ, ◌+◌, ◌-◌, ◌/◌, ◌%◌, ◌<◌, ◌≤◌, not, inl, inr, ℤ, List, [], ◌∷◌, length, get_or, take, true, Bool, Some, slice_get, sym, ap, subst, arith, Contains}
+use Rattle.std.proofs.Common.{◌≡◌, ◌∙◌, ℕ, ◌+◌, ◌-◌, ◌*◌, ◌/◌, ◌%◌, ◌<◌, ◌≤◌, not, inl, inr, ℤ, List, [], ◌∷◌, length, get_or, take, true, Bool, Some, slice_get, sym, ap, subst, arith, Contains}
 use Rattle.std.specs.List.{All}
 use Rattle.std.specs.Cmp.{nat_cmp_is}
 use Rattle.std.specs.Ordering.{nat_cmp, ordering_then, is_lt}
 use Rattle.std.specs.declared.cmp.Ordering.{Ordering}
 use Rattle.std.specs.declared.cmp.Ordering.TheVariants.{Less, Equal}
 use Rattle.std.proofs.lemmas.Bool.{cases_lt}
+use Rattle.std.proofs.lemmas.Cmp.{ranked}
 use Rattle.std.proofs.lemmas.List.Elements.{All-cons, All-head, All-tail, All-weaker, All-more}
 use Rattle.std.proofs.lemmas.Option.{slice_get-get_or}
 use Rattle.xid_circle.specs.declared.Tid.{Tid}
 use Rattle.dead_places.specs.Places.{place_order, PlacePrecedes, AreAscending}
-use Rattle.dead_places.proofs.PlaceLemmas.{less_from_test, PlacePrecedes-trans, PlacePrecedes-not_back, not_before_itself, ascending-at, same_number}
+use Rattle.dead_places.proofs.PlaceLemmas.{less_both, less_from_test, PlacePrecedes-trans, PlacePrecedes-not_back, not_before_itself, ascending-at, same_number}
 use Rattle.index_entries.specs.declared.entry.Entry.{Entry}
 use Rattle.entry_columns.specs.declared.gap.Gap.{Gap}
 use Rattle.entry_columns.specs.declared.short_tid.ShortTid.{ShortTid}
@@ -105,3 +106,45 @@ pub not_before : (a x y : Tid) (b : Bool) (o : Ordering) → y ≡ x → o ≡ p
 not_before a x y b o same of_o of_b holds before =
     let is : b ≡ true = of_b ∙ ap is_lt (of_o ∙ ap (place_order a) same ∙ before) in
     absurd (cc (is, holds))
+
+-- Of ascending places the first has the least number, and the last the greatest.
+
+ahead_of : (a : Tid) (p : ShortTid) → a.slot < 65536 → PlacePrecedes a (long p) → a.page * 65536 + a.slot ≤ p.number
+ahead_of a p small before = elim (less_both (nat_cmp a.page (p.number / 65536)) (nat_cmp a.slot (p.number % 65536)) before) [
+  | inl less ↦ let lower : a.page < p.number / 65536 = ranked a.page (p.number / 65536) Less (sym less) in omega arith
+  | inr both ↦
+      let same : a.page ≡ p.number / 65536 = ranked a.page (p.number / 65536) Equal (sym both.0) in
+      let lower : a.slot < p.number % 65536 = ranked a.slot (p.number % 65536) Less (sym both.1) in
+      omega arith
+]
+
+behind_of : (a : Tid) (p : ShortTid) → PlacePrecedes (long p) a → p.number ≤ a.page * 65536 + a.slot
+behind_of a p before = elim (less_both (nat_cmp (p.number / 65536) a.page) (nat_cmp (p.number % 65536) a.slot) before) [
+  | inl less ↦ let lower : p.number / 65536 < a.page = ranked (p.number / 65536) a.page Less (sym less) in omega arith
+  | inr both ↦
+      let same : p.number / 65536 ≡ a.page = ranked (p.number / 65536) a.page Equal (sym both.0) in
+      let lower : p.number % 65536 < a.slot = ranked (p.number % 65536) a.slot Less (sym both.1) in
+      omega arith
+]
+
+number_is : (a : Tid) (p : ShortTid) → a ≡ long p → a.page * 65536 + a.slot ≡ p.number
+number_is a p same =
+    let page : a.page ≡ p.number / 65536 = ap (λ (t : Tid). t.page) same in
+    let slot : a.slot ≡ p.number % 65536 = ap (λ (t : Tid). t.slot) same in
+    omega arith
+
+pub from_least : (xs : List Tid) (first : Tid) (p : ShortTid) → AreAscending xs → slice_get xs 0 ≡ Some first → first.slot < 65536 → Contains xs (long p) → first.page * 65536 + first.slot ≤ p.number
+from_least xs first p up at small there =
+    let q = number_in xs (long p) there in
+    elim (cases_lt 0 q.0) [
+      | inl later ↦ ahead_of first p small (ascending-at xs 0 q.0 first (long p) up later at q.2)
+      | inr other ↦ let same = number_is first p (same_number xs 0 q.0 first (long p) (omega arith) at q.2) in omega (arith, same)
+    ]
+
+pub to_greatest : (xs : List Tid) (last : Tid) (p : ShortTid) → AreAscending xs → slice_get xs (length xs - 1) ≡ Some last → Contains xs (long p) → p.number ≤ last.page * 65536 + last.slot
+to_greatest xs last p up at there =
+    let q = number_in xs (long p) there in
+    elim (cases_lt q.0 (length xs - 1)) [
+      | inl earlier ↦ behind_of last p (ascending-at xs q.0 (length xs - 1) (long p) last up earlier q.2 at)
+      | inr other ↦ let same = number_is last p (same_number xs (length xs - 1) q.0 last (long p) (omega (arith, other, q.1)) at q.2) in omega (arith, same)
+    ]

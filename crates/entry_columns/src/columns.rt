@@ -1,6 +1,6 @@
 //! Columns of entries.
 
-ghost use Rattle.std.specs.Prelude.{◌≡◌, ◌<◌, ◌≤◌, ◌+◌, ◌++◌, [], ◌↔◌, length, take, drop, IfOk, IfSome, IsTrue, Some, slice_get, vec_len, vec_capacity, Contains};
+ghost use Rattle.std.specs.Prelude.{◌≡◌, ◌<◌, ◌≤◌, ◌+◌, ◌*◌, ◌++◌, [], ◌↔◌, length, take, drop, IfOk, IfSome, IsTrue, Some, slice_get, vec_len, vec_capacity, Contains};
 ghost use Rattle.std.specs.List.{All, HoldsAt, insert, filter};
 ghost use Rattle.std.specs.Ordering.{is_lt};
 ghost use Rattle.index_entries.specs.Order.{comparison};
@@ -8,12 +8,13 @@ ghost use Rattle.index_entries.specs.Lists.{stays};
 ghost use Rattle.dead_places.specs.Places.{AreAscending};
 ghost use Rattle.entry_columns.specs.Fits.{Fits};
 ghost use Rattle.entry_columns.specs.Columns.{entries_with, long};
-ghost use Rattle.entry_columns.specs.Gaps.{AreOutside};
+ghost use Rattle.entry_columns.specs.Gaps.{AreOutside, IsWithin};
+ghost use Rattle.entry_columns.specs.declared.short_tid.ShortTid.{ShortTid as Short};
 
 use crate::gap::{Gap, between};
 use crate::label::Label;
 use crate::short_tid::{PAGES, ShortTid};
-use dead_places::is_among;
+use dead_places::look_for;
 use index_entries::{Entry, HALF, MOST_PARTS, compare};
 use std::alloc::{AllocError, Global};
 use std::marker::Model;
@@ -160,8 +161,12 @@ impl<L: Label> EntryColumns<L> {
             ≡ take from self.now.entries
             ++ filter (stays dead.now) (drop from self.now.entries) }
     {
+        let span = span_of(dead);
+        let mut near = None;
         for place in from..self.places.len() {
-            if is_dead(dead, self.places[place]) {
+            let (gone, next) = is_dead(dead, span, near, self.places[place]);
+            near = next;
+            if gone {
                 return place;
             }
         }
@@ -188,10 +193,14 @@ impl<L: Label> EntryColumns<L> {
         ensures shorter { length self.new.entries ≤ length self.old.entries }
         ensures room { self.old.room ≤ self.new.room }
     {
+        let span = span_of(dead);
+        let mut near = None;
         let mut kept = from;
         for place in from..self.places.len() {
             let tid = self.places[place];
-            if !is_dead(dead, tid) {
+            let (gone, next) = is_dead(dead, span, near, tid);
+            near = next;
+            if !gone {
                 self.labels[kept] = self.labels[place];
                 self.places[kept] = tid;
                 kept += 1;
@@ -262,11 +271,71 @@ fn least_ahead(places: &[ShortTid], from: u32) -> u32
     ahead
 }
 
-/// Whether this place is dead.
+/// Numbers from one on, up to so many behind it.
+#[derive(Clone, Copy, Debug)]
+struct Span {
+    least: u64,
+    more: u64,
+}
+
+/// The numbers from that of the first of these places to that of the last.
 #[inline(always)]
-fn is_dead(dead: &[Tid], place: ShortTid) -> bool
+fn span_of(dead: &[Tid]) -> Span
     requires { AreAscending dead.now }
-    ensures { IsTrue result ↔ Contains dead.now (long place) }
+    ensures { IsWithin dead.now result.least result.more }
 {
-    is_among(dead, &place.long())
+    let least = least_number(dead);
+    let greatest = greatest_number(dead);
+    Span {
+        least,
+        more: greatest.wrapping_sub(least),
+    }
+}
+
+/// The number of the first of these places.
+#[inline(always)]
+fn least_number(dead: &[Tid]) -> u64
+    requires { AreAscending dead.now }
+    ensures { (p : Short) → Contains dead.now (long p) → result ≤ p.number }
+{
+    match dead.first() {
+        Some(first) => number_of(first),
+        None => 0,
+    }
+}
+
+/// The number of the last of these places.
+#[inline(always)]
+fn greatest_number(dead: &[Tid]) -> u64
+    requires { AreAscending dead.now }
+    ensures { (p : Short) → Contains dead.now (long p) → p.number ≤ result }
+{
+    match dead.last() {
+        Some(last) => number_of(last),
+        None => 0,
+    }
+}
+
+/// The number of this place, be it on one of the pages that are told apart or not.
+#[inline(always)]
+fn number_of(tid: &Tid) -> u64
+    ensures value { result ≡ tid.now.page * 65536 + tid.now.slot }
+    ensures slot { tid.now.slot < 65536 }
+{
+    let slot = tid.slot;
+    u64::from(tid.page) * 65_536 + u64::from(slot)
+}
+
+/// Whether this place is dead, and at which number one behind it would best be looked for. Most are told by one test.
+#[inline(always)]
+fn is_dead(dead: &[Tid], span: Span, near: Option<usize>, place: ShortTid) -> (bool, Option<usize>)
+    requires ascending { AreAscending dead.now }
+    requires within { IsWithin dead.now span.least span.more }
+    ensures { IsTrue result.0 ↔ Contains dead.now (long place) }
+{
+    if u64::from(place.number()).wrapping_sub(span.least) > span.more {
+        return (false, near);
+    }
+    let (gone, next) = look_for(dead, &place.long(), near);
+    (gone, Some(next))
 }
