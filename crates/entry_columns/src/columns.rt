@@ -1,7 +1,7 @@
 //! Columns of entries.
 
-ghost use Rattle.std.specs.Prelude.{◌≡◌, ◌<◌, ◌≤◌, ◌+◌, ◌*◌, ◌++◌, [], ◌↔◌, length, take, drop, IfOk, IfSome, IsTrue, Some, slice_get, vec_len, vec_capacity, Contains};
-ghost use Rattle.std.specs.List.{All, HoldsAt, insert, filter};
+ghost use Rattle.std.specs.Prelude.{◌≡◌, ◌<◌, ◌≤◌, ◌+◌, ◌*◌, ◌++◌, [], ◌↔◌, length, take, drop, IfOk, IfSome, IsTrue, Some, false, slice_get, vec_len, vec_capacity, Contains};
+ghost use Rattle.std.specs.List.{All, HoldsAt, insert, remove, filter};
 ghost use Rattle.std.specs.Ordering.{is_lt};
 ghost use Rattle.index_entries.specs.Order.{comparison};
 ghost use Rattle.index_entries.specs.Lists.{stays};
@@ -151,7 +151,7 @@ impl<L: Label> EntryColumns<L> {
     }
 
     /// The first place, from this one on, of an entry that leads to a dead place; the end, where none does.
-    pub fn next_dead(&self, from: usize, dead: &[Tid]) -> usize
+    fn next_dead(&self, from: usize, dead: &[Tid]) -> usize
         requires in_range { from ≤ length self.now.entries }
         requires ascending { AreAscending dead.now }
         ensures in_range { result ≤ length self.now.entries }
@@ -183,8 +183,43 @@ impl<L: Label> EntryColumns<L> {
         between(from, from.saturating_add(ahead))
     }
 
-    /// Removes the entries to dead places from this place on, and moves those behind them up.
-    pub fn remove_dead(&mut self, from: usize, dead: &[Tid])
+    /// Removes the entries to dead places from this place on, and moves those behind them up. Says whether there were any.
+    #[inline(never)]
+    pub fn remove_dead(&mut self, from: usize, dead: &[Tid]) -> bool
+        requires in_range { from ≤ length self.old.entries }
+        requires ascending { AreAscending dead.now }
+        ensures entries { self.new.entries
+            ≡ take from self.old.entries
+            ++ filter (stays dead.now) (drop from self.old.entries) }
+        ensures none { result ≡ false → self.new ≡ self.old }
+        ensures shorter { length self.new.entries ≤ length self.old.entries }
+        ensures room { self.old.room ≤ self.new.room }
+    {
+        let first = self.next_dead(from, dead);
+        if first >= self.len() {
+            return false;
+        }
+        // mostly it is the only one
+        self.take_out(first);
+        let next = self.next_dead(first, dead);
+        if next < self.len() {
+            self.remove_more(next, dead);
+        }
+        true
+    }
+
+    /// Takes the entry at this place out, and moves those behind it up.
+    fn take_out(&mut self, place: usize)
+        requires { place < length self.old.entries }
+        ensures entries { self.new.entries ≡ remove self.old.entries place }
+        ensures room { self.old.room ≤ self.new.room }
+    {
+        let _label = self.labels.remove(place);
+        let _place = self.places.remove(place);
+    }
+
+    /// Removes the entries to dead places from this place on, one after another.
+    fn remove_more(&mut self, from: usize, dead: &[Tid])
         requires in_range { from ≤ length self.old.entries }
         requires ascending { AreAscending dead.now }
         ensures entries { self.new.entries

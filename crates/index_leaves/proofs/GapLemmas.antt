@@ -1,7 +1,7 @@
 -- The entries of a leaf and the places to which none of them leads: what stays, and who goes.
 use Rattle.std.proofs.Common.{◌≡◌, ◌∙◌, ℕ, ◌≤◌, List, [], ◌∷◌, length, take, drop, ◌++◌, cond, true, sym, ap, refl, Bool, Contains}
 use Rattle.std.specs.List.{insert, filter}
-use Rattle.std.proofs.lemmas.List.{take-append-drop, take_all, drop_all, append-nil}
+use Rattle.std.proofs.lemmas.List.{take-append-drop}
 use Rattle.std.proofs.lemmas.List.Elements.{All-cons, All-head, All-tail, All-same, All-append, All-take, All-drop, All-filter, All-weaker}
 use Rattle.std.proofs.lemmas.List.Sorted.{IsPermutation-insert, All-permutation}
 use Rattle.xid_circle.specs.declared.Tid.{Tid}
@@ -17,11 +17,6 @@ pub outside_inserted : (g g' : Gap) (xs : List Entry) (i : ℕ) (y : Entry) → 
 outside_inserted g g' xs i y out narrower here =
     All-permutation (λ e. ¬ IsInside g' e.tid) (y ∷ xs) (insert xs i y) (IsPermutation-insert xs i y)
     (All-cons (λ e. ¬ IsInside g' e.tid) y xs here (All-weaker (λ e. ¬ IsInside g e.tid) (λ e. ¬ IsInside g' e.tid) (λ e not_in inside. not_in (narrower e.tid inside)) xs out))
-
--- at the end all stay
-pub at_end : (test : Entry → Bool) (xs : List Entry) (n : ℕ) → length xs ≤ n → take n xs ++ filter test (drop n xs) ≡ xs
-at_end test xs n past =
-    ap (λ ys. take n xs ++ filter test ys) (drop_all n xs past) ∙ append-nil (take n xs) ∙ take_all n xs past
 
 -- where all dead places are in the gap no entry goes
 all_stay : (g : Gap) (dead : List Tid) (xs : List Entry) → AreOutside g xs → ((t : Tid) → Contains dead t → IsInside g t) → filter (stays dead) xs ≡ xs

@@ -198,11 +198,9 @@ impl<L: Label> Node for Leaf<L> {
             return Some(unchanged(last, count));
         }
         self.gap = self.entries.gap_behind(dead);
-        let goes = self.entries.next_dead(position, dead);
-        if goes == count {
+        if !self.entries.remove_dead(position, dead) {
             return Some(unchanged(last, count));
         }
-        self.entries.remove_dead(goes, dead);
         spares.take_back(&mut self.entries);
         self.first = first_or(&self.entries, self.first);
         self.last = last_or(&self.entries, last);
