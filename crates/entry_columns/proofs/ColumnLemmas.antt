@@ -135,7 +135,7 @@ entry_out value key ls ls' ps ps' xs i alike within is of_ls of_ps =
     ap (λ ms. entries_with value key ms ps') of_ls ∙ ap (λ qs. entries_with value key (remove ls i) qs) of_ps ∙ entries_with-remove value key ls ps i alike within ∙ ap (λ ys. remove ys i) is
 
 pub fewer_columns : {L : Type 0} (ls ls' : List L) (ps ps' : List ShortTid) (i : ℕ) (label_room place_room label_room' place_room' : ℕ) → AreColumns (length ls) (length ps) label_room place_room → i < length ls
-    → ls' ≡ remove ls i → ps' ≡ remove ps i → label_room' ≡ label_room → place_room' ≡ place_room → AreColumns (length ls') (length ps') label_room' place_room'
+    → ls' ≡ remove ls i → ps' ≡ remove ps i → label_room ≤ label_room' → place_room ≤ place_room' → AreColumns (length ls') (length ps') label_room' place_room'
 fewer_columns ls ls' ps ps' i label_room place_room label_room' place_room' are within of_ls of_ps same_l same_p =
     let one = length-remove ls i within in
     let two = length-remove ps i (omega (arith, within, are.alike)) in

@@ -214,8 +214,8 @@ impl<L: Label> EntryColumns<L> {
         ensures entries { self.new.entries ≡ remove self.old.entries place }
         ensures room { self.old.room ≤ self.new.room }
     {
-        let _label = self.labels.remove(place);
-        let _place = self.places.remove(place);
+        take_one(&mut self.labels, place);
+        take_one(&mut self.places, place);
     }
 
     /// Removes the entries to dead places from this place on, one after another.
@@ -268,6 +268,17 @@ fn put<T: Copy>(items: &mut Vec<T>, place: usize, item: T)
     }
     // never refused, since there is room
     let _done = items.insert(place, item);
+}
+
+/// Takes the item at this place out.
+#[inline(always)]
+fn take_one<T: Copy>(items: &mut Vec<T>, place: usize)
+    requires { place < vec_len items.old }
+    ensures items { items.new.items ≡ remove items.old.items place }
+    ensures capacity { vec_capacity items.old ≤ vec_capacity items.new }
+{
+    items.copy_within(place + 1.., place);
+    items.truncate(items.len() - 1);
 }
 
 /// Moves the items before this place to another list, in the place of all there. There is room for them in memory.
