@@ -1,2 +1,1 @@
-pub mod BoundLemmas
 pub mod PlaceLemmas

@@ -150,3 +150,12 @@ inserted_last xs y i room below = elim (cases_lt i (length xs)) [
   | inl within ↦ absurd (PlacePrecedes-not_back (get_or xs i y) y (below i y within) (room.after i (get_or xs i y) (omega arith) (slice_get-get_or xs i y within)))
   | inr past ↦ let end : i ≡ length xs = omega (arith, room.in_range) in ap (λ n. insert xs n y) end ∙ insert_end xs y
 ]
+
+-- a place for which there would be room is not there
+pub not_there : (xs : List Tid) (x : Tid) (i : ℕ) → IsRoomFor xs x i → ¬ Contains xs x
+not_there xs x i room (k, within, is) =
+    let at = slice_get-get_or xs k x within ∙ ap Some is in
+    elim (cases_lt k i) [
+      | inl before ↦ not_before_itself x (room.before k x before at)
+      | inr behind ↦ not_before_itself x (room.after k x behind at)
+    ]

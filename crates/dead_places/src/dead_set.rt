@@ -6,10 +6,8 @@ ghost use Rattle.std.specs.List.{All};
 ghost use Rattle.arrayvec.specs.ArrayVec.{array_vec_len};
 ghost use Rattle.xid_circle.specs.declared.Tid.{Tid as Place};
 ghost use Rattle.dead_places.specs.Places.{PlacePrecedes, AreAscending, AddsPlace, IsRoomFor};
-ghost use Rattle.dead_places.specs.Bounds.{AreBeside, IsFirstFrom, IsPartOn};
 
 use crate::order::compare_places;
-use crate::page_bounds::PageBounds;
 use arrayvec::ArrayVec;
 use std::cmp::Ordering;
 use std::marker::Model;
@@ -101,14 +99,7 @@ impl DeadSet {
     pub fn contains(&self, tid: Tid) -> bool
         ensures { IsTrue result ↔ Contains self.now tid }
     {
-        is_among(self.tids.as_slice(), &tid)
-    }
-
-    /// The places on these pages, in their order.
-    pub fn on_pages(&self, pages: PageBounds) -> &[Tid]
-        ensures { IsPartOn pages self.now result.now }
-    {
-        part_on(self.tids.as_slice(), pages)
+        look_for(self.tids.as_slice(), &tid, None).0
     }
 
     /// Adds a place. One that is there already stays there once. It takes constant time where the place is above all others. (The list is
@@ -143,114 +134,54 @@ fn place_at(tids: &[Tid], number: usize) -> Option<Tid>
     tids.get(number).copied()
 }
 
-/// Whether all of them are before these pages, or all behind.
-fn are_beside(tids: &[Tid], pages: PageBounds) -> bool
+/// The number of this place, or the one that it would have, by halving.
+fn halve(tids: &[Tid], sought: &Tid) -> Result<usize, usize>
     requires { AreAscending tids.now }
-    ensures { OnTrue result (AreBeside pages tids.now) }
+    ensures found { IfOk result (λ i. slice_get tids.now i ≡ Some sought.now) }
+    ensures absent { IfErr result (IsRoomFor tids.now sought.now) }
 {
-    match tids.first() {
-        Some(first) if first.page <= pages.greatest => ends_before(tids, pages.least),
-        _ => true,
-    }
+    search(tids, sought, tids.len() / 2, usize::MAX)
 }
 
-/// Those of them on these pages.
-fn part_on(tids: &[Tid], pages: PageBounds) -> &[Tid]
-    requires { AreAscending tids.now }
-    ensures { IsPartOn pages tids.now result.now }
-{
-    // most pages have no dead places near them
-    if are_beside(tids, pages) {
-        return &tids[..0];
-    }
-    let from = part_from(tids, pages);
-    if are_beside(from, pages) {
-        return &from[..0];
-    }
-    part_to(from, pages)
-}
-
-/// Those of them that are not before these pages.
-fn part_from(tids: &[Tid], pages: PageBounds) -> &[Tid]
-    requires { AreAscending tids.now }
-    ensures { IsPartOn pages tids.now result.now }
-{
-    let first = first_from(tids, pages.least as u64);
-    &tids[first..]
-}
-
-/// Those of them that are not behind these pages.
-fn part_to(tids: &[Tid], pages: PageBounds) -> &[Tid]
-    requires { AreAscending tids.now }
-    ensures { IsPartOn pages tids.now result.now }
-{
-    let end = first_from(tids, pages.greatest as u64 + 1);
-    &tids[..end]
-}
-
-/// The number of the first of them that is not before this page; how many they are, where all are.
-fn first_from(tids: &[Tid], page: u64) -> usize
-    requires { AreAscending tids.now }
-    ensures { IsFirstFrom tids.now page result }
-{
-    let mut low = 0;
-    let mut high = tids.len();
-    while low < high {
-        let middle = low + (high - low) / 2;
-        if (tids[middle].page as u64) < page {
-            low = middle + 1;
-        } else {
-            high = middle;
-        }
-    }
-    low
-}
-
-/// Whether all of them are before this page.
-fn ends_before(tids: &[Tid], page: u32) -> bool
-    requires { AreAscending tids.now }
-    ensures { OnTrue result ((t : Place) → Contains tids.now t → t.page < page) }
-{
-    match tids.last() {
-        Some(last) => last.page < page,
-        None => true,
-    }
-}
-
-/// The number of this place, or the one that it would have.
-fn search(tids: &[Tid], sought: &Tid) -> Result<usize, usize>
+/// The number of this place, or the one that it would have. It looks first at this number, and then beside what it saw, so far away and four
+/// times as far each time, but never farther than halving would.
+fn search(tids: &[Tid], sought: &Tid, near: usize, far: usize) -> Result<usize, usize>
     requires { AreAscending tids.now }
     ensures found { IfOk result (λ i. slice_get tids.now i ≡ Some sought.now) }
     ensures absent { IfErr result (IsRoomFor tids.now sought.now) }
 {
     let mut low = 0;
     let mut high = tids.len();
+    let mut number = near.min(high.saturating_sub(1));
+    let mut reach = far;
     while low < high {
-        let middle = low + (high - low) / 2;
-        match compare_places(&tids[middle], sought) {
-            Ordering::Equal => return Ok(middle),
-            Ordering::Less => low = middle + 1,
-            Ordering::Greater => high = middle,
+        match compare_places(&tids[number], sought) {
+            Ordering::Equal => return Ok(number),
+            Ordering::Less => {
+                low = number + 1;
+                number = low + ((high - low) / 2).min(reach);
+            }
+            Ordering::Greater => {
+                high = number;
+                number = high.saturating_sub(((high - low) / 2).min(reach) + 1);
+            }
         }
+        reach = reach.wrapping_mul(4).wrapping_add(3);
     }
     Err(low)
 }
 
-/// Whether the place is one of these.
-pub fn is_among(tids: &[Tid], tid: &Tid) -> bool
+/// Whether the place is one of these, and at which number one behind it would best be looked for. Where a number is given it is looked for
+/// there first, and then beside it.
+pub fn look_for(tids: &[Tid], tid: &Tid, near: Option<usize>) -> (bool, usize)
     requires { AreAscending tids.now }
-    ensures { IsTrue result ↔ Contains tids.now tid.now }
+    ensures { IsTrue result.0 ↔ Contains tids.now tid.now }
 {
-    let page = PageBounds {
-        least: tid.page,
-        greatest: tid.page,
-    };
-    if are_beside(tids, page) {
-        return false;
-    }
-    match search(tids, tid) {
-        Ok(_) => true,
-        Err(_) => false,
+    // four times as far each time, beginning with 0 or with all
+    let far = if near.is_some() { 0 } else { usize::MAX };
+    match search(tids, tid, near.unwrap_or(tids.len() / 2), far) {
+        Ok(number) => (true, number.saturating_add(1)),
+        Err(number) => (false, number),
     }
 }
 
@@ -274,7 +205,7 @@ fn number_for(tids: &[Tid], tid: &Tid) -> Option<usize>
     if is_above(tids, tid) {
         return Some(tids.len());
     }
-    match search(tids, tid) {
+    match halve(tids, tid) {
         Ok(_) => None,
         Err(number) => Some(number),
     }

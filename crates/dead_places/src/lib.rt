@@ -1,16 +1,13 @@
-//! Places that are dead: sets of them, and those of a set on some pages.
+//! Places that are dead, in sets.
 //!
 //! Callers see a [`DeadSet`] as the list of its places in ascending order, by page, then slot (`specs/Places.antt`). Whoever goes
-//! through an index asks of each leaf which of them lie on the pages that its entries lead to ([`PageBounds`], `specs/Bounds.antt`).
-//! Most leaves have none, which two compares tell; else they are found by halving.
+//! through an index asks of a place whether it is among them ([`look_for`]), which is found by halving, or where the last one was.
 //!
 //! Why it is built so: docs/DECISIONS.md, under its name.
 #![tactic(auto)]
 
 mod dead_set;
 mod order;
-mod page_bounds;
 
-pub use dead_set::{DeadSet, MOST_PLACES, is_among};
+pub use dead_set::{DeadSet, MOST_PLACES, look_for};
 pub use order::compare_places;
-pub use page_bounds::{NO_PAGES, PageBounds, widen};

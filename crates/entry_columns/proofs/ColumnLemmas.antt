@@ -1,12 +1,12 @@
 -- What an edit of both columns does to the entries.
-use Rattle.std.proofs.Common.{◌≡◌, ◌∙◌, ◌<ℤ◌, is_lt, ℕ, zero, suc, ◌+◌, ◌-◌, ◌<◌, ◌≤◌, min, inl, inr, ℤ, List, [], ◌∷◌, ◌++◌, length, get_or, take, drop, set, true, false, Some, slice_get, sym, ap, refl, arith}
-use Rattle.std.specs.List.{insert, copy_within}
+use Rattle.std.proofs.Common.{◌≡◌, ◌∙◌, ◌<ℤ◌, is_lt, ℕ, zero, suc, ◌<◌, ◌≤◌, min, inl, inr, ℤ, List, [], ◌∷◌, ◌++◌, length, get_or, take, drop, set, true, false, Some, slice_get, sym, ap, refl, arith}
+use Rattle.std.specs.List.{insert, remove}
 use Rattle.std.specs.Cmp.{int_cmp_is}
 use Rattle.std.specs.declared.cmp.Ordering.TheVariants.{Less, Greater}
 use Rattle.std.proofs.lemmas.Bool.{cases_lt}
 use Rattle.std.proofs.lemmas.Option.{get_or_from_slice_get}
-use Rattle.std.proofs.lemmas.List.Edits.{length-insert, paste_all}
-use Rattle.std.proofs.lemmas.List.{length-drop, length-take-le, take_at}
+use Rattle.std.proofs.lemmas.List.Edits.{length-insert, length-remove}
+use Rattle.std.proofs.lemmas.List.{length-take-le}
 use Rattle.xid_circle.specs.declared.Tid.{Tid}
 use Rattle.index_entries.specs.declared.entry.Entry.{Entry}
 use Rattle.index_entries.specs.Order.{comparison}
@@ -120,6 +120,35 @@ room_for n label_room place_room few labels places large = elim (cases_lt n 64) 
   | inr more ↦ let both = large more in (omega (arith, few, both), omega (arith, few, both))
 ]
 
+-- An entry is taken out of both columns.
+
+pub entries_with-remove : {L : Type 0} (value : L → ℤ) (key : L → ℕ) (ls : List L) (ps : List ShortTid) (i : ℕ) → length ls ≡ length ps → i < length ls
+    → entries_with value key (remove ls i) (remove ps i) ≡ remove (entries_with value key ls ps) i
+entries_with-remove value key [] ps i alike within = absurd (omega (arith, within))
+entries_with-remove value key (l ∷ ls) [] i alike within = absurd (omega (arith, alike))
+entries_with-remove value key (l ∷ ls) (p ∷ ps) zero alike within = refl
+entries_with-remove value key (l ∷ ls) (p ∷ ps) (suc i) alike within = ap (λ rest. entry_with value key l p ∷ rest) (entries_with-remove value key ls ps i (omega (arith, alike)) (omega (arith, within)))
+
+pub entry_out : {L : Type 0} (value : L → ℤ) (key : L → ℕ) (ls ls' : List L) (ps ps' : List ShortTid) (xs : List Entry) (i : ℕ) → length ls ≡ length ps → i < length ls
+    → entries_with value key ls ps ≡ xs → ls' ≡ remove ls i → ps' ≡ remove ps i → entries_with value key ls' ps' ≡ remove xs i
+entry_out value key ls ls' ps ps' xs i alike within is of_ls of_ps =
+    ap (λ ms. entries_with value key ms ps') of_ls ∙ ap (λ qs. entries_with value key (remove ls i) qs) of_ps ∙ entries_with-remove value key ls ps i alike within ∙ ap (λ ys. remove ys i) is
+
+pub fewer_columns : {L : Type 0} (ls ls' : List L) (ps ps' : List ShortTid) (i : ℕ) (label_room place_room label_room' place_room' : ℕ) → AreColumns (length ls) (length ps) label_room place_room → i < length ls
+    → ls' ≡ remove ls i → ps' ≡ remove ps i → label_room ≤ label_room' → place_room ≤ place_room' → AreColumns (length ls') (length ps') label_room' place_room'
+fewer_columns ls ls' ps ps' i label_room place_room label_room' place_room' are within of_ls of_ps same_l same_p =
+    let one = length-remove ls i within in
+    let two = length-remove ps i (omega (arith, within, are.alike)) in
+    let labels = ap length of_ls in
+    let places = ap length of_ps in
+    record {
+      alike = omega (arith, one, two, labels, places, are.alike);
+      few = omega (arith, one, labels, are.few);
+      labels_reserved = omega (arith, same_l, are.labels_reserved);
+      places_reserved = omega (arith, same_p, are.places_reserved);
+      large = λ many. let both = are.large (omega (arith, many, one, labels)) in (omega (arith, both.0, same_l), omega (arith, both.1, same_p));
+    }
+
 -- Both columns are parted.
 
 pub entries_with-front : {L : Type 0} (value : L → ℤ) (key : L → ℕ) (ls ls' : List L) (ps ps' : List ShortTid) (xs : List Entry) (n : ℕ) → entries_with value key ls ps ≡ xs → ls' ≡ take n ls → ps' ≡ take n ps
@@ -137,7 +166,7 @@ entries_with-back value key ls ls' ps ps' xs n is of_ls of_ps =
 pub value_at : {L : Type 0} (value : L → ℤ) (key : L → ℕ) (ls : List L) (ps : List ShortTid) (xs : List Entry) (i : ℕ) (l : L) (d : Entry) → length ls ≡ length ps
     → entries_with value key ls ps ≡ xs → i < length xs → l ≡ get_or ls i l → (get_or xs i d).value ≡ value l
 value_at value key ls ps xs i l d alike is within at_l =
-    let p : ShortTid = record { slot = 0; page = 0 } in
+    let p : ShortTid = record { number = 0 } in
     let at = entries_with-at value key ls ps i l p (omega (arith, within, (counts value key ls ps xs alike is).0)) alike in
     ap (λ (e : Entry). e.value) (get_or_from_slice_get xs i (entry_with value key (get_or ls i l) (get_or ps i p)) d (ap (λ ys. slice_get ys i) (sym is) ∙ at))
     ∙ ap value (sym at_l)

@@ -1,6 +1,6 @@
 -- A removal goes over the entries, one after another: those so far that stay stand in front.
-use Rattle.std.proofs.Common.{◌≡◌, ◌↔◌, ◌∙◌, ℕ, zero, suc, ◌+◌, ◌<◌, ◌≤◌, ℤ, List, [], ◌∷◌, ◌++◌, length, get_or, take, drop, set, cond, not, Bool, true, false, IsTrue, Option, IfSome, slice_get, sym, ap, refl, subst, arith, Contains}
-use Rattle.std.specs.List.{filter}
+use Rattle.std.proofs.Common.{◌≡◌, ◌↔◌, ◌∙◌, ℕ, zero, suc, ◌+◌, ◌<◌, ◌≤◌, ℤ, List, [], ◌∷◌, ◌++◌, length, get_or, take, drop, set, cond, not, Bool, true, false, IsTrue, Option, IfSome, slice_get, pos, sym, ap, refl, subst, arith, Contains}
+use Rattle.std.specs.List.{filter, remove}
 use Rattle.std.proofs.lemmas.List.{append_assoc, append-nil, length-set, take_all, take_more, take_more_set, drop-set-lt, drop_more, drop_all}
 use Rattle.std.proofs.lemmas.Option.{get_or_from_slice_get, slice_get-get_or}
 use Rattle.xid_circle.specs.declared.Tid.{Tid}
@@ -69,6 +69,23 @@ at_end test xs kept place past = ap (λ ys. take kept xs ++ filter test ys) (dro
 
 pub all_stay : (test : Entry → Bool) (xs : List Entry) (place : ℕ) → length xs ≤ place → take place xs ++ filter test (drop place xs) ≡ xs
 all_stay test xs place past = at_end test xs place place past ∙ take_all place xs past
+
+-- One entry to a dead place is taken out.
+
+taken : (test : Entry → Bool) (xs : List Entry) (i : ℕ) (d : Entry) → i < length xs → test (get_or xs i d) ≡ false
+    → take i (remove xs i) ++ filter test (drop i (remove xs i)) ≡ take i xs ++ filter test (drop i xs)
+taken test [] i d within goes = absurd (omega (arith, within))
+taken test (x ∷ xs) zero d within goes = sym (ap (λ b. cond b (x ∷ filter test xs) (filter test xs)) goes)
+taken test (x ∷ xs) (suc i) d within goes = ap (λ rest. x ∷ rest) (taken test xs i d (omega (arith, within)) goes)
+
+pub taken_out : (dead : List Tid) (xs : List Entry) (i : ℕ) → i < length xs → IfSome (slice_get xs i) (λ e. Contains dead e.tid)
+    → take i (remove xs i) ++ filter (stays dead) (drop i (remove xs i)) ≡ take i xs ++ filter (stays dead) (drop i xs)
+taken_out dead xs i within gone =
+    let d : Entry = record { value = pos 0; key = 0; tid = record { page = 0; slot = 0 } } in
+    let e = get_or xs i d in
+    let there : Contains dead e.tid = subst (λ (o : Option Entry). IfSome o (λ f. Contains dead f.tid)) (slice_get-get_or xs i d within) gone in
+    let fate = dead-is dead e true ((λ yes. there), (λ yes. refl)) in
+    taken (stays dead) xs i d within (goes_from true (stays dead e) fate refl)
 
 -- The next dead place is looked for.
 

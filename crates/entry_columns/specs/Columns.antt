@@ -1,5 +1,5 @@
 -- Entries as columns.
-use Rattle.std.specs.Prelude.{◌≡◌, ◌<◌, ◌≤◌, ℤ, List, [], ◌∷◌}
+use Rattle.std.specs.Prelude.{◌≡◌, ◌<◌, ◌≤◌, ◌/◌, ◌%◌, ℤ, List, [], ◌∷◌}
 use Rattle.xid_circle.specs.Numbers.{Key, Count}
 use Rattle.xid_circle.specs.declared.Tid.{Tid}
 use Rattle.index_entries.specs.declared.entry.Entry.{Entry}
@@ -8,7 +8,7 @@ use Rattle.entry_columns.specs.declared.short_tid.ShortTid.{ShortTid}
 
 -- a place as others have it
 abbrev pub long : ShortTid → Tid
-long place = record { page = place.page; slot = place.slot }
+long place = record { page = place.number / 65536; slot = place.number % 65536 }
 
 -- the entry with this label and this place
 abbrev pub entry_with : {L : Type 0} → (L → ℤ) → (L → Key) → L → ShortTid → Entry

@@ -1,17 +1,20 @@
 //! Columns of entries.
 
-ghost use Rattle.std.specs.Prelude.{◌≡◌, ◌<◌, ◌≤◌, ◌++◌, [], ◌↔◌, length, take, drop, IfOk, IfSome, IsTrue, Some, slice_get, vec_len, vec_capacity, Contains};
-ghost use Rattle.std.specs.List.{HoldsAt, insert, filter};
+ghost use Rattle.std.specs.Prelude.{◌≡◌, ◌<◌, ◌≤◌, ◌+◌, ◌*◌, ◌++◌, [], ◌↔◌, length, take, drop, IfOk, IfSome, IsTrue, Some, false, slice_get, vec_len, vec_capacity, Contains};
+ghost use Rattle.std.specs.List.{All, HoldsAt, insert, remove, filter};
 ghost use Rattle.std.specs.Ordering.{is_lt};
 ghost use Rattle.index_entries.specs.Order.{comparison};
 ghost use Rattle.index_entries.specs.Lists.{stays};
 ghost use Rattle.dead_places.specs.Places.{AreAscending};
 ghost use Rattle.entry_columns.specs.Fits.{Fits};
 ghost use Rattle.entry_columns.specs.Columns.{entries_with, long};
+ghost use Rattle.entry_columns.specs.Gaps.{AreOutside, IsWithin};
+ghost use Rattle.entry_columns.specs.declared.short_tid.ShortTid.{ShortTid as Short};
 
+use crate::gap::{Gap, between};
 use crate::label::Label;
 use crate::short_tid::{PAGES, ShortTid};
-use dead_places::is_among;
+use dead_places::look_for;
 use index_entries::{Entry, HALF, MOST_PARTS, compare};
 use std::alloc::{AllocError, Global};
 use std::marker::Model;
@@ -148,7 +151,7 @@ impl<L: Label> EntryColumns<L> {
     }
 
     /// The first place, from this one on, of an entry that leads to a dead place; the end, where none does.
-    pub fn next_dead(&self, from: usize, dead: &[Tid]) -> usize
+    fn next_dead(&self, from: usize, dead: &[Tid]) -> usize
         requires in_range { from ≤ length self.now.entries }
         requires ascending { AreAscending dead.now }
         ensures in_range { result ≤ length self.now.entries }
@@ -158,16 +161,65 @@ impl<L: Label> EntryColumns<L> {
             ≡ take from self.now.entries
             ++ filter (stays dead.now) (drop from self.now.entries) }
     {
+        let span = span_of(dead);
+        let mut near = None;
         for place in from..self.places.len() {
-            if is_dead(dead, self.places[place]) {
+            let (gone, next) = is_dead(dead, span, near, self.places[place]);
+            near = next;
+            if gone {
                 return place;
             }
         }
         self.places.len()
     }
 
-    /// Removes the entries to dead places from this place on, and moves those behind them up.
-    pub fn remove_dead(&mut self, from: usize, dead: &[Tid])
+    /// Places to which no entry leads: those behind these, up to the first that one leads to.
+    #[inline(never)]
+    pub fn gap_behind(&self, tids: &[Tid]) -> Gap
+        ensures { AreOutside result self.now.entries }
+    {
+        let from = number_behind(tids);
+        let ahead = least_ahead(&self.places, from);
+        between(from, from.saturating_add(ahead))
+    }
+
+    /// Removes the entries to dead places from this place on, and moves those behind them up. Says whether there were any.
+    #[inline(never)]
+    pub fn remove_dead(&mut self, from: usize, dead: &[Tid]) -> bool
+        requires in_range { from ≤ length self.old.entries }
+        requires ascending { AreAscending dead.now }
+        ensures entries { self.new.entries
+            ≡ take from self.old.entries
+            ++ filter (stays dead.now) (drop from self.old.entries) }
+        ensures none { result ≡ false → self.new ≡ self.old }
+        ensures shorter { length self.new.entries ≤ length self.old.entries }
+        ensures room { self.old.room ≤ self.new.room }
+    {
+        let first = self.next_dead(from, dead);
+        if first >= self.len() {
+            return false;
+        }
+        // mostly it is the only one
+        self.take_out(first);
+        let next = self.next_dead(first, dead);
+        if next < self.len() {
+            self.remove_more(next, dead);
+        }
+        true
+    }
+
+    /// Takes the entry at this place out, and moves those behind it up.
+    fn take_out(&mut self, place: usize)
+        requires { place < length self.old.entries }
+        ensures entries { self.new.entries ≡ remove self.old.entries place }
+        ensures room { self.old.room ≤ self.new.room }
+    {
+        take_one(&mut self.labels, place);
+        take_one(&mut self.places, place);
+    }
+
+    /// Removes the entries to dead places from this place on, one after another.
+    fn remove_more(&mut self, from: usize, dead: &[Tid])
         requires in_range { from ≤ length self.old.entries }
         requires ascending { AreAscending dead.now }
         ensures entries { self.new.entries
@@ -176,10 +228,14 @@ impl<L: Label> EntryColumns<L> {
         ensures shorter { length self.new.entries ≤ length self.old.entries }
         ensures room { self.old.room ≤ self.new.room }
     {
+        let span = span_of(dead);
+        let mut near = None;
         let mut kept = from;
         for place in from..self.places.len() {
             let tid = self.places[place];
-            if !is_dead(dead, tid) {
+            let (gone, next) = is_dead(dead, span, near, tid);
+            near = next;
+            if !gone {
                 self.labels[kept] = self.labels[place];
                 self.places[kept] = tid;
                 kept += 1;
@@ -214,6 +270,17 @@ fn put<T: Copy>(items: &mut Vec<T>, place: usize, item: T)
     let _done = items.insert(place, item);
 }
 
+/// Takes the item at this place out.
+#[inline(always)]
+fn take_one<T: Copy>(items: &mut Vec<T>, place: usize)
+    requires { place < vec_len items.old }
+    ensures items { items.new.items ≡ remove items.old.items place }
+    ensures capacity { vec_capacity items.old ≤ vec_capacity items.new }
+{
+    items.copy_within(place + 1.., place);
+    items.truncate(items.len() - 1);
+}
+
 /// Moves the items before this place to another list, in the place of all there. There is room for them in memory.
 fn move_part<T: Copy>(items: &mut Vec<T>, place: usize, lower: &mut Vec<T>)
     requires in_range { place ≤ vec_len items.old }
@@ -230,11 +297,91 @@ fn move_part<T: Copy>(items: &mut Vec<T>, place: usize, lower: &mut Vec<T>)
     items.truncate(items.len() - place);
 }
 
-/// Whether this place is dead.
-#[inline(always)]
-fn is_dead(dead: &[Tid], place: ShortTid) -> bool
-    requires { AreAscending dead.now }
-    ensures { IsTrue result ↔ Contains dead.now (long place) }
+/// The number behind that of the last of these places, or another where they are not told apart.
+fn number_behind(tids: &[Tid]) -> u32 {
+    match tids.last() {
+        Some(last) if last.page < PAGES => ShortTid::new(*last).number().saturating_add(1),
+        _ => 0,
+    }
+}
+
+/// How far the first of these numbers is ahead of this one, at least. Those before it count as far ahead, so several places take one test.
+fn least_ahead(places: &[ShortTid], from: u32) -> u32
+    ensures { All (λ p. from ≤ p.number → from + result ≤ p.number) places.now }
 {
-    is_among(dead, &place.long())
+    let mut ahead = u32::MAX;
+    for place in 0..places.len() {
+        let number = places[place].number();
+        ahead = ahead.min(number.wrapping_sub(from));
+    }
+    ahead
+}
+
+/// Numbers from one on, up to so many behind it.
+#[derive(Clone, Copy, Debug)]
+struct Span {
+    least: u64,
+    more: u64,
+}
+
+/// The numbers from that of the first of these places to that of the last.
+#[inline(always)]
+fn span_of(dead: &[Tid]) -> Span
+    requires { AreAscending dead.now }
+    ensures { IsWithin dead.now result.least result.more }
+{
+    let least = least_number(dead);
+    let greatest = greatest_number(dead);
+    Span {
+        least,
+        more: greatest.wrapping_sub(least),
+    }
+}
+
+/// The number of the first of these places.
+#[inline(always)]
+fn least_number(dead: &[Tid]) -> u64
+    requires { AreAscending dead.now }
+    ensures { (p : Short) → Contains dead.now (long p) → result ≤ p.number }
+{
+    match dead.first() {
+        Some(first) => number_of(first),
+        None => 0,
+    }
+}
+
+/// The number of the last of these places.
+#[inline(always)]
+fn greatest_number(dead: &[Tid]) -> u64
+    requires { AreAscending dead.now }
+    ensures { (p : Short) → Contains dead.now (long p) → p.number ≤ result }
+{
+    match dead.last() {
+        Some(last) => number_of(last),
+        None => 0,
+    }
+}
+
+/// The number of this place, be it on one of the pages that are told apart or not.
+#[inline(always)]
+fn number_of(tid: &Tid) -> u64
+    ensures value { result ≡ tid.now.page * 65536 + tid.now.slot }
+    ensures slot { tid.now.slot < 65536 }
+{
+    let slot = tid.slot;
+    u64::from(tid.page) * 65_536 + u64::from(slot)
+}
+
+/// Whether this place is dead, and at which number one behind it would best be looked for. Most are told by one test.
+#[inline(always)]
+fn is_dead(dead: &[Tid], span: Span, near: Option<usize>, place: ShortTid) -> (bool, Option<usize>)
+    requires ascending { AreAscending dead.now }
+    requires within { IsWithin dead.now span.least span.more }
+    ensures { IsTrue result.0 ↔ Contains dead.now (long place) }
+{
+    if u64::from(place.number()).wrapping_sub(span.least) > span.more {
+        return (false, near);
+    }
+    let (gone, next) = look_for(dead, &place.long(), near);
+    (gone, Some(next))
 }

@@ -7,9 +7,11 @@
 #![tactic(auto)]
 
 mod columns;
+mod gap;
 mod label;
 mod short_tid;
 
 pub use columns::{EntryColumns, fits};
+pub use gap::{Gap, all_places, holds, without};
 pub use label::{ColumnLabel, KeyLabel, Label};
 pub use short_tid::PAGES;

@@ -11,8 +11,8 @@ pub const PAGES: u32 = 65_536;
 /// The place of a version on one of these pages.
 #[derive(Clone, Copy, Debug)]
 pub(crate) struct ShortTid {
-    slot: u16,
-    page: u16,
+    /// The page, and then the slot in 16 bits: so numbers have the order of places.
+    number: u32,
 }
 
 impl ShortTid {
@@ -22,10 +22,26 @@ impl ShortTid {
         requires { tid.page < PAGES }
         ensures { long result ≡ tid }
     {
+        let slot = tid.slot;
         ShortTid {
-            slot: tid.slot,
-            page: tid.page as u16,
+            number: tid.page * PAGES + u32::from(slot),
         }
+    }
+
+    /// The place of this number.
+    #[inline(always)]
+    pub(crate) fn numbered(number: u32) -> Self
+        ensures { result.number ≡ number }
+    {
+        ShortTid { number }
+    }
+
+    /// Its number.
+    #[inline(always)]
+    pub(crate) fn number(self) -> u32
+        ensures { result ≡ self.number }
+    {
+        self.number
     }
 
     /// This place as others have it.
@@ -34,8 +50,8 @@ impl ShortTid {
         ensures { result ≡ long self }
     {
         Tid {
-            page: u32::from(self.page),
-            slot: self.slot,
+            page: self.number / PAGES,
+            slot: (self.number % PAGES) as u16,
         }
     }
 }

@@ -1,5 +1,5 @@
 pub mod ApartLemmas
-pub mod BoundLemmas
 pub mod BracketLemmas
+pub mod GapLemmas
 pub mod LeafLemmas
 pub mod ListLemmas

@@ -1,6 +1,6 @@
 //! A leaf: entries that stand together in memory.
 
-ghost use Rattle.std.specs.Prelude.{◌≡◌, ◌<◌, ◌≤◌, ◌+◌, ◌-◌, ◌++◌, ◌⊎◌, ◌↔◌, length, take, drop, not, IfOk, IfErr, IfSome, IfNone, IsTrue, OnOk, OnErr, Some, slice_get, vec_len, vec_capacity};
+ghost use Rattle.std.specs.Prelude.{◌≡◌, ◌<◌, ◌≤◌, ◌+◌, ◌-◌, ◌++◌, ◌⊎◌, ◌↔◌, length, take, drop, not, IfOk, IfErr, IfSome, IfNone, IsTrue, OnOk, OnErr, Some, false, slice_get, vec_len, vec_capacity};
 ghost use Rattle.std.proofs.Common.{arith};
 ghost use Rattle.std.proofs.lemmas.List.{nil_from_length};
 ghost use Rattle.std.specs.List.{insert, filter};
@@ -9,13 +9,12 @@ ghost use Rattle.index_entries.specs.Order.{IsAscending};
 ghost use Rattle.index_entries.specs.Sets.{IsAt, IsEndAt, IsGapFor, GoesBehind, GoesBefore};
 ghost use Rattle.index_entries.specs.Lists.{IsFirst, IsLast, stays};
 ghost use Rattle.entry_columns.specs.Fits.{Fits};
-ghost use Rattle.index_leaves.specs.Bounds.{AreOn};
 ghost use Rattle.index_leaves.specs.Lists.{halves_more, long_leaves, Outgrows, IsSmallAndFull, HaveListPlaces};
 ghost use Rattle.dead_places.specs.Places.{AreAscending};
 
 use crate::spare_lists::SpareLists;
-use dead_places::{DeadSet, NO_PAGES, PageBounds, widen};
-use entry_columns::{EntryColumns, Label};
+use dead_places::DeadSet;
+use entry_columns::{EntryColumns, Gap, Label, all_places, holds, without};
 use index_entries::{Entry, HALF, Half, MOST_PARTS, Node, Swept, compare, is_before, is_same};
 use std::alloc::{AllocError, Global};
 use std::marker::Model;
@@ -29,11 +28,11 @@ pub struct Leaf<L: Label> {
     /// The first entry, if there is one. A search that passes this leaf looks at nothing else of it, and the leaves of a branch
     /// stand together in memory, where their entries don't.
     first: Entry,
-    /// The last entry, if there is one. So a sweep passes a leaf without a look at its entries, where they lead to other pages.
+    /// The last entry, if there is one. So a sweep passes a leaf without a look at its entries, where none leads to a dead place.
     last: Entry,
     entries: EntryColumns<L>,
-    /// The entries lead to these pages.
-    pages: PageBounds,
+    /// No entry leads to these places.
+    gap: Gap,
     /// How far the last value was behind the first when one of them was put there: a hint where to look.
     spread: u64,
 }
@@ -46,7 +45,7 @@ impl<L: Label> Model for Leaf<L> {
 
     ghost view = { λ l. l.entries };
 
-    ghost invariant = { λ l. IsLeaf l.first l.last l.entries.entries l.pages };
+    ghost invariant = { λ l. IsLeaf l.first l.last l.entries.entries l.gap };
 }
 
 impl<L: Label> Node for Leaf<L> {
@@ -90,14 +89,14 @@ impl<L: Label> Node for Leaf<L> {
             first: none,
             last: none,
             entries,
-            pages: NO_PAGES,
+            gap: all_places(),
             spread: 0,
         })
     }
 
     fn clear(&mut self) {
         self.entries.clear();
-        self.pages = NO_PAGES;
+        self.gap = all_places();
     }
 
     fn len(&self) -> usize {
@@ -151,8 +150,7 @@ impl<L: Label> Node for Leaf<L> {
         self.first = first_or(&self.entries, self.first);
         upper.last = last_or(&upper.entries, self.last);
         self.last = last_or(&self.entries, self.last);
-        upper.pages = bounds_of(&upper.entries);
-        self.pages = bounds_of(&self.entries);
+        upper.gap = self.gap;
         upper.spread = spread_between(&upper.first, &upper.last);
         self.spread = spread_between(&self.first, &self.last);
         if position < HALF {
@@ -177,7 +175,7 @@ impl<L: Label> Node for Leaf<L> {
         self.entries.insert(position, entry);
         self.first = first_with(self.first, position, entry);
         self.last = last_with(self.last, count, position, entry);
-        self.pages = widen(self.pages, entry.tid);
+        self.gap = without(self.gap, entry.tid);
         self.spread = spread_between(&self.first, &self.last);
         Ok(())
     }
@@ -194,21 +192,18 @@ impl<L: Label> Node for Leaf<L> {
             return None;
         }
         let last = self.last;
-        let near = dead.on_pages(self.pages);
-        let goes = next_to_go(&self.entries, position, near);
-        if goes == count {
-            return Some(Swept {
-                last,
-                at: count - 1,
-                removed: 0,
-                more: false,
-            });
+        dead.fact_ascending();
+        let dead = dead.as_slice();
+        if holds(self.gap, dead) {
+            return Some(unchanged(last, count));
         }
-        self.entries.remove_dead(goes, near);
+        self.gap = self.entries.gap_behind(dead);
+        if !self.entries.remove_dead(position, dead) {
+            return Some(unchanged(last, count));
+        }
         spares.take_back(&mut self.entries);
         self.first = first_or(&self.entries, self.first);
         self.last = last_or(&self.entries, last);
-        self.pages = bounds_of(&self.entries);
         self.spread = spread_between(&self.first, &self.last);
         let removed = (count - self.entries.len()) as u64;
         Some(Swept {
@@ -248,6 +243,21 @@ impl<L: Label> Node for Leaf<L> {
     ghost within = { λ l position within. within };
 
     ghost fewer = { λ spares k enough. omega (arith, enough) };
+}
+
+/// What a sweep did that removed none of so many entries.
+#[inline(always)]
+fn unchanged(last: Entry, count: usize) -> Swept<usize>
+    ensures last { result.last ≡ last }
+    ensures removed { result.removed ≡ 0 }
+    ensures more { result.more ≡ false }
+{
+    Swept {
+        last,
+        at: count.saturating_sub(1),
+        removed: 0,
+        more: false,
+    }
 }
 
 /// Sees to a place for one more entry. With the first of all a large list is set aside, for the leaf that outgrows its own next.
@@ -304,18 +314,6 @@ fn last_with(last: Entry, count: usize, place: usize, entry: Entry) -> Entry
     ensures before { place < count → result ≡ last }
 {
     if place == count { entry } else { last }
-}
-
-/// The pages that these entries lead to.
-fn bounds_of<L: Label>(entries: &EntryColumns<L>) -> PageBounds
-    ensures { AreOn result entries.now.entries }
-{
-    let mut bounds = NO_PAGES;
-    for place in 0..entries.len() {
-        let entry = entries.at(place);
-        bounds = widen(bounds, entry.tid);
-    }
-    bounds
 }
 
 /// How far a value is behind another, where that is less than 2^64.
@@ -507,21 +505,4 @@ fn last_or<L: Label>(entries: &EntryColumns<L>, other: Entry) -> Entry
         Some(last) => last,
         None => other,
     }
-}
-
-/// The first place, from this one on, of an entry that leads to a dead place; the end, where none does.
-fn next_to_go<L: Label>(entries: &EntryColumns<L>, from: usize, dead: &[Tid]) -> usize
-    requires in_range { from ≤ length entries.now.entries }
-    requires ascending { AreAscending dead.now }
-    ensures in_range { result ≤ length entries.now.entries }
-    ensures kept { take result entries.now.entries
-        ++ filter (stays dead.now) (drop result entries.now.entries)
-        ≡ take from entries.now.entries
-        ++ filter (stays dead.now) (drop from entries.now.entries) }
-{
-    // the entries of most leaves lead to other pages
-    if dead.is_empty() {
-        return entries.len();
-    }
-    entries.next_dead(from, dead)
 }

@@ -3,11 +3,11 @@ use Rattle.std.proofs.lemmas.List.Edits.{length-insert}
 use Rattle.index_entries.specs.declared.entry.Entry.{Entry}
 use Rattle.index_entries.specs.Lists.{IsFirst, IsLast}
 use Rattle.entry_columns.specs.Columns.{ColumnsView}
-use Rattle.index_leaves.specs.Bounds.{AreOn}
+use Rattle.entry_columns.specs.Gaps.{AreOutside}
 use Rattle.index_leaves.specs.Keeps.{IsLeaf}
 use Rattle.index_leaves.specs.Lists.{ListsView, Outgrows}
 use Rattle.index_leaves.specs.declared.leaf.Leaf.TheInside.{Inside}
-use Rattle.index_leaves.proofs.BoundLemmas.{on_inserted}
+use Rattle.index_leaves.proofs.GapLemmas.{outside_inserted}
 use Rattle.index_leaves.proofs.ApartLemmas.{first_put, last_put}
 use Rattle.index_leaves.proofs.ListLemmas.{grows_long}
 use Rattle.index_leaves.proofs.leaf.LeafNode.insert.Goals as goal
@@ -19,19 +19,19 @@ invariant_of-self-2 g c =
     let xs = inside.entries.entries in
     let first = c.first_with-self-inside.result in
     let last = c.last_with-self-inside.result in
-    let kept : IsLeaf inside.first inside.last xs inside.pages = elim c.if-count-eq0.branch [
+    let kept : IsLeaf inside.first inside.last xs inside.gap = elim c.if-count-eq0.branch [
       | then-count-eq0+in_ok-make_place w ↦
-          subst (λ (i : Inside g.row.L.Denot). IsLeaf i.first i.last i.entries.entries i.pages) (sym w.self-inside-is)
-          (subst (λ (xs : List Entry). IsLeaf c.self.inside.first c.self.inside.last xs c.self.inside.pages) (sym w.make_place.ensures.entries) c.self.invariant)
-      | else-count-eq0 w ↦ subst (λ (i : Inside g.row.L.Denot). IsLeaf i.first i.last i.entries.entries i.pages) (sym w.self-inside-is) c.self.invariant
+          subst (λ (i : Inside g.row.L.Denot). IsLeaf i.first i.last i.entries.entries i.gap) (sym w.self-inside-is)
+          (subst (λ (xs : List Entry). IsLeaf c.self.inside.first c.self.inside.last xs c.self.inside.gap) (sym w.make_place.ensures.entries) c.self.invariant)
+      | else-count-eq0 w ↦ subst (λ (i : Inside g.row.L.Denot). IsLeaf i.first i.last i.entries.entries i.gap) (sym w.self-inside-is) c.self.invariant
     ] in
     record {
       apart = subst (IsFirst first) (sym c.insert.ensures.entries)
           (first_put inside.first first c.args.entry xs c.args.position (search rules) kept.apart c.first_with-self-inside.ensures.front c.first_with-self-inside.ensures.behind);
       last_apart = subst (IsLast last) (sym c.insert.ensures.entries)
           (last_put inside.last last c.args.entry xs c.args.position (search rules) kept.last_apart (search rules) (search rules));
-      bounded = subst (AreOn c.widen-self-inside.result) (sym c.insert.ensures.entries)
-          (on_inserted inside.pages c.widen-self-inside.result xs c.args.position c.args.entry kept.bounded c.widen-self-inside.ensures.kept c.widen-self-inside.ensures.on);
+      outside = subst (AreOutside c.without-self-inside.result) (sym c.insert.ensures.entries)
+          (outside_inserted inside.gap c.without-self-inside.result xs c.args.position c.args.entry kept.outside c.without-self-inside.ensures.kept c.without-self-inside.ensures.out);
     }
 
 -- a list that was set aside is taken for a leaf that is long then

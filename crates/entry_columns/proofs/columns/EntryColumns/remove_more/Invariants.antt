@@ -1,6 +1,6 @@
 use Rattle.std.proofs.Common.{vec_capacity}
 use Rattle.entry_columns.proofs.RemovalLemmas.{IsRemoving}
-use Rattle.entry_columns.proofs.columns.EntryColumns.remove_dead.Given as goal
+use Rattle.entry_columns.proofs.columns.EntryColumns.remove_more.Given as goal
 
 abbrev pub invariant-loop-place : goal.invariant-loop-place
 invariant-loop-place g l =

@@ -1,0 +1,150 @@
+-- Places by their numbers, and what lies in a gap.
+use Rattle.std.proofs.Common.{◌≡◌, ◌∙◌, ℕ, ◌+◌, ◌-◌, ◌*◌, ◌/◌, ◌%◌, ◌<◌, ◌≤◌, not, inl, inr, ℤ, List, [], ◌∷◌, length, get_or, take, true, Bool, Some, slice_get, sym, ap, subst, arith, Contains}
+use Rattle.std.specs.List.{All}
+use Rattle.std.specs.Cmp.{nat_cmp_is}
+use Rattle.std.specs.Ordering.{nat_cmp, ordering_then, is_lt}
+use Rattle.std.specs.declared.cmp.Ordering.{Ordering}
+use Rattle.std.specs.declared.cmp.Ordering.TheVariants.{Less, Equal}
+use Rattle.std.proofs.lemmas.Bool.{cases_lt}
+use Rattle.std.proofs.lemmas.Cmp.{ranked}
+use Rattle.std.proofs.lemmas.List.Elements.{All-cons, All-head, All-tail, All-weaker, All-more}
+use Rattle.std.proofs.lemmas.Option.{slice_get-get_or}
+use Rattle.xid_circle.specs.declared.Tid.{Tid}
+use Rattle.dead_places.specs.Places.{place_order, PlacePrecedes, AreAscending}
+use Rattle.dead_places.proofs.PlaceLemmas.{less_both, less_from_test, PlacePrecedes-trans, PlacePrecedes-not_back, not_before_itself, ascending-at, same_number}
+use Rattle.index_entries.specs.declared.entry.Entry.{Entry}
+use Rattle.entry_columns.specs.declared.gap.Gap.{Gap}
+use Rattle.entry_columns.specs.declared.short_tid.ShortTid.{ShortTid}
+use Rattle.entry_columns.specs.Columns.{long, entry_with, entries_with}
+use Rattle.entry_columns.specs.Gaps.{IsInside, AreOutside}
+
+-- Numbers have the order of places.
+
+pub order : (p q : ShortTid) → p.number < q.number → PlacePrecedes (long p) (long q)
+order p q less =
+    let a = p.number in
+    let b = q.number in
+    elim (cases_lt (a / 65536) (b / 65536)) [
+      | inl lower ↦ ap (λ o. ordering_then o (nat_cmp (a % 65536) (b % 65536))) (sym (nat_cmp_is (a / 65536) (b / 65536) Less lower))
+      | inr other ↦
+          let same : a / 65536 ≡ b / 65536 = omega arith in
+          let slot : a % 65536 < b % 65536 = omega arith in
+          ap (λ o. ordering_then o (nat_cmp (a % 65536) (b % 65536))) (sym (nat_cmp_is (a / 65536) (b / 65536) Equal same)) ∙ sym (nat_cmp_is (a % 65536) (b % 65536) Less slot)
+    ]
+
+pub order_back : (p q : ShortTid) → PlacePrecedes (long p) (long q) → p.number < q.number
+order_back p q before = elim (cases_lt p.number q.number) [
+  | inl less ↦ less
+  | inr not_less ↦ elim (cases_lt q.number p.number) [
+    | inl more ↦ absurd (PlacePrecedes-not_back (long p) (long q) before (order q p more))
+    | inr not_more ↦ absurd (let same : p.number ≡ q.number = omega arith in
+        not_before_itself (long q) (subst (λ n. PlacePrecedes (record { page = n / 65536; slot = n % 65536 }) (long q)) same before))
+  ]
+]
+
+pub before_more : (t : Tid) (p q : ShortTid) → p.number ≤ q.number → PlacePrecedes t (long p) → PlacePrecedes t (long q)
+before_more t p q le before = elim (cases_lt p.number q.number) [
+  | inl less ↦ PlacePrecedes-trans t (long p) (long q) before (order p q less)
+  | inr other ↦ let same : p.number ≡ q.number = omega arith in subst (λ n. PlacePrecedes t (record { page = n / 65536; slot = n % 65536 })) same before
+]
+
+-- All of ascending places.
+
+number_in : (xs : List Tid) (t : Tid) → Contains xs t → (k : ℕ) × (k < length xs) × (slice_get xs k ≡ Some t)
+number_in xs t (k, within, is) = (k, within, slice_get-get_or xs k t within ∙ ap Some is)
+
+pub all_from : (xs : List Tid) (first x : Tid) → AreAscending xs → slice_get xs 0 ≡ Some first → ¬ PlacePrecedes first x → (t : Tid) → Contains xs t → ¬ PlacePrecedes t x
+all_from xs first x up at from t there before =
+    let p = number_in xs t there in
+    elim (cases_lt 0 p.0) [
+      | inl later ↦ from (PlacePrecedes-trans first t x (ascending-at xs 0 p.0 first t up later at p.2) before)
+      | inr other ↦ from (subst (λ (u : Tid). PlacePrecedes u x) (sym (same_number xs 0 p.0 first t (omega arith) at p.2)) before)
+    ]
+
+pub all_before : (xs : List Tid) (last x : Tid) → AreAscending xs → slice_get xs (length xs - 1) ≡ Some last → PlacePrecedes last x → (t : Tid) → Contains xs t → PlacePrecedes t x
+all_before xs last x up at before t there =
+    let p = number_in xs t there in
+    elim (cases_lt p.0 (length xs - 1)) [
+      | inl earlier ↦ PlacePrecedes-trans t last x (ascending-at xs p.0 (length xs - 1) t last up earlier p.2 at) before
+      | inr other ↦ subst (λ (u : Tid). PlacePrecedes u x) (same_number xs (length xs - 1) p.0 last t (omega (arith, other, p.1)) at p.2) before
+    ]
+
+-- Numbers ahead of one.
+
+abbrev pub AreAhead : ℕ → ℕ → List ShortTid → Type 0
+AreAhead from ahead places = All (λ (p : ShortTid). from ≤ p.number → from + ahead ≤ p.number) places
+
+pub ahead_more : (from ahead ahead' : ℕ) (ps : List ShortTid) (i : ℕ) (d : ShortTid) → i < length ps → AreAhead from ahead (take i ps) → ahead' ≤ ahead
+    → (from ≤ (get_or ps i d).number → from + ahead' ≤ (get_or ps i d).number) → AreAhead from ahead' (take (i + 1) ps)
+ahead_more from ahead ahead' ps i d within so_far less here =
+    All-more (λ (q : ShortTid). from ≤ q.number → from + ahead' ≤ q.number) ps i d within
+    (All-weaker (λ (q : ShortTid). from ≤ q.number → from + ahead ≤ q.number) (λ (q : ShortTid). from ≤ q.number → from + ahead' ≤ q.number) (λ q is le. let was = is le in omega (arith, was, less)) (take i ps) so_far)
+    here
+
+-- what is ahead of the first place by as much as the last is not before the last
+not_inside : (gap : Gap) (p : ShortTid) → (gap.from.number ≤ p.number → gap.to.number ≤ p.number) → ¬ IsInside gap (long p)
+not_inside gap p ahead inside = elim (cases_lt p.number gap.from.number) [
+  | inl before ↦ inside.0 (order p gap.from before)
+  | inr from ↦ absurd (let past = ahead (omega arith) in let less = order_back p gap.to inside.1 in omega (arith, past, less))
+]
+
+pub outside : {L : Type 0} (value : L → ℤ) (key : L → ℕ) (gap : Gap) (ls : List L) (ps : List ShortTid) → All (λ (p : ShortTid). gap.from.number ≤ p.number → gap.to.number ≤ p.number) ps
+    → AreOutside gap (entries_with value key ls ps)
+outside value key gap [] ps ahead = λ k d within. absurd (omega (arith, within))
+outside value key gap (l ∷ ls) [] ahead = λ k d within. absurd (omega (arith, within))
+outside value key gap (l ∷ ls) (p ∷ ps) ahead =
+    All-cons (λ (e : Entry). ¬ IsInside gap e.tid) (entry_with value key l p) (entries_with value key ls ps)
+    (not_inside gap p (All-head (λ (p : ShortTid). gap.from.number ≤ p.number → gap.to.number ≤ p.number) p ps ahead))
+    (outside value key gap ls ps (All-tail (λ (p : ShortTid). gap.from.number ≤ p.number → gap.to.number ≤ p.number) p ps ahead))
+
+-- What a comparison of places tells.
+
+pub is_before : (a x y : Tid) (b : Bool) (o : Ordering) → y ≡ x → o ≡ place_order a y → b ≡ is_lt o → b ≡ true → PlacePrecedes a x
+is_before a x y b o same of_o of_b holds = less_from_test (place_order a x) (ap (λ z. is_lt (place_order a z)) (sym same) ∙ ap is_lt (sym of_o) ∙ sym of_b ∙ holds)
+
+pub not_before : (a x y : Tid) (b : Bool) (o : Ordering) → y ≡ x → o ≡ place_order a y → b ≡ is_lt o → not b ≡ true → ¬ PlacePrecedes a x
+not_before a x y b o same of_o of_b holds before =
+    let is : b ≡ true = of_b ∙ ap is_lt (of_o ∙ ap (place_order a) same ∙ before) in
+    absurd (cc (is, holds))
+
+-- Of ascending places the first has the least number, and the last the greatest.
+
+ahead_of : (a : Tid) (p : ShortTid) → a.slot < 65536 → PlacePrecedes a (long p) → a.page * 65536 + a.slot ≤ p.number
+ahead_of a p small before = elim (less_both (nat_cmp a.page (p.number / 65536)) (nat_cmp a.slot (p.number % 65536)) before) [
+  | inl less ↦ let lower : a.page < p.number / 65536 = ranked a.page (p.number / 65536) Less (sym less) in omega arith
+  | inr both ↦
+      let same : a.page ≡ p.number / 65536 = ranked a.page (p.number / 65536) Equal (sym both.0) in
+      let lower : a.slot < p.number % 65536 = ranked a.slot (p.number % 65536) Less (sym both.1) in
+      omega arith
+]
+
+behind_of : (a : Tid) (p : ShortTid) → PlacePrecedes (long p) a → p.number ≤ a.page * 65536 + a.slot
+behind_of a p before = elim (less_both (nat_cmp (p.number / 65536) a.page) (nat_cmp (p.number % 65536) a.slot) before) [
+  | inl less ↦ let lower : p.number / 65536 < a.page = ranked (p.number / 65536) a.page Less (sym less) in omega arith
+  | inr both ↦
+      let same : p.number / 65536 ≡ a.page = ranked (p.number / 65536) a.page Equal (sym both.0) in
+      let lower : p.number % 65536 < a.slot = ranked (p.number % 65536) a.slot Less (sym both.1) in
+      omega arith
+]
+
+number_is : (a : Tid) (p : ShortTid) → a ≡ long p → a.page * 65536 + a.slot ≡ p.number
+number_is a p same =
+    let page : a.page ≡ p.number / 65536 = ap (λ (t : Tid). t.page) same in
+    let slot : a.slot ≡ p.number % 65536 = ap (λ (t : Tid). t.slot) same in
+    omega arith
+
+pub from_least : (xs : List Tid) (first : Tid) (p : ShortTid) → AreAscending xs → slice_get xs 0 ≡ Some first → first.slot < 65536 → Contains xs (long p) → first.page * 65536 + first.slot ≤ p.number
+from_least xs first p up at small there =
+    let q = number_in xs (long p) there in
+    elim (cases_lt 0 q.0) [
+      | inl later ↦ ahead_of first p small (ascending-at xs 0 q.0 first (long p) up later at q.2)
+      | inr other ↦ let same = number_is first p (same_number xs 0 q.0 first (long p) (omega arith) at q.2) in omega (arith, same)
+    ]
+
+pub to_greatest : (xs : List Tid) (last : Tid) (p : ShortTid) → AreAscending xs → slice_get xs (length xs - 1) ≡ Some last → Contains xs (long p) → p.number ≤ last.page * 65536 + last.slot
+to_greatest xs last p up at there =
+    let q = number_in xs (long p) there in
+    elim (cases_lt q.0 (length xs - 1)) [
+      | inl earlier ↦ behind_of last p (ascending-at xs q.0 (length xs - 1) (long p) last up earlier q.2 at)
+      | inr other ↦ let same = number_is last p (same_number xs (length xs - 1) q.0 last (long p) (omega (arith, other, q.1)) at q.2) in omega (arith, same)
+    ]

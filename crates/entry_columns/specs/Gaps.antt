@@ -1,0 +1,21 @@
+-- Places in a row to which no entry leads.
+use Rattle.std.specs.Prelude.{◌≤◌, ◌+◌, ℕ, List, Contains}
+use Rattle.std.specs.List.{All}
+use Rattle.xid_circle.specs.declared.Tid.{Tid}
+use Rattle.dead_places.specs.Places.{PlacePrecedes}
+use Rattle.index_entries.specs.declared.entry.Entry.{Entry}
+use Rattle.entry_columns.specs.declared.gap.Gap.{Gap}
+use Rattle.entry_columns.specs.declared.short_tid.ShortTid.{ShortTid}
+use Rattle.entry_columns.specs.Columns.{long}
+
+-- the place is from the first of them on, and before the end
+abbrev pub IsInside : Gap → Tid → Type 0
+IsInside gap t = (¬ PlacePrecedes t (long gap.from)) × PlacePrecedes t (long gap.to)
+
+-- no entry leads to one of them
+abbrev pub AreOutside : Gap → List Entry → Type 0
+AreOutside gap entries = All (λ e. ¬ IsInside gap e.tid) entries
+
+-- the numbers of all of these places that have one are from the least on, up to so many behind it
+abbrev pub IsWithin : List Tid → ℕ → ℕ → Type 0
+IsWithin tids least more = (p : ShortTid) → Contains tids (long p) → (least ≤ p.number) × (p.number ≤ least + more)
