@@ -28,11 +28,6 @@ HasBody (step.Update s row) = 0 < length row.body
 HasBody (step.ApplyPlan p plan) = 0 < length plan.actions
 HasBody step = ⊥
 
--- it puts a row into the table
-abbrev pub IsPut : WriteStep → Type 0
-IsPut (deletes k) = ⊥
-IsPut write = Unit {0}
-
 -- the row that is found of its key, or that there is none, is what it asks for, and the row that it puts fits
 abbrev pub Asks : WriteStep → Option Row → Type 0
 Asks (inserts row) found = FitsRow row × (found ≡ None)

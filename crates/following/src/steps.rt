@@ -3,7 +3,7 @@
 ghost use Rattle.std.specs.Prelude.{◌≡◌, OnOk, OnErr};
 ghost use Rattle.refinement.specs.Allowed.{AllowsReply, after_reply};
 ghost use Rattle.plain_history.specs.Plain.{world_of};
-ghost use Rattle.history.specs.Moves.{change, with_row, without_row, with_savepoint, without_savepoint};
+ghost use Rattle.history.specs.Moves.{change, with_savepoint, without_savepoint, with_write};
 ghost use Rattle.plain_history.specs.Answers.{with_plain_cursor};
 ghost use Rattle.calls.specs.Words.{FitsRow, row_of};
 ghost use Rattle.following.specs.Following.{TakesMemory, TakesNoMemory, after_refused, with_wait};
@@ -83,7 +83,8 @@ fn restore(plain: &mut PlainHistory, s: u8, wait: Option<u8>)
 // Where memory is refused all is as it was.
 fn put_row(plain: &mut PlainHistory, s: u8, row: Row) -> Result<(), NoMemory>
     ensures ok { OnOk result
-        (world_of plain.new ≡ change (world_of plain.old) s (with_row plain.old.history row)) }
+        (world_of plain.new
+        ≡ change (world_of plain.old) s (with_write plain.old.history row.key (Some row))) }
     ensures err { OnErr result (world_of plain.new ≡ world_of plain.old) }
 {
     let wait = plain.wait_of(s);
@@ -98,7 +99,8 @@ fn put_row(plain: &mut PlainHistory, s: u8, row: Row) -> Result<(), NoMemory>
 
 fn take_row(plain: &mut PlainHistory, s: u8, key: u64) -> Result<(), NoMemory>
     ensures ok { OnOk result
-        (world_of plain.new ≡ change (world_of plain.old) s (without_row plain.old.history key)) }
+        (world_of plain.new
+        ≡ change (world_of plain.old) s (with_write plain.old.history key None)) }
     ensures err { OnErr result (world_of plain.new ≡ world_of plain.old) }
 {
     let wait = plain.wait_of(s);

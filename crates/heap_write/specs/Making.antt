@@ -15,6 +15,4 @@ pub record MakesIndex (h h' : HeapView) (column : ℕ) : Type 0 where
   pub since : since_at h'.indexes (suc column) ≡ Some (next_id h.statuses)
   pub others : (n : ℕ) → n ≢ suc column → entries_at h'.indexes n ≡ entries_at h.indexes n
   pub others_since : (n : ℕ) → n ≢ suc column → since_at h'.indexes n ≡ since_at h.indexes n
-  pub pages : h'.pages ≡ h.pages
-  pub statuses : h'.statuses ≡ h.statuses
-  pub max_pages : h'.max_pages ≡ h.max_pages
+  pub is : h' ≡ record h { indexes = h'.indexes }

@@ -67,15 +67,9 @@ abbrev pub add_write : Write → List (List Write) → List (List Write)
 add_write write [] = (write ∷ []) ∷ []
 add_write write (level ∷ older) = (level ++ write ∷ []) ∷ older
 
--- it keeps the start of its statement, and the session has written from now on
+-- the key has this row, or none where it is deleted; the write keeps the start of its statement, and the session has written from now on
 abbrev pub with_write : List Transaction → ℕ → Option Row → OpenSession → OpenSession
 with_write history key row m = record m { levels = add_write (record { start = start_now history m; key = key; row = row }) m.levels; has_written = true }
-
-abbrev pub with_row : List Transaction → Row → OpenSession → OpenSession
-with_row history row m = with_write history row.key (Some row) m
-
-abbrev pub without_row : List Transaction → ℕ → OpenSession → OpenSession
-without_row history key m = with_write history key None m
 
 -- the session can only be rolled back
 abbrev pub as_failed : OpenSession → OpenSession
@@ -125,11 +119,8 @@ abbrev pub opened : List Transaction → Order → ((ℕ → Option Row) → ℕ
 opened history order within m = record m { cursor = Some (record { order = order; rest = within (view history m) }) }
 
 -- the cursor has handed out the rows of these keys
-abbrev pub past : List ℕ → Cursor → Cursor
-past keys cursor = record cursor { rest = without keys cursor.rest }
-
 abbrev pub with_taken : List ℕ → OpenSession → OpenSession
-with_taken keys m = record m { cursor = option_map (past keys) m.cursor }
+with_taken keys m = record m { cursor = option_map (λ (c : Cursor). record c { rest = without keys c.rest }) m.cursor }
 
 abbrev pub without_cursor : OpenSession → OpenSession
 without_cursor m = record m { cursor = None }

@@ -1,7 +1,6 @@
 -- To believe, 2 of 5 (docs/reading.md).
 -- The history and the sessions that are open on it.
 use Rattle.std.specs.Prelude.{◌≡◌, ◌≢◌, ℕ, suc, ◌<◌, List, [], ◌∷◌, ◌++◌, length, Option, Some, None, Bool, true, false, IsSome, slice_index_or}
-use Rattle.xid_circle.specs.Numbers.{SessionNo, Key}
 use Rattle.xid_circle.specs.Following.{ReachesIn}
 use Rattle.tuple_header.specs.declared.version.Row.{Row}
 use Rattle.calls.specs.Bars.{SessionLooks}
@@ -88,20 +87,16 @@ Holds w s key = (m : OpenSession) × (w.session s ≡ Some m) × IsSome (own_wri
 abbrev pub SomeoneHasWritten : World → Type 0
 SomeoneHasWritten w = (s : ℕ) × (m : OpenSession) × (w.session s ≡ Some m) × (m.has_written ≡ true)
 
--- none has
-abbrev pub NobodyHasWritten : World → Type 0
-NobodyHasWritten w = (s : ℕ) (m : OpenSession) → w.session s ≡ Some m → m.has_written ≡ false
-
 -- there is no index of the column, and may be one
 abbrev pub LacksIndex : World → (column : ℕ) → Type 0
 LacksIndex w c = (c < 4) × (w.has_index (suc c) ≡ false)
 
 -- the index of the column may be made, or is there
 abbrev pub MayIndex : World → (column : ℕ) → Type 0
-MayIndex w c = (c < 4) × (w.has_index (suc c) ≡ false → NobodyHasWritten w)
+MayIndex w c = (c < 4) × (w.has_index (suc c) ≡ false → ¬ SomeoneHasWritten w)
 
 -- were s to wait for o, the waits, followed from o, would close a ring ("Deadlocks" in the manual's section on explicit locking)
-abbrev pub ClosesRing : (waits : SessionNo → Option SessionNo) → SessionNo → SessionNo → Type 0
+abbrev pub ClosesRing : (waits : ℕ → Option ℕ) → (s o : ℕ) → Type 0
 ClosesRing waits s o = (i : ℕ) × ReachesIn waits i o s
 
 -- the index is there, and not too new for the session
@@ -125,7 +120,7 @@ pub record MayWrite (w : World) (s key : ℕ) (m : OpenSession) : Type 0 where
   pub unheld : (o : ℕ) → o ≢ s → ¬ Holds w o key
 
 -- its write of the key has to wait for the session o, which holds it
-pub record IsBlocked (w : World) (s : SessionNo) (key : Key) (o : SessionNo) (m : OpenSession) : Type 0 where
+pub record IsBlocked (w : World) (s key o : ℕ) (m : OpenSession) : Type 0 where
   pub writer : IsWriter w s m
   pub in_time : ¬ IsLate w.history (start_now w.history m) key
   pub other : o ≢ s

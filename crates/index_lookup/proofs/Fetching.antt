@@ -60,16 +60,8 @@ pub row-found : (w : Window) (seen : Header → Type 0) (pages : List (List Slot
     → IsFirstPlace w seen pages entries value key q → answer ≡ option_map (λ (t : Version). t.row) (version_in pages q) → FirstFound w seen pages entries value key answer
 row-found w seen pages entries value key q answer f is =
     let s = f.seen_at in
-    let there = seen-there w seen pages f.entry.tid q s in
-    subst (FirstFound w seen pages entries value key) (sym (is ∙ ap (option_map (λ (t : Version). t.row)) there)) (record {
-      entry = f.entry;
-      there = f.there;
-      of = f.of;
-      version = s.seen_in.version;
-      fetched = (s.chain, s.is_chain, (s.seen_in.index, s.seen_in.first));
-      is_row = refl;
-      none_before = f.none_before;
-    })
+    let row = ap (option_map (λ (t : Version). t.row)) (seen-there w seen pages f.entry.tid q s) in
+    subst (FirstFound w seen pages entries value key) (sym (is ∙ row)) (q, f, row)
 
 -- By the first entry of a value and a key.
 

@@ -6,7 +6,7 @@ use Rattle.tuple_header.specs.Version.{Version}
 use Rattle.tuple_header.specs.declared.version.Header.{Header}
 use Rattle.tuple_header.specs.declared.version.Row.{Row}
 use Rattle.page_sheet.specs.declared.slot.Slot.{Slot}
-use Rattle.page_sheet.specs.Slots.{version_at}
+use Rattle.page_sheet.specs.Slots.{version_at, row_at}
 use Rattle.commit_status.specs.Window.{Window}
 use Rattle.hot_chain.specs.Chain.{has_aborted, IsChain, NoneSeen, IsSeenIn, Fetched}
 use Rattle.index_entries.specs.declared.entry.Entry.{Entry}
@@ -26,21 +26,8 @@ IsFirstOf entries first = IsNextOf entries first.value first.key None (Some firs
 abbrev pub FetchedAt : Window → (Header → Type 0) → List (List Slot) → Tid → Option Version → Type 0
 FetchedAt w seen pages p answer = Fetched (has_aborted w) seen (slots_on pages p.page) p.slot answer
 
--- the row of the first version that is seen, by the entries in their order, and by the chain of each
-pub record IsFirstFound (w : Window) (seen : Header → Type 0) (pages : List (List Slot)) (entries : List Entry) (value : ℤ) (key : ℕ) (row : Row) : Type 0 where
-  pub entry : Entry
-  pub there : Contains entries entry
-  pub of : IsOf value key entry
-  pub version : Version
-  pub fetched : FetchedAt w seen pages entry.tid (Some version)
-  pub is_row : row ≡ version.row
-  pub none_before : (e : Entry) → Contains entries e → IsOf value key e → EntryPrecedes e entry → FetchedAt w seen pages e.tid None
-
 abbrev pub NoneFound : Window → (Header → Type 0) → List (List Slot) → List Entry → ℤ → ℕ → Type 0
 NoneFound w seen pages entries value key = (e : Entry) → Contains entries e → IsOf value key e → FetchedAt w seen pages e.tid None
-
-abbrev pub FirstFound : Window → (Header → Type 0) → List (List Slot) → List Entry → ℤ → ℕ → Option Row → Type 0
-FirstFound w seen pages entries value key answer = MatchOption answer (NoneFound w seen pages entries value key) (IsFirstFound w seen pages entries value key)
 
 -- The place of what is found.
 
@@ -76,6 +63,13 @@ pub record IsFirstPlace (w : Window) (seen : Header → Type 0) (pages : List (L
 
 abbrev pub FirstPlace : Window → (Header → Type 0) → List (List Slot) → List Entry → ℤ → ℕ → Option Tid → Type 0
 FirstPlace w seen pages entries value key answer = MatchOption answer (NoneFound w seen pages entries value key) (IsFirstPlace w seen pages entries value key)
+
+-- the row of that version
+abbrev pub IsFirstFound : Window → (Header → Type 0) → List (List Slot) → List Entry → ℤ → ℕ → Row → Type 0
+IsFirstFound w seen pages entries value key row = (q : Tid) × IsFirstPlace w seen pages entries value key q × (row_at (slots_on pages q.page) q.slot ≡ Some row)
+
+abbrev pub FirstFound : Window → (Header → Type 0) → List (List Slot) → List Entry → ℤ → ℕ → Option Row → Type 0
+FirstFound w seen pages entries value key answer = MatchOption answer (NoneFound w seen pages entries value key) (IsFirstFound w seen pages entries value key)
 
 -- Versions that ids made or deleted.
 

@@ -131,11 +131,7 @@ place-listed w pages number p slot entries entries' lists (AddsCurrent.leaves la
 pub some-current : (w : Window) (pages : List (List Slot)) (p slot : ℕ) → SomeFirstCurrent w (slots_on pages p) slot → SomeCurrent w pages
 some-current w pages p slot some =
     let found = first-leads w (slots_on pages p) slot some.version some.is_first in
-    record {
-      place = record { page = p; slot = slot };
-      version = some.version;
-      leads = record { slot = found.0; leads = found.1; there = found.2; current = found.3 };
-    }
+    (record { page = p; slot = slot }, some.version, record { slot = found.0; leads = found.1; there = found.2; current = found.3 })
 
 -- so is each that is listed
 pub some-listed : (w : Window) (pages : List (List Slot)) (number : ℕ) (entries : List Entry) → ListsCurrent w pages number entries → HoldsEntry entries → SomeCurrent w pages

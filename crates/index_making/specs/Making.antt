@@ -39,7 +39,5 @@ pub record ListsCurrent (w : Window) (pages : List (List Slot)) (number : ℕ) (
   pub only : (e : Entry) → Contains entries e → IsOfCurrent w pages number e
 
 -- the table has a current row
-pub record SomeCurrent (w : Window) (pages : List (List Slot)) : Type 0 where
-  pub place : Tid
-  pub version : Version
-  pub leads : LeadsToCurrent w pages place version
+abbrev pub SomeCurrent : Window → List (List Slot) → Type 0
+SomeCurrent w pages = (place : Tid) × (version : Version) × LeadsToCurrent w pages place version

@@ -4,17 +4,16 @@ use Rattle.std.specs.Prelude.{IsSome, IsTrue, ◌↔◌, ℤ}
 use Rattle.std.proofs.lemmas.Bool.{cases_lt}
 use Rattle.std.proofs.lemmas.Option.{same_Some}
 use Rattle.tuple_header.specs.declared.version.TheConstants.{MOST_BODY}
-use Rattle.history.specs.World.{World, OpenSession, view, ClosesRing, IsWriter, MayIndex, world_sessions}
+use Rattle.history.specs.World.{World, OpenSession, ClosesRing, MayIndex, world_sessions}
 use Rattle.calls.specs.declared.step.Step.{Step}
 use Rattle.calls.specs.declared.step.Step.TheVariants as step
 use Rattle.calls.specs.declared.reply.Reply.TheVariants as reply
 use Rattle.calls.specs.declared.reply.Refusal.{Refusal}
 use Rattle.calls.specs.declared.reply.Refusal.TheVariants as refusal
 use Rattle.calls.specs.Words.{RowToWrite, FitsRow}
-use Rattle.calls.specs.Writes.{inserts, updates}
 use Rattle.calls.specs.Bars.{BarsOpen, BarsReady, BarsFree, BarsWithCursor}
 use Rattle.calls.proofs.BarsLemmas.{of_open, of_ready, of_free, of_with_cursor}
-use Rattle.refinement.specs.Allowed.{AllowsReply, Suits, savepoints}
+use Rattle.refinement.specs.Allowed.{AllowsReply, savepoints}
 use Rattle.one_answer.specs.OneAnswer.{IsDue}
 use Rattle.plain_history.specs.declared.refusal.Refused.{Refused}
 use Rattle.plain_history.specs.declared.refusal.Refused.TheVariants.{By}
@@ -55,24 +54,18 @@ update_barred w s row r is = of_free (world_sessions w) s (IsDueAt w (step.Updat
 no_ring : (w : World) (s o : ℕ) → ¬ ClosesRing w.waits_for s o → (t : ℕ) → Some s ≡ Some t → ¬ ClosesRing w.waits_for t o
 no_ring w s o none t same closes = none (subst (λ s. ClosesRing w.waits_for s o) (sym (same_Some s t same)) closes)
 
-insert_suits : (w : World) (s : ℕ) (row : RowToWrite) (m : OpenSession) → FitsRow row → IsWriter w s m → view w.history m row.key ≡ None → Suits w s (inserts row) m
-insert_suits w s row m fits writer none = record { writer = writer; asks = (fits, none) }
-
 pub insert_refused : (w : World) (s : ℕ) (row : RowToWrite) (why : Refused) → FitsRow row → RefusesInsert w s row.key why → IsDueAt w (step.Insert s row) (refusal_of why)
 insert_refused w s row (By refusal.AlreadyThere) fits is = ((is.0, is.1, fits, is.2), λ x. x)
-insert_refused w s row (By refusal.Conflict) fits is = ((is.0, insert_suits w s row is.0 fits is.1 is.2, is.3), λ x. x)
-insert_refused w s row (By (refusal.Busy o)) fits is = (((is.0, insert_suits w s row is.0 fits is.1 is.2, is.3.0), no_ring w s o is.3.1), λ x. x)
-insert_refused w s row refused.Deadlock fits is = ((s, is.3.0, refl, (is.0, insert_suits w s row is.0 fits is.1 is.2, is.3.1), is.3.2), λ x. x)
+insert_refused w s row (By refusal.Conflict) fits is = ((is.0, is.1, (fits, is.2), is.3), λ x. x)
+insert_refused w s row (By (refusal.Busy o)) fits is = (((is.0, (fits, is.2), is.3.0), no_ring w s o is.3.1), λ x. x)
+insert_refused w s row refused.Deadlock fits is = ((s, is.3.0, refl, (is.0, (fits, is.2), is.3.1), is.3.2), λ x. x)
 insert_refused w s row (By r) fits is = insert_barred w s row r is
-
-update_suits : (w : World) (s : ℕ) (row : RowToWrite) (m : OpenSession) → FitsRow row → IsWriter w s m → IsSome (view w.history m row.key) → Suits w s (updates row) m
-update_suits w s row m fits writer some = record { writer = writer; asks = (fits, some) }
 
 pub update_refused : (w : World) (s : ℕ) (row : RowToWrite) (why : Refused) → FitsRow row → RefusesReplace w s row.key why → IsDueAt w (step.Update s row) (refusal_of why)
 update_refused w s row (By refusal.NotThere) fits is = ((is.0, is.1, fits, is.2), λ x. x)
-update_refused w s row (By refusal.Conflict) fits is = ((is.0, update_suits w s row is.0 fits is.1 is.2, is.3), λ x. x)
-update_refused w s row (By (refusal.Busy o)) fits is = (((is.0, update_suits w s row is.0 fits is.1 is.2, is.3.0), no_ring w s o is.3.1), λ x. x)
-update_refused w s row refused.Deadlock fits is = ((s, is.3.0, refl, (is.0, update_suits w s row is.0 fits is.1 is.2, is.3.1), is.3.2), λ x. x)
+update_refused w s row (By refusal.Conflict) fits is = ((is.0, is.1, (fits, is.2), is.3), λ x. x)
+update_refused w s row (By (refusal.Busy o)) fits is = (((is.0, (fits, is.2), is.3.0), no_ring w s o is.3.1), λ x. x)
+update_refused w s row refused.Deadlock fits is = ((s, is.3.0, refl, (is.0, (fits, is.2), is.3.1), is.3.2), λ x. x)
 update_refused w s row (By r) fits is = update_barred w s row r is
 
 -- a transaction ends
@@ -157,6 +150,5 @@ open_keys_refused_by w s low high low' high' r same same' is =
 
 pub never_made : (w : World) (c : ℕ) (r : Refusal) → RefusesMaking w c r → MayIndex w c → ⊥
 never_made w c refusal.NoSuchIndex is may = let lt : c < 4 = may.0 in omega arith
-never_made w c refusal.IndexBusy is may =
-    let none : is.1.1.has_written ≡ false = may.1 is.0.1 is.1.0 is.1.1 is.1.2 in let never : false ≡ true = sym none ∙ is.1.3 in absurd (cc)
+never_made w c refusal.IndexBusy is may = may.1 is.0.1 is.1
 never_made w c _ is may = is

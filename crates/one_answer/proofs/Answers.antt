@@ -5,7 +5,7 @@ use Rattle.std.proofs.lemmas.Option.{same_Some}
 use Rattle.tuple_header.specs.declared.version.Row.{Row}
 use Rattle.tuple_header.specs.declared.version.TheConstants.{MOST_BODY}
 use Rattle.history.specs.History.{IsLate}
-use Rattle.history.specs.World.{World, OpenSession, start_now, view, Holds, ClosesRing}
+use Rattle.history.specs.World.{World, OpenSession, IsWriter, start_now, view, Holds, ClosesRing}
 use Rattle.history.specs.Laws.{HasFew, HeldOnce}
 use Rattle.calls.specs.declared.step.Step.{Step}
 use Rattle.calls.specs.declared.step.Step.TheVariants as step
@@ -14,8 +14,9 @@ use Rattle.calls.specs.declared.reply.Reply.TheVariants as reply
 use Rattle.calls.specs.declared.reply.Refusal.{Refusal}
 use Rattle.calls.specs.declared.reply.Refusal.TheVariants as refusal
 use Rattle.calls.specs.Words.{RowToWrite, FitsRow}
-use Rattle.calls.specs.Writes.{WriteStep, inserts, updates, deletes, key_of, IsPut, Asks}
-use Rattle.refinement.specs.Allowed.{Suits, AllowsHindered, AllowsWrite, AllowsReply}
+use Rattle.calls.specs.Writes.{WriteStep, inserts, updates, deletes, key_of, Asks}
+use Rattle.refinement.specs.Allowed.{AllowsHindered, AllowsWrite, AllowsReply}
+use Rattle.refinement.proofs.Hindrances.{IsPut}
 use Rattle.one_answer.specs.OneAnswer.{IsLeftOpen}
 use Rattle.one_answer.proofs.Tests.{Agrees, same_of, not_both, Or, agree-or, Last, agree-last, AsFree, agree-free, barred_free, past_free}
 
@@ -103,20 +104,20 @@ agree-write w step s write few once = agree-free w step s (Writes w step s write
     (agree-or w step (IsLate w.history (start_now w.history m) (key_of write)) (¬ IsLate w.history (start_now w.history m) (key_of write)) (reply.Refused refusal.Conflict) (Meets w step s (key_of write)) (λ late timely. timely late)
     (agree-meets w step s (key_of write) once))))
 
-suits_past : (w : World) (step : Step) (s : ℕ) (write : WriteStep) (m : OpenSession) (a : Reply) → Suits w s write m → InTime w step s (key_of write) m a → AsFree w s (Writes w step s write) a
-suits_past w step s write m a suits x =
+suits_past : (w : World) (step : Step) (s : ℕ) (write : WriteStep) (m : OpenSession) (a : Reply) → IsWriter w s m → Asks write (view w.history m (key_of write)) → InTime w step s (key_of write) m a → AsFree w s (Writes w step s write) a
+suits_past w step s write m a writer asks x =
     let found = view w.history m (key_of write) in
-    past_free w s (Writes w step s write) m a suits.writer (inr (fits_of write found suits.asks, inr (asked_of write found suits.asks, x)))
+    past_free w s (Writes w step s write) m a writer (inr (fits_of write found asks, inr (asked_of write found asks, x)))
 
 taken : (w : World) (step : Step) (s : ℕ) (write : WriteStep) (a : Reply) → Last w step reply.Done a → AllowsWrite w s write → AsFree w s (Writes w step s write) a
-taken w step s write a last is = suits_past w step s write is.0 a is.1 (inr (is.2.in_time, free is.2.unheld last))
+taken w step s write a last is = suits_past w step s write is.0 a is.2.writer is.1 (inr (is.2.in_time, free is.2.unheld last))
 
 busy : (w : World) (step : Step) (s : ℕ) (write : WriteStep) (o : ℕ) → AllowsHindered w s (refusal.Busy o) write → ¬ ClosesRing w.waits_for s o → AsFree w s (Writes w step s write) (reply.Refused (refusal.Busy o))
-busy w step s write o is isnt = suits_past w step s write is.0 (reply.Refused (refusal.Busy o)) is.1 (inr (is.2.in_time, waits o is.2.other is.2.held isnt refl))
+busy w step s write o is isnt = suits_past w step s write is.0 (reply.Refused (refusal.Busy o)) is.2.writer is.1 (inr (is.2.in_time, waits o is.2.other is.2.held isnt refl))
 
 ring : (w : World) (step : Step) (s t : ℕ) (write : WriteStep) (o : ℕ) → AllowsHindered w s (refusal.Busy o) write → Some s ≡ Some t → ClosesRing w.waits_for t o → AsFree w s (Writes w step s write) (reply.Refused refusal.Deadlock)
 ring w step s t write o is same closes =
-    suits_past w step s write is.0 (reply.Refused refusal.Deadlock) is.1 (inr (is.2.in_time, rings o is.2.other is.2.held (subst (λ s. ClosesRing w.waits_for s o) (sym (same_Some s t same)) closes) refl))
+    suits_past w step s write is.0 (reply.Refused refusal.Deadlock) is.2.writer is.1 (inr (is.2.in_time, rings o is.2.other is.2.held (subst (λ s. ClosesRing w.waits_for s o) (sym (same_Some s t same)) closes) refl))
 
 -- what the step leaves open to the write
 record LeavesOpen (w : World) (step : Step) (write : WriteStep) : Type 0 where
@@ -130,10 +131,12 @@ NotBusy r = Unit {0}
 
 hindered : (w : World) (step : Step) (s : ℕ) (write : WriteStep) → LeavesOpen w step write → (r : Refusal) → NotBusy r → AllowsHindered w s r write → AsFree w s (Writes w step s write) (reply.Refused r)
 hindered w step s write opens (refusal.Busy o) isnt is = absurd isnt
-hindered w step s write opens refusal.Conflict isnt is = suits_past w step s write is.0 (reply.Refused refusal.Conflict) is.1 (inl (is.2, refl))
+hindered w step s write opens refusal.Conflict isnt is = suits_past w step s write is.0 (reply.Refused refusal.Conflict) is.1 is.2 (inl (is.3, refl))
 hindered w step s write opens refusal.NeedsFreeze isnt is = taken w step s write (reply.Refused refusal.NeedsFreeze) (inr opens.ids) is
 hindered w step s write opens refusal.NoMemory isnt is = taken w step s write (reply.Refused refusal.NoMemory) (inr opens.memory) is
-hindered w step s write opens refusal.NoRoom isnt is = taken w step s write (reply.Refused refusal.NoRoom) (inr (opens.room is.3)) (is.0, is.1, is.2)
+hindered w step s (inserts row) opens refusal.NoRoom isnt is = taken w step s (inserts row) (reply.Refused refusal.NoRoom) (inr (opens.room tt)) is
+hindered w step s (updates row) opens refusal.NoRoom isnt is = taken w step s (updates row) (reply.Refused refusal.NoRoom) (inr (opens.room tt)) is
+hindered w step s (deletes k) opens refusal.NoRoom isnt is = absurd is
 hindered w step s (inserts row) opens refusal.TooLarge isnt is = past_free w s (Writes w step s (inserts row)) is.0 (reply.Refused refusal.TooLarge) is.1 (inl (is.2, refl))
 hindered w step s (updates row) opens refusal.TooLarge isnt is = past_free w s (Writes w step s (updates row)) is.0 (reply.Refused refusal.TooLarge) is.1 (inl (is.2, refl))
 hindered w step s (inserts row) opens refusal.AlreadyThere isnt is = past_free w s (Writes w step s (inserts row)) is.0 (reply.Refused refusal.AlreadyThere) is.1 (inr (is.2, inl (is.3, refl)))

@@ -16,10 +16,10 @@ by_it w s m there by = subst (λ (m : OpenSession). m.isolation ≡ by_statement
 pub where_done : (w : World) (step : Step) (r : Refusal) → MakesNone step → AllowsReply w step reply.Done → IsLeftOpen w step (reply.Refused r) → AllowsReply w step (reply.Refused r)
 where_done w (step.Begin s) refusal.NoMemory none is open_ = is
 where_done w (step.Insert s row) refusal.NeedsFreeze none is open_ = is
-where_done w (step.Insert s row) refusal.NoRoom none is open_ = (is.0, is.1, is.2, tt)
+where_done w (step.Insert s row) refusal.NoRoom none is open_ = is
 where_done w (step.Insert s row) refusal.NoMemory none is open_ = is
 where_done w (step.Update s row) refusal.NeedsFreeze none is open_ = is
-where_done w (step.Update s row) refusal.NoRoom none is open_ = (is.0, is.1, is.2, tt)
+where_done w (step.Update s row) refusal.NoRoom none is open_ = is
 where_done w (step.Update s row) refusal.NoMemory none is open_ = is
 where_done w (step.Delete s k) refusal.NeedsFreeze none is open_ = is
 where_done w (step.Delete s k) refusal.NoMemory none is open_ = is

@@ -4,7 +4,7 @@ use Rattle.std.specs.Prelude.{IsSome, ℤ, ◌<ℤ◌, ◌≤ℤ◌}
 use Rattle.std.proofs.lemmas.Int.{ints}
 use Rattle.tuple_header.specs.declared.version.Row.{Row}
 use Rattle.snapshot.specs.declared.own.TheConstants.{MOST_SAVEPOINTS}
-use Rattle.history.specs.World.{World, OpenSession, SomeoneHasWritten, NobodyHasWritten, view}
+use Rattle.history.specs.World.{World, OpenSession, SomeoneHasWritten, view}
 use Rattle.history.specs.Laws.{HasFew}
 use Rattle.calls.specs.declared.step.Step.{Step}
 use Rattle.calls.specs.declared.step.Step.TheVariants as step
@@ -311,8 +311,8 @@ agree-create_index w c = by_tests w it tests tt
     not_barred : w.has_vacuum ≡ false → ¬ IsBarred
     not_barred idle barred = not_both_runs w.has_vacuum idle barred.1
 
-    not_busy : NobodyHasWritten w → ¬ IsBusy
-    not_busy none is = not_both_runs is.1.1.has_written (none is.1.0 is.1.1 is.1.2) is.1.3
+    not_busy : ¬ SomeoneHasWritten w → ¬ IsBusy
+    not_busy none is = none is.1
 
     answers : (a : Reply) → Allows w it a → tests a
     answers reply.Done is = inr (is.0.0, inr (λ barred. not_barred (is.1 barred.0) barred, inr (λ busy. not_busy (is.0.1 busy.0) busy, inl refl)))

@@ -5,7 +5,6 @@ use Rattle.std.specs.List.{list_any, filter}
 use mathlib.Core.Path.{fun_ext}
 use Rattle.std.proofs.lemmas.Bool.{cases_eq, cases_Bool, cond-true, cond-false}
 use Rattle.tuple_header.specs.declared.version.Row.{Row}
-use Rattle.history.specs.Moves.{past}
 use Rattle.history.specs.Cursors.{without}
 use Rattle.plain_cursor.specs.Order.{KeptCursor, row_of_key, ComesBeforeAll, IsInOrder, rows_without}
 use Rattle.plain_cursor.specs.Hands.{cursor_of}
@@ -64,5 +63,5 @@ left_of keys (row ∷ rows) key = elim (cases_Bool (is_taken keys row.key)) [
     test : Row → Bool
     test r = not (is_taken keys r.key)
 
-pub passed_keys : (old new : KeptCursor) (keys : List ℕ) → new ≡ record { order = old.order; rest = rows_without keys old.rest } → cursor_of new ≡ past keys (cursor_of old)
+pub passed_keys : (old new : KeptCursor) (keys : List ℕ) → new ≡ record { order = old.order; rest = rows_without keys old.rest } → cursor_of new ≡ record (cursor_of old) { rest = without keys (cursor_of old).rest }
 passed_keys old new keys is = ap cursor_of is ∙ ap (λ (rest : ℕ → Option Row). record (cursor_of old) { rest = rest }) (fun_ext (left_of keys old.rest))

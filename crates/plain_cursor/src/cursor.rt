@@ -2,8 +2,7 @@
 
 ghost use Rattle.std.specs.Prelude.{◌≡◌, IfOk, ◌==◌};
 ghost use Rattle.std.specs.List.{list_any};
-ghost use Rattle.history.specs.Moves.{past};
-ghost use Rattle.history.specs.Cursors.{keys_of};
+ghost use Rattle.history.specs.Cursors.{keys_of, without};
 ghost use Rattle.plain_cursor.specs.Order.{index_of, IsInOrder, rows_without};
 ghost use Rattle.plain_cursor.specs.Hands.{cursor_of};
 
@@ -55,7 +54,8 @@ impl PlainCursor {
 
     /// Passes over the rows of these keys.
     pub fn pass_keys(&mut self, keys: &[u64])
-        ensures { cursor_of self.new ≡ past keys.now (cursor_of self.old) }
+        ensures { cursor_of self.new
+            ≡ record (cursor_of self.old) { rest = without keys.now (cursor_of self.old).rest } }
     {
         leave_out(&mut self.rest, keys);
     }

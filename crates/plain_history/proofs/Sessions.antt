@@ -2,11 +2,11 @@
 use Rattle.std.proofs.Common.{◌≡◌, ◌≢◌, ℕ, ◌+◌, ◌<◌, ◌≤◌, List, length, get_or, Option, Some, None, Bool, true, false, refl, sym, ap, ◌∙◌, subst, arith, inl, inr}
 use Rattle.std.specs.Prelude.{IsSome, IsTrue, ◌↔◌}
 use Rattle.std.specs.Option.{option_map, option_flatten, is_some}
-use Rattle.std.proofs.lemmas.Bool.{cases_eq, cases_lt}
+use Rattle.std.proofs.lemmas.Bool.{cases_eq, cases_lt, true≢false}
 use Rattle.std.proofs.lemmas.Option.{slice_get_read, slice_get_past, same_Some, none-some}
 use Rattle.plain_history.specs.declared.plain.PlainSession.{PlainSession}
 use Rattle.tuple_header.specs.declared.version.Row.{Row}
-use Rattle.history.specs.World.{World, OpenSession, own_write, by_statement, SomeoneHasWritten, NobodyHasWritten}
+use Rattle.history.specs.World.{World, OpenSession, own_write, by_statement, SomeoneHasWritten}
 use Rattle.plain_history.specs.Plain.{open_of, has_session_written, session_in}
 
 pub session_in-read : (sessions : List (Option PlainSession)) (o : ℕ) (x : Option PlainSession) → o < length sessions → x ≡ get_or sessions o x
@@ -87,9 +87,5 @@ someone_says w sessions answer same says = (
 )
 
 -- and none has
-pub nobody_wrote : (w : World) (answer : Bool) → (SomeoneHasWritten w → IsTrue answer) → answer ≡ false → NobodyHasWritten w
-nobody_wrote w answer says isnt s m at = by m.has_written refl
-  where
-    by : (b : Bool) → m.has_written ≡ b → m.has_written ≡ false
-    by true wrote = absurd (let is : answer ≡ true = says (s, m, at, wrote) in let never : false ≡ true = sym isnt ∙ is in cc)
-    by false none = none
+pub nobody_wrote : (w : World) (answer : Bool) → (SomeoneHasWritten w → IsTrue answer) → answer ≡ false → ¬ SomeoneHasWritten w
+nobody_wrote w answer says isnt some = true≢false (sym (says some) ∙ isnt)

@@ -2,7 +2,7 @@
 
 ghost use Rattle.std.specs.Prelude.{◌≡◌, length, OnOk, OnErr, IfErr, IfOk, IsSome, Some};
 ghost use Rattle.history.specs.World.{world_sessions, by_snapshot, by_statement};
-ghost use Rattle.history.specs.Moves.{put, free_to_scan, new_session, begun, change, with_row, without_row, rolled_back_to, aborted, committed_by, stepped};
+ghost use Rattle.history.specs.Moves.{put, free_to_scan, new_session, begun, change, rolled_back_to, aborted, committed_by, stepped, with_write};
 ghost use Rattle.plain_history.specs.Plain.{isolation_of, world_of};
 ghost use Rattle.calls.specs.Bars.{BarsOpen, BarsReady};
 ghost use Rattle.plain_history.specs.Answers.{after_refusal, OrMemory, MayBegin, RefusesBegin, RefusesSave, RefusesRollBack, RefusesRelease, PlainReads, MaySave, MayRollBack, MayRelease, MayCommit, WouldCommit};
@@ -86,7 +86,8 @@ impl PlainHistory {
     /// The session writes the row. Where memory is refused only its own wait ends.
     pub fn put_row(&mut self, s: u8, row: Row) -> Result<(), AllocError>
         ensures ok { OnOk result
-            (world_of self.new ≡ change (world_of self.old) s (with_row self.old.history row)) }
+            (world_of self.new
+            ≡ change (world_of self.old) s (with_write self.old.history row.key (Some row))) }
         ensures err { OnErr result (world_of self.new ≡ stepped (world_of self.old) s) }
     {
         match KeptRow::keep(self.alloc, &row) {
@@ -101,7 +102,8 @@ impl PlainHistory {
     /// The session writes that the key has no row. Where memory is refused only its own wait ends.
     pub fn take_row(&mut self, s: u8, key: u64) -> Result<(), AllocError>
         ensures ok { OnOk result
-            (world_of self.new ≡ change (world_of self.old) s (without_row self.old.history key)) }
+            (world_of self.new
+            ≡ change (world_of self.old) s (with_write self.old.history key None)) }
         ensures err { OnErr result (world_of self.new ≡ stepped (world_of self.old) s) }
     {
         self.write(s, key, None)

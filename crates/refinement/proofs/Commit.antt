@@ -13,7 +13,7 @@ use Rattle.history.specs.History.{Transaction, committed, written}
 use Rattle.history.specs.World.{World, Isolation, by_snapshot, by_statement, OpenSession, joined, own_write, start_now, start_by}
 use Rattle.history.specs.Moves.{aborted, committed_by, appended}
 use Rattle.history.proofs.HistoryLemmas.{at_same, at_other, committed-push_all}
-use Rattle.refinement.specs.Heap.{SeenIsolation, seen_by_snapshot, seen_by_statement, SeenSession, Heap, kept_snapshot, SightOfStatement, SightOfCursor, StatementSees, CursorSees}
+use Rattle.refinement.specs.Heap.{SeenIsolation, seen_by_snapshot, seen_by_statement, SeenSession, Heap, kept_snapshot, SightOfStatement, StatementSees, CursorSees}
 use Rattle.visibility.specs.Seeing.{HasCommitted, Reads, by_itself, by_others, VisibleBy, Touches, inserter, deleter}
 use Rattle.refinement.specs.Visible.{ReaderSees, At}
 use Rattle.refinement.specs.Changes.{FinishesIds, SameSight}
@@ -23,7 +23,7 @@ use Rattle.refinement.proofs.Statuses.{IsCommitted-finish_old, IsCommitted-commi
 use Rattle.visibility.proofs.Verdicts.{VisibleBy-same}
 use Rattle.refinement.proofs.Readers.{Levels-top}
 use Rattle.refinement.proofs.Traces.{SparesCurrent}
-use Rattle.refinement.proofs.Isolations.{SameSights, cursor_same, statement_decided}
+use Rattle.refinement.proofs.Isolations.{SightOfCursor, SameSights, cursor_same, statement_decided}
 use Rattle.refinement.proofs.Others.{SessionAgrees-commit_other}
 use Rattle.refinement.proofs.ByStatement.{own_or-some, own_or-none, SessionAgrees-commit_by_statement}
 use Rattle.refinement.proofs.SessionsLemmas.{opened-change, idle-change, owned-change, apart-change, alone-change}

@@ -8,7 +8,7 @@ use Rattle.tuple_header.specs.Version.{Version}
 use Rattle.commit_status.specs.declared.status.Status.TheVariants.{InProgress}
 use Rattle.history.specs.History.{Write, written, IsLate}
 use Rattle.history.specs.World.{World, OpenSession, joined, own_write, Holds, start_now}
-use Rattle.history.specs.Moves.{put, without_row}
+use Rattle.history.specs.Moves.{put, with_write}
 use Rattle.history.proofs.HistoryLemmas.{at_same, at_other, joined-add_write}
 use Rattle.refinement.specs.Heap.{SeenSession, Heap, StatementSees, CursorSees}
 use Rattle.visibility.specs.Seeing.{HasCommitted, IsRunning, by_others, VisibleBy, Touches, made_by, deleted_by, deleter}
@@ -30,7 +30,7 @@ pub Agrees-delete : (h : Heap) (w : World) (s : ℕ) (e : SeenSession) (m : Open
     → Alters h.version store' place old new → IsDeleted x old new → h.session s ≡ Some e → IsCurrent e x → w.session s ≡ Some m → m.cursor ≡ None
     → ReaderSees h.status (StatementSees h e.isolation) e.own old → ¬ IsLate w.history (start_now w.history m) old.row.key → ((o : ℕ) → o ≢ s → ¬ Holds w o old.row.key)
     → SessionAgrees h.status h.version w.history (StatementSees h e.isolation) (start_now w.history m) (CursorSees h e.isolation) e m
-    → HeapAgrees h w → HeapAgrees (record h { version = store' }) (put w s (Some (without_row w.history old.row.key m)))
+    → HeapAgrees h w → HeapAgrees (record h { version = store' }) (put w s (Some (with_write w.history old.row.key None m)))
 Agrees-delete h w s e m x place old new store' alters deleted at current there bare seen in_time unheld mine agrees = record {
   opened = opened-change h h' w w' s agrees (λ o ne. refl) models
       (λ o f n ne bt there' theirs. SessionAgrees-delete_other x place old new alters deleted active (λ foreign. ne (agrees.apart o s f e x bt at foreign current.mine))
@@ -40,7 +40,7 @@ Agrees-delete h w s e m x place old new store' alters deleted at current there b
       }) theirs)
       (λ e' at'. let is : e ≡ e' = same_Some e e' (sym at ∙ at') in
       subst (λ e. Matches h' w' s e) is
-      (without_row w.history old.row.key m, at_same s (Some (without_row w.history old.row.key m)) (w.session s), SessionAgrees-delete x place old new alters deleted current bare seen in_time dead mine));
+      (with_write w.history old.row.key None m, at_same s (Some (with_write w.history old.row.key None m)) (w.session s), SessionAgrees-delete x place old new alters deleted current bare seen in_time dead mine));
   idle = idle-change h h' w w' s agrees (λ o ne. refl) models (λ at'. absurd (none-some e (sym at' ∙ at)));
   current = Shows-alter_same alters deleted.same_row still before (λ p v bt seen. seen) (λ p v bt seen. seen) agrees.current;
   made = λ p y v bt is done. elim (Alters-cases alters p v bt) [
@@ -55,7 +55,7 @@ Agrees-delete h w s e m x place old new store' alters deleted at current there b
   apart = agrees.apart;
   alone = alone-change h h' w w' s agrees (λ o ne. refl) models (λ o k ne p q. elim (cases_eq k old.row.key) [
     | inl same ↦ unheld o ne (subst (λ k. Holds w o k) same q)
-    | inr ne' ↦ (let is : p.0 ≡ without_row w.history old.row.key m = same_Some p.0 (without_row w.history old.row.key m) (sym p.1 ∙ at_same s (Some (without_row w.history old.row.key m)) (w.session s)) in
+    | inr ne' ↦ (let is : p.0 ≡ with_write w.history old.row.key None m = same_Some p.0 (with_write w.history old.row.key None m) (sym p.1 ∙ at_same s (Some (with_write w.history old.row.key None m)) (w.session s)) in
         ne (agrees.alone o s k q (
           m,
           there,
@@ -72,13 +72,13 @@ Agrees-delete h w s e m x place old new store' alters deleted at current there b
     h' = record h { version = store' }
 
     w' : World
-    w' = put w s (Some (without_row w.history old.row.key m))
+    w' = put w s (Some (with_write w.history old.row.key None m))
 
     active : IsRunning h.status x
     active = mine.own_active x current.mine
 
     models : (o : ℕ) → o ≢ s → w'.session o ≡ w.session o
-    models o ne = at_other o s (Some (without_row w.history old.row.key m)) (w.session o) ne
+    models o ne = at_other o s (Some (with_write w.history old.row.key None m)) (w.session o) ne
 
     -- what deleted it before, if anything did, was rolled back
     dead : (y : ℕ) → deleter old.header ≡ Some y → ¬ HasCommitted h.status y

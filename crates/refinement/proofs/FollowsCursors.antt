@@ -13,7 +13,7 @@ use Rattle.snapshot.specs.Snap.{Snap}
 use Rattle.history.specs.History.{Transaction}
 use Rattle.history.specs.World.{World, Isolation, by_snapshot, by_statement, OpenSession, Cursor, by_index, by_heap, joined, view, MayScan, IsReady, world_sessions, start_now}
 use Rattle.history.specs.Cursors.{rows_within, keys_of}
-use Rattle.history.specs.Moves.{change, past, with_taken}
+use Rattle.history.specs.Moves.{change, with_taken}
 use Rattle.calls.specs.declared.step.Step.{Step}
 use Rattle.calls.specs.declared.step.Step.TheVariants as step
 use Rattle.calls.specs.declared.reply.Reply.{Reply}
@@ -32,7 +32,7 @@ use Rattle.refinement.proofs.Statuses.{Finishes-none, none_given, some_of}
 use Rattle.refinement.proofs.CursorsLemmas.{CursorAgrees-none, CursorAgrees-some, some_model}
 use Rattle.refinement.proofs.CursorWalks.{from_first}
 use Rattle.refinement.proofs.Rests.{within_is, within_kept, none_left}
-use Rattle.refinement.proofs.Handing.{next_met, rest_met, SeenOnce, part_gathered, rest_gathered}
+use Rattle.refinement.proofs.Handing.{past, next_met, rest_met, SeenOnce, part_gathered, rest_gathered}
 use Rattle.refinement.proofs.ByStatement.{ReaderAgrees-opens}
 use Rattle.refinement.proofs.Readers.{Levels-top}
 use Rattle.refinement.proofs.Steps.{OnlyIs, same_sights}

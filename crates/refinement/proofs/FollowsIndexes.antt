@@ -1,7 +1,7 @@
 -- An index is made: the reply is one that the history allows, and the engine agrees with the next world.
 use Rattle.std.proofs.Common.{◌≡◌, ℕ, suc, ◌<◌, Bool, true, false}
 use Rattle.std.specs.Prelude.{if◌then◌else◌}
-use Rattle.history.specs.World.{World, NobodyHasWritten}
+use Rattle.history.specs.World.{World, SomeoneHasWritten}
 use Rattle.history.specs.Moves.{with_made_index, with_index_on}
 use Rattle.calls.specs.declared.step.Step.TheVariants as step
 use Rattle.calls.specs.declared.reply.Reply.TheVariants as reply
@@ -19,5 +19,5 @@ Agrees-index_on h w c agrees = by (w.has_index (suc c))
     by false = Agrees-indexes h w (with_made_index w (suc c)).has_index (with_made_index w (suc c)).too_new agrees
 
 -- where the index is not there, nobody has written, and no vacuum runs
-pub Follows-create_index : (h : Heap) (c : ℕ) → c < 4 → FollowsWhere (λ w. w.has_index (suc c) ≡ false → NobodyHasWritten w × (w.has_vacuum ≡ false)) h (step.CreateIndex c) reply.Done h
+pub Follows-create_index : (h : Heap) (c : ℕ) → c < 4 → FollowsWhere (λ w. w.has_index (suc c) ≡ false → (¬ SomeoneHasWritten w) × (w.has_vacuum ≡ false)) h (step.CreateIndex c) reply.Done h
 Follows-create_index h c within w none agrees = (((within, λ lacks. (none lacks).0), λ lacks. (none lacks).1), Agrees-index_on h w c agrees)

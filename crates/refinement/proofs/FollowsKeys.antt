@@ -8,7 +8,7 @@ use Rattle.tuple_header.specs.declared.version.Row.{Row}
 use Rattle.tuple_header.specs.Version.{Version}
 use Rattle.history.specs.World.{World, Cursor, Order, by_index, by_keys, view, world_sessions}
 use Rattle.history.specs.Cursors.{rows_within, keys_of, HandsOutKeys}
-use Rattle.history.specs.Moves.{change, past, with_taken}
+use Rattle.history.specs.Moves.{change, with_taken}
 use Rattle.calls.specs.declared.step.Step.TheVariants as step
 use Rattle.calls.specs.declared.reply.Reply.TheVariants as reply
 use Rattle.calls.specs.declared.reply.Refusal.{Refusal}
@@ -20,7 +20,7 @@ use Rattle.refinement.specs.Heap.{RowPosition, in_index, in_keys, SeenIsolation,
 use Rattle.refinement.specs.Cursors.{Comes, Remains, WalksOver}
 use Rattle.refinement.specs.Agrees.{Shows, HeapAgrees}
 use Rattle.refinement.specs.Finds.{HeapFollows}
-use Rattle.refinement.proofs.Handing.{next_met, rest_met}
+use Rattle.refinement.proofs.Handing.{past, next_met, rest_met}
 use Rattle.refinement.proofs.Steps.{OnlyIs}
 use Rattle.refinement.proofs.Follows.{allows_barred, Agrees-stepped}
 use Rattle.refinement.proofs.Hindrances.{writer}

@@ -9,7 +9,7 @@ use Rattle.tuple_header.specs.declared.version.Row.{Row}
 use Rattle.tuple_header.specs.Version.{Version}
 use Rattle.history.specs.History.{IsLate}
 use Rattle.history.specs.World.{World, OpenSession, view, Holds, start_now}
-use Rattle.history.specs.Moves.{put, with_row, without_row}
+use Rattle.history.specs.Moves.{put, with_write}
 use Rattle.calls.specs.declared.step.Step.TheVariants as step
 use Rattle.calls.specs.declared.reply.Reply.TheVariants as reply
 use Rattle.calls.specs.Words.{RowToWrite, FitsRow, row_of}
@@ -42,10 +42,10 @@ insert_done h now w s e e' row x place new store' free fits agrees still at curr
     let there : w.session s ≡ Some allows.0 = allows.2.writer.ready.there in
     let key : new.row.key ≡ row.key = ap (λ (r : Row). r.key) same in (
       allows,
-      subst (λ o. HeapAgrees (record now { version = store' }) (put w s (option_map (with_row w.history (row_of row)) o))) (sym there)
-          (subst (λ r. HeapAgrees (record now { version = store' }) (put w s (Some (with_row w.history r allows.0)))) same
-          (Agrees-insert now w s e' allows.0 x place new store' adds is_new at current there allows.1.writer.bare
-          (ap (view w.history allows.0) key ∙ allows.1.asks.1) (subst (λ k. ¬ IsLate w.history (start_now w.history allows.0) k) (sym key) allows.2.in_time)
+      subst (λ o. HeapAgrees (record now { version = store' }) (put w s (option_map (with_write w.history (row_of row).key (Some (row_of row))) o))) (sym there)
+          (subst (λ r. HeapAgrees (record now { version = store' }) (put w s (Some (with_write w.history r.key (Some r) allows.0)))) same
+          (Agrees-insert now w s e' allows.0 x place new store' adds is_new at current there allows.2.writer.bare
+          (ap (view w.history allows.0) key ∙ allows.1.1) (subst (λ k. ¬ IsLate w.history (start_now w.history allows.0) k) (sym key) allows.2.in_time)
           (λ o ne holds. allows.2.unheld o ne (subst (λ k. Holds w o k) key holds)) (agrees_now now w s e' allows.0 still at there) still)),
     )
 
@@ -60,9 +60,9 @@ update_done h now w s e e' row found x place q old old' new added altered free f
     let there : w.session s ≡ Some allows.0 = allows.2.writer.ready.there in
     let same_key : new.row.key ≡ old.row.key = ap (λ (r : Row). r.key) same ∙ sym key in (
       allows,
-      subst (λ o. HeapAgrees (record now { version = altered }) (put w s (option_map (with_row w.history (row_of row)) o))) (sym there)
-          (subst (λ r. HeapAgrees (record now { version = altered }) (put w s (Some (with_row w.history r allows.0)))) same
-          (Agrees-update now w s e' allows.0 x place q old old' new added altered stood adds is_new same_key alters deleted at current there allows.1.writer.bare seen
+      subst (λ o. HeapAgrees (record now { version = altered }) (put w s (option_map (with_write w.history (row_of row).key (Some (row_of row))) o))) (sym there)
+          (subst (λ r. HeapAgrees (record now { version = altered }) (put w s (Some (with_write w.history r.key (Some r) allows.0)))) same
+          (Agrees-update now w s e' allows.0 x place q old old' new added altered stood adds is_new same_key alters deleted at current there allows.2.writer.bare seen
           (subst (λ k. ¬ IsLate w.history (start_now w.history allows.0) k) (sym key) allows.2.in_time)
           (λ o ne holds. allows.2.unheld o ne (subst (λ k. Holds w o k) key holds)) (agrees_now now w s e' allows.0 still at there) still)),
     )
@@ -75,9 +75,9 @@ delete_done h now w s e e' key found x place old old' store' free some agrees st
     let allows = allows_write h w s e (deletes key) found free some agrees in
     let there : w.session s ≡ Some allows.0 = allows.2.writer.ready.there in (
       allows,
-      subst (λ o. HeapAgrees (record now { version = store' }) (put w s (option_map (without_row w.history key) o))) (sym there)
-          (subst (λ k. HeapAgrees (record now { version = store' }) (put w s (Some (without_row w.history k allows.0)))) same
-          (Agrees-delete now w s e' allows.0 x place old old' store' alters deleted at current there allows.1.writer.bare seen
+      subst (λ o. HeapAgrees (record now { version = store' }) (put w s (option_map (with_write w.history key None) o))) (sym there)
+          (subst (λ k. HeapAgrees (record now { version = store' }) (put w s (Some (with_write w.history k None allows.0)))) same
+          (Agrees-delete now w s e' allows.0 x place old old' store' alters deleted at current there allows.2.writer.bare seen
           (subst (λ k. ¬ IsLate w.history (start_now w.history allows.0) k) (sym same) allows.2.in_time)
           (λ o ne holds. allows.2.unheld o ne (subst (λ k. Holds w o k) same holds)) (agrees_now now w s e' allows.0 still at there) still)),
     )

@@ -9,12 +9,12 @@ use Rattle.commit_status.specs.declared.status.Status.TheVariants.{InProgress, C
 use Rattle.snapshot.specs.Snap.{Snap}
 use Rattle.history.specs.History.{Write, Transaction}
 use Rattle.history.specs.World.{World, OpenSession, joined}
-use Rattle.refinement.specs.Heap.{SeenSession, Heap, kept_snapshot, SightOfStatement, SightOfCursor, StatementSees, CursorSees}
+use Rattle.refinement.specs.Heap.{SeenSession, Heap, kept_snapshot, SightOfStatement, StatementSees, CursorSees}
 use Rattle.visibility.specs.Seeing.{HasCommitted, IsRunning, Reads, by_itself, by_others, Touches, made_by}
 use Rattle.refinement.specs.Visible.{At}
 use Rattle.refinement.specs.Agrees.{ReaderAgrees, SessionAgrees, HeapAgrees}
 use Rattle.refinement.proofs.CursorsLemmas.{CursorAgrees-keeps, KeepsSeen-same}
-use Rattle.refinement.proofs.Isolations.{of_statement, of_cursor, CursorReads-map}
+use Rattle.refinement.proofs.Isolations.{SightOfCursor, of_statement, of_cursor, CursorReads-map}
 use Rattle.refinement.proofs.ShowsLemmas.{Shows-same}
 use Rattle.refinement.proofs.Readers.{Levels-map, ReaderAgrees-same}
 use Rattle.visibility.proofs.Verdicts.{VisibleBy-same}

@@ -8,7 +8,6 @@ use Rattle.tuple_header.specs.declared.version.Row.{Row}
 use Rattle.tuple_header.specs.Version.{Version}
 use Rattle.history.specs.World.{Cursor}
 use Rattle.history.specs.Cursors.{ComesBefore, keys_of, without, ArePart, AreNext, HandsOutPart}
-use Rattle.history.specs.Moves.{past}
 use Rattle.refinement.specs.Heap.{RowPosition, Position, in_index, in_heap}
 use Rattle.refinement.specs.Visible.{At}
 use Rattle.refinement.specs.Cursors.{IsPastPosition, IsFrom, Comes, Remains, WalksOver, Stands, Gathers}
@@ -18,6 +17,10 @@ use Rattle.refinement.proofs.CursorWalks.{Comes-back, Comes-from, from_itself}
 -- of each key one row is still to come
 same_row : {store : Tid → Option Version} {seen : Version → Type 0} {position : Position} {c : Cursor} → Remains store seen position c → (a b : Row) → Comes store seen position a → Comes store seen position b → a.key ≡ b.key → a ≡ b
 same_row {store} {seen} {position} {c} h a b first second key = same_Some a b (sym (h.sound a first) ∙ (ap c.rest key ∙ h.sound b second))
+
+-- the cursor has handed out the rows of these keys
+abbrev pub past : List ℕ → Cursor → Cursor
+past keys c = record c { rest = without keys c.rest }
 
 module _ {store : Tid → Option Version} {seen : Version → Type 0} {index : ℕ} {low high : ℤ} {from to : Option RowPosition} {rows : List Row} {c : Cursor}
     (h : Remains store seen (in_index index low high from) c) (meets : WalksOver store seen index low high from to rows) where

@@ -12,10 +12,10 @@ use Rattle.calls.specs.declared.reply.Reply.TheVariants as reply
 use Rattle.calls.specs.declared.reply.Refusal.{Refusal}
 use Rattle.calls.specs.declared.reply.Refusal.TheVariants as refusal
 use Rattle.calls.specs.Words.{RowToWrite, FitsRow}
-use Rattle.calls.specs.Writes.{WriteStep, inserts, updates, deletes, step_of, key_of, IsPut, Asks}
+use Rattle.calls.specs.Writes.{WriteStep, inserts, updates, deletes, step_of, key_of, Asks}
 use Rattle.calls.specs.Bars.{BarsFree}
 use Rattle.calls.proofs.BarsLemmas.{of_free}
-use Rattle.refinement.specs.Allowed.{AllowsHindered, AllowsWrite, Suits, after_refused_write}
+use Rattle.refinement.specs.Allowed.{AllowsHindered, AllowsWrite, after_refused_write}
 use Rattle.refinement.specs.Heap.{SeenSession, Heap, seen_sessions}
 use Rattle.refinement.specs.Agrees.{HeapAgrees}
 use Rattle.refinement.specs.Finds.{IsLateFor, IsHeldBy, BeginsWrite, Free, HeapFollows}
@@ -77,14 +77,11 @@ Follows-not_there h s e write b needs = Follows-refused h h s refusal.NotThere w
     allows w agrees (updates row) may none needs = ((agrees.opened s e b.at).0, may, needs, none)
     allows w agrees (deletes k) may none needs = ((agrees.opened s e b.at).0, may, none)
 
--- The write suits what the session reads.
+-- What the session reads of the key is what the write asks for.
 
 pub suits : (h : Heap) (w : World) (s : ℕ) (e : SeenSession) (write : WriteStep) (found : Option Row) (b : BeginsWrite h s e (key_of write) found) (agrees : HeapAgrees h w) → Asks write found
-    → Suits w s write (agrees.opened s e b.at).0
-suits h w s e write found b agrees asks = record {
-  writer = writer h w s e b.at agrees b.sound b.bare;
-  asks = subst (λ o. Asks write o) (found_is_view h w s e (key_of write) found b.at agrees b.finds) asks;
-}
+    → Asks write (view w.history (agrees.opened s e b.at).0 (key_of write))
+suits h w s e write found b agrees asks = subst (λ o. Asks write o) (found_is_view h w s e (key_of write) found b.at agrees b.finds) asks
 
 -- late exactly where the model is
 pub late_for : (h : Heap) (w : World) (s : ℕ) (e : SeenSession) (k : ℕ) (at : h.session s ≡ Some e) (agrees : HeapAgrees h w) → IsLateFor h e k → IsLate w.history (start_now w.history (agrees.opened s e at).0) k
@@ -103,7 +100,12 @@ Agrees-fails h w s e session' only at agrees = let open_ = agrees.opened s e at 
 pub Follows-conflict : (h : Heap) (s : ℕ) (e : SeenSession) (write : WriteStep) (found : Option Row) (session' : ℕ → Option SeenSession) → BeginsWrite h s e (key_of write) found → Asks write found → IsLateFor h e (key_of write)
     → OnlyIs h.session session' s (Some (record e { failed = true })) → HeapFollows h (step_of s write) (reply.Refused refusal.Conflict) (record h { session = session' })
 Follows-conflict h s e write found session' b asks late only = Follows-refused h (record h { session = session' }) s refusal.Conflict write (λ w agrees. (
-  ((agrees.opened s e b.at).0, suits h w s e write found b agrees asks, late_for h w s e (key_of write) b.at agrees late),
+  (
+    (agrees.opened s e b.at).0,
+    writer h w s e b.at agrees b.sound b.bare,
+    suits h w s e write found b agrees asks,
+    late_for h w s e (key_of write) b.at agrees late,
+  ),
   Agrees-fails h w s e session' only b.at agrees,
 ))
 
@@ -165,6 +167,11 @@ pub allows_write : (h : Heap) (w : World) (s : ℕ) (e : SeenSession) (write : W
 allows_write h w s e write found free asks agrees =
     ((agrees.opened s e free.begins.at).0, suits h w s e write found free.begins agrees asks, may_write h w s e (key_of write) found free agrees)
 
+-- the write puts a row into the table
+abbrev pub IsPut : WriteStep → Type 0
+IsPut (deletes k) = ⊥
+IsPut write = Unit {0}
+
 -- a refusal after which the engine is as it was, or has cleaned
 
 pub Follows-needs_freeze : (h : Heap) (s : ℕ) (e : SeenSession) (write : WriteStep) (found : Option Row) → Free h s e (key_of write) found → Asks write found → HeapFollows h (step_of s write) (reply.Refused refusal.NeedsFreeze) h
@@ -174,7 +181,12 @@ Follows-needs_freeze h s e write found free asks =
 pub Follows-no_room_after : (h h' : Heap) (s : ℕ) (e : SeenSession) (write : WriteStep) (found : Option Row) → Free h s e (key_of write) found → Asks write found → IsPut write
     → ((w : World) → HeapAgrees h w → HeapAgrees h' w) → HeapFollows h (step_of s write) (reply.Refused refusal.NoRoom) h'
 Follows-no_room_after h h' s e write found free asks puts still = Follows-refused h h' s refusal.NoRoom write (λ w agrees.
-    let may = allows_write h w s e write found free asks agrees in ((may.0, may.1, may.2, puts), Agrees-stepped h' w s (still w agrees)))
+    (lacks_room w write puts (allows_write h w s e write found free asks agrees), Agrees-stepped h' w s (still w agrees)))
+  where
+    lacks_room : (w : World) (write : WriteStep) → IsPut write → AllowsWrite w s write → AllowsHindered w s refusal.NoRoom write
+    lacks_room w (inserts row) puts may = may
+    lacks_room w (updates row) puts may = may
+    lacks_room w (deletes k) puts may = absurd puts
 
 pub Follows-no_room : (h : Heap) (s : ℕ) (e : SeenSession) (write : WriteStep) (found : Option Row) → Free h s e (key_of write) found → Asks write found → IsPut write → HeapFollows h (step_of s write) (reply.Refused refusal.NoRoom) h
 Follows-no_room h s e write found free asks puts = Follows-no_room_after h h s e write found free asks puts (λ w agrees. agrees)

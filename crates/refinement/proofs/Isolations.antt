@@ -1,6 +1,6 @@
 -- What a statement of a session sees, and what its cursor does: by the snapshot that the session keeps, or by what has committed.
 use Rattle.std.proofs.Common.{◌≡◌, ℕ, ◌≤◌, List, length, Option, Some, None, refl, ◌⊎◌, inl, inr}
-use Rattle.std.specs.Prelude.{IsSome}
+use Rattle.std.specs.Prelude.{IsSome, MatchOption}
 use Rattle.xid_circle.specs.declared.Tid.{Tid}
 use Rattle.tuple_header.specs.Version.{Version}
 use Rattle.commit_status.specs.declared.status.Status.{Status}
@@ -8,7 +8,7 @@ use Rattle.commit_status.specs.declared.status.Status.TheVariants.{InProgress, C
 use Rattle.snapshot.specs.Snap.{Snap}
 use Rattle.history.specs.History.{Write, Transaction}
 use Rattle.visibility.specs.Seeing.{HasCommitted, IsRunning}
-use Rattle.refinement.specs.Heap.{SeenIsolation, seen_by_snapshot, seen_by_statement, SeenSession, Heap, kept_snapshot, IsKeptSnapshot, SightOfStatement, SightOfCursor}
+use Rattle.refinement.specs.Heap.{SeenIsolation, seen_by_snapshot, seen_by_statement, SeenSession, Heap, kept_snapshot, IsKeptSnapshot, SightOfStatement}
 use Rattle.refinement.specs.Visible.{IsFreshSnapshot}
 use Rattle.refinement.specs.Changes.{GivesNext, FinishesIds, SameSight}
 use Rattle.refinement.specs.Agrees.{ReaderAgrees, CursorReads}
@@ -24,6 +24,10 @@ pub of_statement : (P : (ℕ → Type 0) → (ℕ → Type 0) → Type 0) (statu
     → P (SightOfStatement status sees isolation) (SightOfStatement status' sees' isolation)
 of_statement P status status' sees sees' (seen_by_snapshot snap) committed kept = kept snap refl
 of_statement P status status' sees sees' (seen_by_statement own) committed kept = committed
+
+-- whether its cursor sees an id
+abbrev pub SightOfCursor : (status : ℕ → Option Status) → (sees : Snap → ℕ → Type 0) → SeenIsolation → ℕ → Type 0
+SightOfCursor status sees isolation x = MatchOption (kept_snapshot isolation) (HasCommitted status x) (λ snap. sees snap x)
 
 -- and of what its cursor sees, where it keeps one
 pub of_cursor : (P : (ℕ → Type 0) → (ℕ → Type 0) → Type 0) (status status' : ℕ → Option Status) (sees sees' : Snap → ℕ → Type 0) (isolation : SeenIsolation)

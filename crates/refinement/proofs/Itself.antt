@@ -10,7 +10,7 @@ use Rattle.commit_status.specs.declared.status.Status.{Status}
 use Rattle.commit_status.specs.declared.status.Status.TheVariants.{InProgress, Committed}
 use Rattle.history.specs.History.{Write, Transaction, committed, written, reading, IsLate}
 use Rattle.history.specs.World.{Isolation, OpenSession, joined, start_now}
-use Rattle.history.specs.Moves.{new_session as new_model, add_write, with_row, without_row, as_failed}
+use Rattle.history.specs.Moves.{new_session as new_model, add_write, as_failed, with_write}
 use Rattle.history.proofs.HistoryLemmas.{IsLate-now, joined-add_write}
 use Rattle.refinement.specs.Heap.{SeenIsolation, SeenSession, Position}
 use Rattle.visibility.specs.Seeing.{HasCommitted, IsRunning, Reads, by_itself, by_others, VisibleBy, Touches, inserter, deleter}
@@ -73,7 +73,7 @@ in_time-write history start new levels in_time before k wrote late = elim (cases
 
 pub SessionAgrees-insert : {status : ℕ → Option Status} {store store' : Tid → Option Version} {history : List Transaction} {sees cursor_sees : ℕ → Type 0} {start : ℕ} {e : SeenSession} {m : OpenSession} (x : ℕ) (place : Tid) (new : Version)
     → AddsVersion store store' place new → IsNew x new → IsCurrent e x → m.cursor ≡ None → reading history start (joined m.levels) new.row.key ≡ None → ¬ IsLate history start new.row.key
-    → SessionAgrees status store history sees start cursor_sees e m → SessionAgrees status store' history sees start cursor_sees e (with_row history new.row m)
+    → SessionAgrees status store history sees start cursor_sees e m → SessionAgrees status store' history sees start cursor_sees e (with_write history new.row.key (Some new.row) m)
 SessionAgrees-insert {status} {store} {store'} {history} {sees} {cursor_sees} {start} {e} {m} x place new adds is_new current bare none in_time h = record {
   same_failed = h.same_failed;
   isolation = h.isolation;
@@ -94,7 +94,7 @@ SessionAgrees-insert {status} {store} {store'} {history} {sees} {cursor_sees} {s
 
 pub SessionAgrees-delete : {status : ℕ → Option Status} {store store' : Tid → Option Version} {history : List Transaction} {sees cursor_sees : ℕ → Type 0} {start : ℕ} {e : SeenSession} {m : OpenSession} (x : ℕ) (place : Tid) (old new : Version)
     → Alters store store' place old new → IsDeleted x old new → IsCurrent e x → m.cursor ≡ None → ReaderSees status sees e.own old → ¬ IsLate history start old.row.key → ((y : ℕ) → deleter old.header ≡ Some y → ¬ HasCommitted status y)
-    → SessionAgrees status store history sees start cursor_sees e m → SessionAgrees status store' history sees start cursor_sees e (without_row history old.row.key m)
+    → SessionAgrees status store history sees start cursor_sees e m → SessionAgrees status store' history sees start cursor_sees e (with_write history old.row.key None m)
 SessionAgrees-delete {status} {store} {store'} {history} {sees} {cursor_sees} {start} {e} {m} x place old new alters deleted current bare seen in_time dead h = record {
   same_failed = h.same_failed;
   isolation = h.isolation;

@@ -21,7 +21,7 @@ use Rattle.calls.specs.Steps.{session_of}
 use Rattle.refinement.specs.Allowed.{savepoints, by_its_session, Allows, AllowsHindered, after_refused_write, next, AllowsReply, after_reply, IsRun, after, IsLawful}
 
 refused_happens : (w : World) (s : ℕ) (write : WriteStep) (r : Refusal) → AllowsHindered w s r write → Happens w s (after_refused_write w s r)
-refused_happens w s write refusal.Conflict allows = conflicts (key_of write) allows.0 allows.1.writer allows.2
+refused_happens w s write refusal.Conflict allows = conflicts (key_of write) allows.0 allows.1 allows.3
 refused_happens w s write _ allows = passes
 
 -- how many levels a session with savepoints has
@@ -56,11 +56,11 @@ passes_on w step (Some s) = by_session s passes
 leads_on : (w : World) (step : Step) (reply : Reply) → Allows w step reply → LeadsTo w step (next w step reply)
 leads_on w (step.Begin s) reply.Done allows = by_session s (begins allows.0 allows.1)
 leads_on w (step.BeginReadCommitted s) reply.Done allows = by_session s (begins_by_statement allows.0 allows.1)
-leads_on w (step.Insert s row) reply.Done allows = by_session s (events.inserts (row_of row) allows.0 allows.2 allows.1.asks.1)
+leads_on w (step.Insert s row) reply.Done allows = by_session s (events.inserts (row_of row) allows.0 allows.2 allows.1.1)
 leads_on w (step.Insert s row) (reply.Refused r) allows = by_session s (refused_happens w s (inserts row) r allows)
-leads_on w (step.Update s row) reply.Done allows = by_session s (events.updates (row_of row) allows.0 allows.2 allows.1.asks.1)
+leads_on w (step.Update s row) reply.Done allows = by_session s (events.updates (row_of row) allows.0 allows.2 allows.1.1)
 leads_on w (step.Update s row) (reply.Refused r) allows = by_session s (refused_happens w s (updates row) r allows)
-leads_on w (step.Delete s k) reply.Done allows = by_session s (events.deletes k allows.0 allows.2 allows.1.asks)
+leads_on w (step.Delete s k) reply.Done allows = by_session s (events.deletes k allows.0 allows.2 allows.1)
 leads_on w (step.Delete s k) (reply.Refused r) allows = by_session s (refused_happens w s (deletes k) r allows)
 leads_on w (step.Savepoint s) reply.Done allows = by_session s (saves allows.0 allows.1 (few_levels allows.0 allows.2))
 leads_on w (step.RollbackTo s) reply.Done allows = by_session s (rolls_back_to allows.0 allows.1 allows.2 (several_levels allows.0 allows.3))

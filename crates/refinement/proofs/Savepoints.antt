@@ -14,7 +14,7 @@ use Rattle.history.specs.Moves.{put, change, with_savepoint, empty_newest, to_sa
 use Rattle.history.proofs.HistoryLemmas.{joined-join_newest}
 use Rattle.history.proofs.HistoryLemmas.{fewer-written}
 use Rattle.history.proofs.RunLemmas.{fewer-empty_newest}
-use Rattle.refinement.specs.Heap.{SeenSession, Heap, SightOfStatement, SightOfCursor, StatementSees, CursorSees}
+use Rattle.refinement.specs.Heap.{SeenSession, Heap, SightOfStatement, StatementSees, CursorSees}
 use Rattle.refinement.specs.Changes.{FinishesIds, SameSight}
 use Rattle.refinement.specs.Agrees.{ReaderAgrees, LevelsAgree, LevelTraces, SessionAgrees, HeapAgrees}
 use Rattle.refinement.proofs.Statuses.{IsCommitted-finish_old, IsCommitted-abort, IsActive-finish_other, Finishes-none, none_given}
@@ -22,7 +22,7 @@ use Rattle.refinement.proofs.CursorsLemmas.{CursorAgrees-bare}
 use Rattle.refinement.proofs.Readers.{Levels-map, Levels-top}
 use Rattle.refinement.proofs.LevelTraces.{Traced-none, Traced-join, Nested, nested_of}
 use Rattle.refinement.proofs.Traces.{TracesAgree-same}
-use Rattle.refinement.proofs.Isolations.{SameSights, CursorReads-to, statement_same, committed_sight-abort}
+use Rattle.refinement.proofs.Isolations.{SightOfCursor, SameSights, CursorReads-to, statement_same, committed_sight-abort}
 use Rattle.refinement.proofs.Others.{same_reader, reads_before, unseen-finished}
 use Rattle.refinement.proofs.Itself.{saved_within}
 use Rattle.refinement.proofs.Steps.{OnlyIs, same_sights, cases_Contains, Agrees-put, Agrees-waits}

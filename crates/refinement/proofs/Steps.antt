@@ -12,9 +12,9 @@ use Rattle.commit_status.specs.declared.status.Status.TheVariants.{InProgress, C
 use Rattle.snapshot.specs.Snap.{Snap}
 use Rattle.history.specs.History.{Write, Transaction, written, reading, IsLate}
 use Rattle.history.specs.World.{World, Isolation, by_snapshot, by_statement, OpenSession, joined, own_write, Holds, beginning, start_by, start_now}
-use Rattle.history.specs.Moves.{put, free_to_scan, new_session as new_model, begun, with_vacuum, with_row, as_failed, aborted}
+use Rattle.history.specs.Moves.{put, free_to_scan, new_session as new_model, begun, with_vacuum, as_failed, aborted, with_write}
 use Rattle.history.proofs.HistoryLemmas.{at_same, at_other, joined-add_write}
-use Rattle.refinement.specs.Heap.{SeenIsolation, seen_by_snapshot, seen_by_statement, SeenSession, Heap, SightOfStatement, SightOfCursor, StatementSees, CursorSees}
+use Rattle.refinement.specs.Heap.{SeenIsolation, seen_by_snapshot, seen_by_statement, SeenSession, Heap, SightOfStatement, StatementSees, CursorSees}
 use Rattle.visibility.specs.Seeing.{HasCommitted, IsRunning, Touches, deleter}
 use Rattle.refinement.specs.Visible.{IsFreshSnapshot}
 use Rattle.refinement.specs.Changes.{AddsVersion, GivesNext, FinishesIds, with_id}
@@ -25,7 +25,7 @@ use Rattle.visibility.proofs.Verdicts.{VisibleBy-same}
 use Rattle.refinement.proofs.Versions.{Adds-cases}
 use Rattle.refinement.proofs.Readers.{IsNew, touches_new, wrote_before}
 use Rattle.refinement.proofs.LevelTraces.{Traced-join, Nested, nested_of}
-use Rattle.refinement.proofs.Isolations.{SameSights, IsUnseen, statement_same, cursor_same, statement_unseen, cursor_unseen, committed-fresh, committed_sight-give, committed_sight-abort, running_uncommitted}
+use Rattle.refinement.proofs.Isolations.{SightOfCursor, SameSights, IsUnseen, statement_same, cursor_same, statement_unseen, cursor_unseen, committed-fresh, committed_sight-give, committed_sight-abort, running_uncommitted}
 use Rattle.refinement.proofs.Others.{SessionAgrees-add_other, SessionAgrees-give_other, SessionAgrees-abort_other}
 use Rattle.refinement.proofs.Itself.{IsCurrent, new_session, SessionAgrees-begin, SessionAgrees-fail, SessionAgrees-insert, SessionAgrees-give}
 use Rattle.refinement.proofs.SessionsLemmas.{at_value, Matches, opened-change, idle-change, owned-change, apart-change, alone-change}
@@ -250,13 +250,13 @@ pub Agrees-insert : (h : Heap) (w : World) (s : ℕ) (e : SeenSession) (m : Open
     → AddsVersion h.version store' place new → IsNew x new → h.session s ≡ Some e → IsCurrent e x → w.session s ≡ Some m → m.cursor ≡ None
     → reading w.history (start_now w.history m) (joined m.levels) new.row.key ≡ None → ¬ IsLate w.history (start_now w.history m) new.row.key → ((o : ℕ) → o ≢ s → ¬ Holds w o new.row.key)
     → SessionAgrees h.status h.version w.history (StatementSees h e.isolation) (start_now w.history m) (CursorSees h e.isolation) e m
-    → HeapAgrees h w → HeapAgrees (record h { version = store' }) (put w s (Some (with_row w.history new.row m)))
+    → HeapAgrees h w → HeapAgrees (record h { version = store' }) (put w s (Some (with_write w.history new.row.key (Some new.row) m)))
 Agrees-insert h w s e m x place new store' adds is_new at current there bare none in_time unheld mine agrees = record {
   opened = opened-change h h' w w' s agrees (λ o ne. refl) models
       (λ o f n ne bt there' old. SessionAgrees-add_other x place new adds is_new active (λ foreign. ne (agrees.apart o s f e x bt at foreign current.mine)) old)
       (λ e' at'. let is : e ≡ e' = same_Some e e' (sym at ∙ at') in
       subst (λ e. Matches h' w' s e) is
-      (with_row w.history new.row m, at_same s (Some (with_row w.history new.row m)) (w.session s), SessionAgrees-insert x place new adds is_new current bare none in_time mine));
+      (with_write w.history new.row.key (Some new.row) m, at_same s (Some (with_write w.history new.row.key (Some new.row) m)) (w.session s), SessionAgrees-insert x place new adds is_new current bare none in_time mine));
   idle = idle-change h h' w w' s agrees (λ o ne. refl) models (λ at'. absurd (none-some e (sym at' ∙ at)));
   current = Shows-add_unseen adds (λ p v bt seen. seen) (λ p v bt seen. seen) (λ seen. running_uncommitted h.status x active (seen.made x is_new.made)) agrees.current;
   made = λ p y u at' is done. elim (Adds-cases adds p u at') [
@@ -271,7 +271,7 @@ Agrees-insert h w s e m x place new store' adds is_new at current there bare non
   apart = agrees.apart;
   alone = alone-change h h' w w' s agrees (λ o ne. refl) models (λ o k ne p q. elim (cases_eq k new.row.key) [
     | inl same ↦ unheld o ne (subst (λ k. Holds w o k) same q)
-    | inr ne' ↦ (let is : p.0 ≡ with_row w.history new.row m = same_Some p.0 (with_row w.history new.row m) (sym p.1 ∙ at_same s (Some (with_row w.history new.row m)) (w.session s)) in
+    | inr ne' ↦ (let is : p.0 ≡ with_write w.history new.row.key (Some new.row) m = same_Some p.0 (with_write w.history new.row.key (Some new.row) m) (sym p.1 ∙ at_same s (Some (with_write w.history new.row.key (Some new.row) m)) (w.session s)) in
         ne (agrees.alone o s k q (
           m,
           there,
@@ -288,13 +288,13 @@ Agrees-insert h w s e m x place new store' adds is_new at current there bare non
     h' = record h { version = store' }
 
     w' : World
-    w' = put w s (Some (with_row w.history new.row m))
+    w' = put w s (Some (with_write w.history new.row.key (Some new.row) m))
 
     active : IsRunning h.status x
     active = mine.own_active x current.mine
 
     models : (o : ℕ) → o ≢ s → w'.session o ≡ w.session o
-    models o ne = at_other o s (Some (with_row w.history new.row m)) (w.session o) ne
+    models o ne = at_other o s (Some (with_write w.history new.row.key (Some new.row) m)) (w.session o) ne
 
 -- a session is rolled back
 pub Agrees-abort : (h : Heap) (w : World) (s : ℕ) (e : SeenSession) (status' : ℕ → Option Status) (sees' : Snap → ℕ → Type 0) (session' : ℕ → Option SeenSession)

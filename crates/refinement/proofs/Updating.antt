@@ -10,7 +10,7 @@ use Rattle.tuple_header.specs.Version.{Version}
 use Rattle.commit_status.specs.declared.status.Status.{Status}
 use Rattle.history.specs.History.{Write, Transaction, committed, written, IsLate}
 use Rattle.history.specs.World.{World, OpenSession, joined, own_write, view, Holds, start_now}
-use Rattle.history.specs.Moves.{put, add_write, with_row, without_row}
+use Rattle.history.specs.Moves.{put, add_write, with_write}
 use Rattle.history.proofs.HistoryLemmas.{at_same, at_other, joined-add_write}
 use Rattle.refinement.specs.Heap.{SeenSession, Heap, StatementSees, CursorSees}
 use Rattle.refinement.specs.Visible.{ReaderSees, At}
@@ -119,21 +119,21 @@ pub Agrees-replace : (h : Heap) (w : World) (s : ℕ) (e : SeenSession) (m : Ope
     → h.session s ≡ Some e → IsCurrent e x → w.session s ≡ Some m → m.cursor ≡ None
     → ReaderSees h.status (StatementSees h e.isolation) e.own old → ¬ IsLate w.history (start_now w.history m) old.row.key → ((o : ℕ) → o ≢ s → ¬ Holds w o old.row.key)
     → SessionAgrees h.status h.version w.history (StatementSees h e.isolation) (start_now w.history m) (CursorSees h e.isolation) e m
-    → HeapAgrees h w → HeapAgrees (record h { version = store' }) (put w s (Some (with_row w.history new.row m)))
+    → HeapAgrees h w → HeapAgrees (record h { version = store' }) (put w s (Some (with_write w.history new.row.key (Some new.row) m)))
 Agrees-replace h w s e m x place q old old' new between store' alters deleted adds is_new key at current there bare seen in_time unheld mine agrees =
-    Agrees-forget (record h { version = store' }) w₂ (put w s (Some (with_row w.history new.row m))) s (record { start = start_now w.history m; key = old.row.key; row = None }) (record { start = start_now w.history m; key = new.row.key; row = Some new.row }) m key
-    refl (at_same s (Some (with_row w.history new.row m₁)) (w₁.session s)) (at_same s (Some (with_row w.history new.row m)) (w.session s))
-    (λ o ne. at_other o s (Some (with_row w.history new.row m)) (w.session o) ne ∙ (sym (at_other o s (Some m₁) (w.session o) ne) ∙ sym (at_other o s (Some (with_row w.history new.row m₁)) (w₁.session o) ne)))
+    Agrees-forget (record h { version = store' }) w₂ (put w s (Some (with_write w.history new.row.key (Some new.row) m))) s (record { start = start_now w.history m; key = old.row.key; row = None }) (record { start = start_now w.history m; key = new.row.key; row = Some new.row }) m key
+    refl (at_same s (Some (with_write w.history new.row.key (Some new.row) m₁)) (w₁.session s)) (at_same s (Some (with_write w.history new.row.key (Some new.row) m)) (w.session s))
+    (λ o ne. at_other o s (Some (with_write w.history new.row.key (Some new.row) m)) (w.session o) ne ∙ (sym (at_other o s (Some m₁) (w.session o) ne) ∙ sym (at_other o s (Some (with_write w.history new.row.key (Some new.row) m₁)) (w₁.session o) ne)))
     inserted
   where
     m₁ : OpenSession
-    m₁ = without_row w.history old.row.key m
+    m₁ = with_write w.history old.row.key None m
 
     w₁ : World
     w₁ = put w s (Some m₁)
 
     w₂ : World
-    w₂ = put w₁ s (Some (with_row w.history new.row m₁))
+    w₂ = put w₁ s (Some (with_write w.history new.row.key (Some new.row) m₁))
 
     gone : HeapAgrees (record h { version = between }) w₁
     gone = Agrees-delete h w s e m x place old old' between alters deleted at current there bare seen in_time unheld mine agrees
@@ -176,7 +176,7 @@ pub Agrees-update : (h : Heap) (w : World) (s : ℕ) (e : SeenSession) (m : Open
     → h.session s ≡ Some e → IsCurrent e x → w.session s ≡ Some m → m.cursor ≡ None
     → ReaderSees h.status (StatementSees h e.isolation) e.own old → ¬ IsLate w.history (start_now w.history m) old.row.key → ((o : ℕ) → o ≢ s → ¬ Holds w o old.row.key)
     → SessionAgrees h.status h.version w.history (StatementSees h e.isolation) (start_now w.history m) (CursorSees h e.isolation) e m
-    → HeapAgrees h w → HeapAgrees (record h { version = altered }) (put w s (Some (with_row w.history new.row m)))
+    → HeapAgrees h w → HeapAgrees (record h { version = altered }) (put w s (Some (with_write w.history new.row.key (Some new.row) m)))
 Agrees-update h w s e m x place q old old' new added altered stood adds is_new key alters deleted =
     Agrees-replace h w s e m x place q old old' new between altered alters' deleted adds' is_new key
   where

@@ -2,9 +2,9 @@
 -- Which replies the history allows to a step, and what the world is after each.
 use Rattle.std.specs.Prelude.{◌≡◌, ℕ, suc, ◌-◌, ◌<◌, ◌≤◌, List, [], ◌∷◌, length, Option, Some, None, Bool, true, false, IsSome, ◌<ℤ◌, ◌≤ℤ◌}
 use Rattle.history.specs.History.{IsLate}
-use Rattle.history.specs.World.{World, OpenSession, Cursor, by_statement, beginning, start_now, view, SomeoneHasWritten, NobodyHasWritten, LacksIndex, MayIndex, MayScan, ClosesRing, IsReady, IsWriter, MayWrite, IsBlocked, world_sessions, by_index, by_heap, by_keys, by_snapshot}
+use Rattle.history.specs.World.{World, OpenSession, Cursor, by_statement, beginning, start_now, view, SomeoneHasWritten, LacksIndex, MayIndex, MayScan, ClosesRing, IsReady, IsWriter, MayWrite, IsBlocked, world_sessions, by_index, by_heap, by_keys, by_snapshot}
 use Rattle.history.specs.Cursors.{AreOf, keys_of, IsOver, HandsOutPart, HandsOutKeys, rows_within}
-use Rattle.history.specs.Moves.{stepped, begun, blocked_by, change, with_row, without_row, as_failed, with_savepoint, rolled_back_to, without_savepoint, aborted, committed_by, with_taken, without_cursor, with_index_on, with_vacuum, opened}
+use Rattle.history.specs.Moves.{stepped, begun, blocked_by, change, as_failed, with_savepoint, rolled_back_to, without_savepoint, aborted, committed_by, with_taken, without_cursor, with_index_on, with_vacuum, opened, with_write}
 use Rattle.history.specs.Laws.{FirstCommitterWins, HeldInTime, HeldOnce, HoldersHaveWritten}
 use Rattle.calls.specs.declared.step.Step.{Step}
 use Rattle.calls.specs.declared.step.Step.TheVariants as step
@@ -14,20 +14,15 @@ use Rattle.calls.specs.declared.reply.Refusal.{Refusal}
 use Rattle.calls.specs.declared.reply.Refusal.TheVariants as refusal
 use Rattle.calls.specs.Steps.{session_of}
 use Rattle.calls.specs.Words.{FitsRow, row_of}
-use Rattle.calls.specs.Writes.{WriteStep, inserts, updates, deletes, key_of, IsPut, Asks}
+use Rattle.calls.specs.Writes.{WriteStep, inserts, updates, deletes, key_of, Asks}
 use Rattle.calls.specs.Bars.{BarsOpen, BarsReady, BarsFree, BarsWithCursor}
 use Rattle.calls.specs.declared.step.TheConstants.{MOST_SESSIONS}
 use Rattle.snapshot.specs.declared.own.TheConstants.{MOST_SAVEPOINTS}
 use Rattle.tuple_header.specs.declared.version.TheConstants.{MOST_BODY}
 
--- the write suits the session: it may write, and what it reads of the key is what the write asks for
-pub record Suits (w : World) (s : ℕ) (write : WriteStep) (m : OpenSession) : Type 0 where
-  pub writer : IsWriter w s m
-  pub asks : Asks write (view w.history m (key_of write))
-
--- nothing keeps the session from the write
+-- what the session reads of the key is what the write asks for, and nothing keeps it from the write
 abbrev pub AllowsWrite : World → ℕ → WriteStep → Type 0
-AllowsWrite w s write = (m : OpenSession) × Suits w s write m × MayWrite w s (key_of write) m
+AllowsWrite w s write = (m : OpenSession) × Asks write (view w.history m (key_of write)) × MayWrite w s (key_of write) m
 
 -- the session is barred from the write, or the write does not suit it: its row is too large, or the key has a row already, or has none
 abbrev pub AllowsUnsuited : World → ℕ → Refusal → WriteStep → Type 0
@@ -41,10 +36,11 @@ AllowsUnsuited w s refusal write = BarsFree (world_sessions w) s refusal
 -- or it does, but a commit since the snapshot by which it reads or another open session has written the key, or there is no
 -- id, no room or no memory for it
 abbrev pub AllowsHindered : World → ℕ → Refusal → WriteStep → Type 0
-AllowsHindered w s refusal.Conflict write = (m : OpenSession) × Suits w s write m × IsLate w.history (start_now w.history m) (key_of write)
-AllowsHindered w s (refusal.Busy o) write = (m : OpenSession) × Suits w s write m × IsBlocked w s (key_of write) o m
+AllowsHindered w s refusal.Conflict write = (m : OpenSession) × IsWriter w s m × Asks write (view w.history m (key_of write)) × IsLate w.history (start_now w.history m) (key_of write)
+AllowsHindered w s (refusal.Busy o) write = (m : OpenSession) × Asks write (view w.history m (key_of write)) × IsBlocked w s (key_of write) o m
 AllowsHindered w s refusal.NeedsFreeze write = AllowsWrite w s write
-AllowsHindered w s refusal.NoRoom write = (m : OpenSession) × Suits w s write m × MayWrite w s (key_of write) m × IsPut write
+AllowsHindered w s refusal.NoRoom (deletes k) = ⊥
+AllowsHindered w s refusal.NoRoom write = AllowsWrite w s write
 AllowsHindered w s refusal.NoMemory write = AllowsWrite w s write
 AllowsHindered w s refusal write = AllowsUnsuited w s refusal write
 
@@ -125,7 +121,7 @@ Allows w (step.CreateIndex c) reply.Done = MayIndex w c × (w.has_index (suc c) 
 Allows w (step.CreateIndex c) (reply.Refused refusal.NoSuchIndex) = 3 < c
 Allows w (step.CreateIndex c) (reply.Refused refusal.VacuumRunning) = LacksIndex w c × (w.has_vacuum ≡ true)
 Allows w (step.CreateIndex c) (reply.Refused refusal.IndexBusy) = LacksIndex w c × (w.has_vacuum ≡ false) × SomeoneHasWritten w
-Allows w (step.CreateIndex c) (reply.Refused refusal.NoMemory) = LacksIndex w c × (w.has_vacuum ≡ false) × NobodyHasWritten w
+Allows w (step.CreateIndex c) (reply.Refused refusal.NoMemory) = LacksIndex w c × (w.has_vacuum ≡ false) × (¬ SomeoneHasWritten w)
 Allows w step reply = ⊥
 
 -- what a step of a session makes of the world; one that is no session's leaves it as it is
@@ -143,11 +139,11 @@ after_refused_write w s refusal = stepped w s
 abbrev pub next : World → Step → Reply → World
 next w (step.Begin s) reply.Done = begun (by_snapshot (length w.history)) w s
 next w (step.BeginReadCommitted s) reply.Done = begun by_statement w s
-next w (step.Insert s row) reply.Done = change w s (with_row w.history (row_of row))
+next w (step.Insert s row) reply.Done = change w s (with_write w.history (row_of row).key (Some (row_of row)))
 next w (step.Insert s row) (reply.Refused refusal) = after_refused_write w s refusal
-next w (step.Update s row) reply.Done = change w s (with_row w.history (row_of row))
+next w (step.Update s row) reply.Done = change w s (with_write w.history (row_of row).key (Some (row_of row)))
 next w (step.Update s row) (reply.Refused refusal) = after_refused_write w s refusal
-next w (step.Delete s k) reply.Done = change w s (without_row w.history k)
+next w (step.Delete s k) reply.Done = change w s (with_write w.history k None)
 next w (step.Delete s k) (reply.Refused refusal) = after_refused_write w s refusal
 next w (step.Savepoint s) reply.Done = change w s with_savepoint
 next w (step.RollbackTo s) reply.Done = rolled_back_to w s

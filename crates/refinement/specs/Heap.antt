@@ -1,5 +1,5 @@
 -- An engine as its readers see it: what stands where, what became of each id, and who reads.
-use Rattle.std.specs.Prelude.{◌≡◌, ℕ, ℤ, Bool, List, Option, Some, None}
+use Rattle.std.specs.Prelude.{◌≡◌, ℕ, ℤ, Bool, List, Option, Some, MatchOption}
 use Rattle.xid_circle.specs.declared.Tid.{Tid}
 use Rattle.tuple_header.specs.Version.{Version}
 use Rattle.commit_status.specs.declared.status.Status.{Status}
@@ -60,18 +60,13 @@ abbrev pub SightOfStatement : (status : ℕ → Option Status) → (sees : Snap 
 SightOfStatement status sees (seen_by_snapshot snap) x = sees snap x
 SightOfStatement status sees (seen_by_statement kept) x = HasCommitted status x
 
--- whether a cursor does: by the snapshot that its session keeps
-abbrev pub SightOfCursor : (status : ℕ → Option Status) → (sees : Snap → ℕ → Type 0) → SeenIsolation → ℕ → Type 0
-SightOfCursor status sees (seen_by_snapshot snap) x = sees snap x
-SightOfCursor status sees (seen_by_statement (Some snap)) x = sees snap x
-SightOfCursor status sees (seen_by_statement None) x = HasCommitted status x
-
--- whether a statement of a session of this engine sees an id, and whether its cursor does
+-- whether a statement of a session of this engine does
 abbrev pub StatementSees : Heap → SeenIsolation → ℕ → Type 0
 StatementSees h isolation = SightOfStatement h.status h.sees isolation
 
+-- whether its cursor does: by the snapshot that the session keeps
 abbrev pub CursorSees : Heap → SeenIsolation → ℕ → Type 0
-CursorSees h isolation = SightOfCursor h.status h.sees isolation
+CursorSees h isolation x = MatchOption (kept_snapshot isolation) (HasCommitted h.status x) (λ snap. h.sees snap x)
 
 -- its sessions, as far as what bars one from a step looks at them
 abbrev pub seen_sessions : Heap → SessionLooks SeenSession Position

@@ -1,7 +1,7 @@
 -- A session's step by a call of its own.
 use Rattle.std.proofs.Common.{◌≡◌, ◌∙◌, ℕ, true, false, List, Option, Some, None, Ok, Err, set, refl, sym, ap, subst}
 use Rattle.std.specs.Prelude.{Result, IfErr}
-use Rattle.std.specs.Option.{option_map}
+use Rattle.std.specs.Option.{option_map, is_some}
 use Rattle.tuple_header.specs.declared.version.Row.{Row}
 use Rattle.calls.specs.declared.step.Step.{Step}
 use Rattle.calls.specs.declared.step.Step.TheVariants as step
@@ -14,7 +14,7 @@ use Rattle.vacuum_passes.specs.View.{disturbed}
 use Rattle.session_steps.specs.State.{State, is_answered_above, engine_sessions}
 use Rattle.session_steps.specs.Exact.{AnswersStep}
 use Rattle.session_steps.specs.Replies.{found_reply}
-use Rattle.vacuum_engine.specs.State.{EngineView, is_session}
+use Rattle.vacuum_engine.specs.State.{EngineView}
 use Rattle.vacuum_engine.specs.Exact.{ExactBesideVacuum}
 use Rattle.vacuum_engine.proofs.Others.{others-follow}
 use Rattle.session_core.specs.State.{WaitingView, with_waits}
@@ -31,7 +31,7 @@ notes-found parts s (Err r) ended refused is = (refl, ap (with_waits parts.engin
 
 -- the engine was disturbed, its core did the step, and the reply was noted
 module _ (old parts mid : WaitingView) (same : parts ≡ mid) (core : mid.engine.core ≡ old.engine.core) (vacuum : mid.engine.vacuum ≡ option_map (disturbed true) old.engine.vacuum) (waits : mid.waits ≡ old.waits) where
-  pub direct-follows : (step : Step) (s : ℕ) (given : Reply) (st : State) (answer : Reply) (new : WaitingView) → session_of step ≡ Some s → is_answered_above step ≡ false → is_session step ≡ true
+  pub direct-follows : (step : Step) (s : ℕ) (given : Reply) (st : State) (answer : Reply) (new : WaitingView) → session_of step ≡ Some s → is_answered_above step ≡ false → is_some (session_of step) ≡ true
       → AnswersStep parts.engine.core step given st → NotesWait (with_waits (record { core = st; vacuum = parts.engine.vacuum }) parts.waits) s (gives_back step) given new answer → Follows old step answer new
   direct-follows step s given st answer new of beside of_session does notes =
       let core_same = ap (λ (e : WaitingView). e.engine.core) same ∙ core in

@@ -16,10 +16,11 @@ use Rattle.vacuum_passes.specs.View.{disturbed}
 use Rattle.refinement.specs.Allowed.{Allows}
 use Rattle.vacuum_engine.specs.Between.{KeepsOrTakes, Changes}
 use Rattle.vacuum_engine.proofs.Others.{sessions-follow}
-use Rattle.session_core.specs.State.{WaitingView, freed, with_waits}
+use Rattle.session_core.specs.State.{WaitingView, with_waits}
 use Rattle.session_core.specs.Clauses.{WaitingFollows}
 use Rattle.session_core.proofs.WaitingSteps.{unblocked-follows}
 use Rattle.session_core.specs.NextRows.{EngineNextRows}
+use Rattle.session_core.proofs.WaitsAfter.{freed}
 
 -- the cursor of one session alone moves, or nothing changes
 pub next-change : (old new : core.State) (s n : ℕ) (reply : Reply) → ExactNextRows old s n reply new → Changes old new

@@ -12,11 +12,12 @@ use Rattle.refinement.proofs.Runs.{blocked_of}
 use Rattle.vacuum_engine.specs.State.{EngineView}
 use Rattle.vacuum_engine.specs.Clauses.{EngineFollows}
 use Rattle.vacuum_engine.specs.Exact.{EngineExact}
-use Rattle.session_core.specs.State.{WaitingView, noted_wait, woken, given_back, freed, with_waits}
+use Rattle.session_core.specs.State.{WaitingView, noted_wait, woken, given_back, with_waits}
 use Rattle.session_core.specs.Clauses.{WaitingFollows, WaitingExact}
 use Rattle.session_core.proofs.WaitingLaws.{IsNeverBusy, NotedFollows, OwnerlessFollows}
 use Rattle.session_core.specs.Notes.{gives_back}
 use Rattle.session_core.proofs.WaitingSteps.{unblocked-follows, unblocked-is_exact, blocked-follows, deadlock-follows}
+use Rattle.session_core.proofs.WaitsAfter.{freed}
 
 abbrev pub Follows : WaitingView → Step → Reply → WaitingView → Type 0
 Follows old step reply new = WaitingFollows old step reply new × WaitingExact old step reply new

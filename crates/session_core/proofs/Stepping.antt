@@ -4,14 +4,14 @@ use Rattle.std.specs.Prelude.{MatchOption}
 use Rattle.xid_circle.specs.declared.Xid.{Xid}
 use Rattle.heap_write.specs.Heap.{HeapView}
 use Rattle.calls.specs.declared.vacuum.Mode.TheVariants.{Normal, Aggressive}
-use Rattle.session_steps.specs.State.{State, is_answered_above}
+use Rattle.session_steps.specs.State.{State, is_answered_above, horizon_of}
 use Rattle.session_steps.specs.Vacuums.{VacuumWorks, Forgets}
 use Rattle.vacuum_passes.specs.View.{VacuumView}
 use Rattle.vacuum_passes.specs.Steps.{Steps}
 use Rattle.calls.specs.declared.step.Step.{Step}
 use Rattle.calls.specs.declared.step.Step.TheVariants as step
 use Rattle.calls.specs.declared.reply.Reply.{Reply}
-use Rattle.vacuum_engine.specs.State.{EngineView, vacuum_horizon}
+use Rattle.vacuum_engine.specs.State.{EngineView}
 use Rattle.vacuum_engine.specs.Exact.{ExactBesideVacuum, EngineExact, DoesEnd}
 
 pub beside-exact : (old new : EngineView) (step : Step) (reply : Reply) → is_answered_above step ≡ false → ExactBesideVacuum old step reply new → EngineExact old step reply new
@@ -29,13 +29,13 @@ ended-same h h' v horizon (Steps.ends is over none same) = same
 
 module _ (old new : EngineView) (v : VacuumView) (mid : State) (running : old.vacuum ≡ Some v) (works : VacuumWorks old.core mid v None None) (gone : new.vacuum ≡ None) where
   heap-same : mid.heap ≡ old.core.heap
-  heap-same = ended-same old.core.heap mid.heap v (vacuum_horizon old) works.steps
+  heap-same = ended-same old.core.heap mid.heap v (horizon_of old.core) works.steps
 
   mid-same : mid ≡ old.core
   mid-same = works.is ∙ ap (λ (h : HeapView). record old.core { heap = h }) heap-same
 
-  steps-same : Steps old.core.heap old.core.heap v (vacuum_horizon old) None None
-  steps-same = subst (λ (h : HeapView). Steps old.core.heap h v (vacuum_horizon old) None None) heap-same works.steps
+  steps-same : Steps old.core.heap old.core.heap v (horizon_of old.core) None None
+  steps-same = subst (λ (h : HeapView). Steps old.core.heap h v (horizon_of old.core) None None) heap-same works.steps
 
   pub ended : (cutoff : Option Xid) → MatchOption cutoff (v.mode ≡ Normal) (λ x. (v.mode ≡ Aggressive) × (x.0 ≡ v.cutoff))
       → MatchOption cutoff (new.core ≡ mid) (λ x. Forgets mid new.core x.0) → DoesEnd old new

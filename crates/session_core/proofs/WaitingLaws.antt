@@ -14,9 +14,10 @@ use Rattle.vacuum_engine.specs.Clauses.{EngineFollows}
 use Rattle.vacuum_engine.specs.Exact.{EngineExact}
 use Rattle.vacuum_engine.specs.New.{IsNewEngine}
 use Rattle.waits.specs.View.{wait_in}
-use Rattle.session_core.specs.State.{WaitingView, noted_wait, with_waits, freed}
+use Rattle.session_core.specs.State.{WaitingView, noted_wait, with_waits}
 use Rattle.session_core.specs.Clauses.{WaitingFollows, WaitingExact, IsNewWaiting}
 use Rattle.session_core.specs.Notes.{gives_back, NotesWait}
+use Rattle.session_core.proofs.WaitsAfter.{freed}
 
 -- no world allows Busy to the step as this reply
 abbrev pub IsNeverBusy : Step → Reply → Type 0

@@ -27,9 +27,9 @@ use Rattle.vacuum_engine.specs.Exact.{EngineExact}
 use Rattle.vacuum_engine.proofs.Failing.{open_there, failing-agrees}
 use Rattle.waits.specs.View.{wait_in}
 use Rattle.waits.proofs.WaitLemmas.{wait_in-set, nobody_waits}
-use Rattle.session_core.specs.State.{WaitingView, noted_wait, WaitingAgrees, freed, with_waits}
+use Rattle.session_core.specs.State.{WaitingView, noted_wait, WaitingAgrees, with_waits}
 use Rattle.session_core.proofs.WaitingLaws.{UnblockedFollows, UnblockedIsExact, BlockedFollows, DeadlockFollows, NewIsWaiting}
-use Rattle.session_core.proofs.WaitsAfter.{length-ended, length-freed, ended-stepped, next-waits}
+use Rattle.session_core.proofs.WaitsAfter.{freed, length-ended, length-freed, ended-stepped, next-waits}
 
 -- the engine below agrees whoever waits for whom
 engine-waits : (e : EngineView) (w : World) (waits : ℕ → Option ℕ) → EngineAgrees e w → EngineAgrees e (record w { waits_for = waits })

@@ -14,7 +14,7 @@ use Rattle.calls.specs.Steps.{session_of}
 use Rattle.refinement.specs.Allowed.{Allows, by_its_session, after_refused_write, next}
 use Rattle.waits.specs.View.{wait_in}
 use Rattle.waits.proofs.WaitLemmas.{wait_in-ended, wait_in-kept}
-use Rattle.session_core.specs.State.{noted_wait, woken, given_back, freed}
+use Rattle.session_core.specs.State.{noted_wait, woken, given_back}
 
 -- no list of waits changes its length
 pub length-ended : (s : Option ℕ) (waits : List (Option ℕ)) → length (noted_wait s None waits) ≡ length waits
@@ -30,6 +30,11 @@ length-given_back (step.RollbackTo s) waits = length-map (kept_where (λ o. not 
 length-given_back (step.Commit s) waits = length-map (kept_where (λ o. not (nat_eq o s))) waits
 length-given_back (step.Abort s) waits = length-map (kept_where (λ o. not (nat_eq o s))) waits
 length-given_back step waits = refl
+
+-- the keys of a level, or of all, are given back where the step is done
+abbrev pub freed : Step → Reply → List (Option ℕ) → List (Option ℕ)
+freed step (reply.Refused r) waits = waits
+freed step reply waits = given_back step waits
 
 pub length-freed : (step : Step) (reply : Reply) (waits : List (Option ℕ)) → length (freed step reply waits) ≡ length waits
 length-freed step (reply.Refused r) waits = refl

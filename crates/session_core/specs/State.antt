@@ -52,12 +52,8 @@ given_back (step.Commit s) waits = woken s waits
 given_back (step.Abort s) waits = woken s waits
 given_back step waits = waits
 
--- it does so where it is done
-abbrev pub freed : Step → Reply → List (Option SessionNo) → List (Option SessionNo)
-freed step (reply.Refused refusal) waits = waits
-freed step reply waits = given_back step waits
-
--- The waits after a reply: by any step the session's own wait ends, and by Busy one begins.
+-- The waits after a reply: by any step the session's own wait ends, and by Busy one begins. A step that is done gives back.
 abbrev pub waits_after : Step → Reply → List (Option SessionNo) → List (Option SessionNo)
 waits_after step (reply.Refused (refusal.Busy o)) waits = noted_wait (session_of step) (Some o) waits
-waits_after step reply waits = freed step reply (noted_wait (session_of step) None waits)
+waits_after step (reply.Refused refusal) waits = noted_wait (session_of step) None waits
+waits_after step reply waits = given_back step (noted_wait (session_of step) None waits)

@@ -1,7 +1,7 @@
 //! The engine as its callers have it.
 
 ghost use Rattle.std.specs.Prelude.{◌≡◌, ◌<◌, length, slice_get, option_copied, IfOk, IfErr, OnOk, MatchResult, Some};
-ghost use Rattle.std.specs.Option.{option_map};
+ghost use Rattle.std.specs.Option.{option_map, is_some};
 ghost use Rattle.commit_status.specs.Window.{next_id};
 ghost use Rattle.space_maps.specs.View.{mark_on};
 ghost use Rattle.history.specs.World.{World, OpenSession, view, world_sessions};
@@ -11,7 +11,6 @@ ghost use Rattle.session_steps.specs.State.{engine_index, bits_of};
 ghost use Rattle.session_steps.specs.Agrees.{Agrees};
 ghost use Rattle.vacuum_passes.specs.View.{disturbed};
 ghost use Rattle.calls.specs.Steps.{session_of};
-ghost use Rattle.vacuum_engine.specs.State.{is_session};
 ghost use Rattle.vacuum_engine.specs.Exact.{EngineExact};
 ghost use Rattle.vacuum_engine.specs.Clauses.{EngineFollows};
 ghost use Rattle.session_core.specs.Clauses.{WaitingFollows, WaitingExact, IsNewWaiting};
@@ -58,7 +57,7 @@ impl Model for Engine {
 
 /// True where a step is a session's, open or not.
 fn is_session(step: &Step) -> bool
-    ensures { result ≡ is_session step.now }
+    ensures { result ≡ is_some (session_of step.now) }
 {
     match step {
         Step::Prune(_)

@@ -12,8 +12,8 @@ use Rattle.table_indexes.specs.Indexes.{entries_in}
 use Rattle.heap_write.specs.Heap.{slots_of}
 use Rattle.history.specs.World.{World, OpenSession, view}
 use Rattle.explanations.specs.declared.versions.ShownVersion.{ShownVersion}
-use Rattle.explanations.specs.Shown.{IsNextPlace}
-use Rattle.sound_explanations.specs.Showing.{Vantage, IsExplainedTo, ShowsOnly}
+use Rattle.explanations.specs.Shown.{IsNextPlace, IsShownAlong}
+use Rattle.sound_explanations.specs.Showing.{Vantage, ShowsOnly}
 use Rattle.slot_fates.specs.declared.fate.VersionFate.{VersionFate}
 use Rattle.slot_fates.specs.Fates.{IsVersionFate, goes}
 use Rattle.sessions.specs.declared.session.Session.{Session}
@@ -26,6 +26,18 @@ use Rattle.session_steps.specs.Exact.{Cleans}
 abbrev pub IsNextEntry : State → Key → Option Tid → Option Tid → Type 0
 IsNextEntry st key after answer = IsNextPlace (entries_in st.heap.indexes 0) key after answer
 
+-- the version at this place of the chain to which an entry leads, if the chain is so long, and why a statement of the session, begun now, sees it, or does not
+abbrev pub IsExplained : State → Session → Tid → Count → Option ShownVersion → Type 0
+IsExplained st e place n answer =
+    IsShownAlong st.heap.statuses (statement_snapshot st.heap.statuses e.isolation) e.own.ids (slots_on (slots_of st.heap) place.page) place.slot n answer
+
+-- what pruning would follow now on a page
+pub record IsPlanNow (st : State) (number : PageNo) (plan : PrunePlan) : Type 0 where
+  pub page : PageView
+  pub there : slice_get st.heap.pages.pages number ≡ Some page
+  pub change : plan.change ≡ page.change
+  pub exact : IsPlan st.heap.statuses (horizon_of st) page.slots plan.actions.items
+
 -- from where a statement of the session, begun now, looks for a key
 abbrev pub vantage_of : State → Session → Vantage
 vantage_of st e = record {
@@ -35,17 +47,6 @@ vantage_of st e = record {
   pages = slots_of st.heap;
   entries = entries_in st.heap.indexes 0;
 }
-
--- the version at this place of the chain to which an entry leads, if the chain is so long, and why that statement sees it, or does not
-abbrev pub IsExplained : State → Session → Tid → Count → Option ShownVersion → Type 0
-IsExplained st e place n answer = IsExplainedTo (vantage_of st e) place n answer
-
--- what pruning would follow now on a page
-pub record IsPlanNow (st : State) (number : PageNo) (plan : PrunePlan) : Type 0 where
-  pub page : PageView
-  pub there : slice_get st.heap.pages.pages number ≡ Some page
-  pub change : plan.change ≡ page.change
-  pub exact : IsPlan st.heap.statuses (horizon_of st) page.slots plan.actions.items
 
 -- Whatever world the engine agrees with: of all that an explanation of a key shows an open session, exactly one version is seen, with
 -- the row of its view; or none, where the view has none.

@@ -40,7 +40,7 @@ use Rattle.refinement.proofs.FollowsKeys.{comes_along, comes_by_keys}
 use Rattle.table_scans.specs.declared.progress.KeyRange.{KeyRange}
 use Rattle.table_scans.specs.declared.progress.CursorScan.TheVariants.{Keys}
 use Rattle.table_scans.specs.Scans.{Sight}
-use Rattle.table_scans.specs.Keys.{span_of, IsNextKeyIn, NoKeyIsIn, keys_after, ScansKeys, keys_begin, keys_go_on}
+use Rattle.table_scans.specs.Keys.{span_of, IsNextKeyIn, NoKeyIsIn, ScansKeys, keys_begin, keys_go_on}
 use Rattle.sessions.specs.declared.session.Session.{Session}
 use Rattle.sessions.specs.declared.session.SessionIsolation.{SessionIsolation}
 use Rattle.sessions.specs.declared.session.SessionIsolation.TheVariants.{BySnapshot, ByStatement}
@@ -207,7 +207,7 @@ none-walks st e range = record {
 }
 
 module _ (st : State) (e : Session) (range left : KeyRange) (keys : List ℕ) (at : IsAtCursor st e (Keys range)) (hold : NotesHold st) (same : left ≡ record range { last = left.last }) (h : WalksKeys st e range left keys) where
-  one-walks : (position : IndexPosition) → IsNextKeyIn (session_sight st e) left position → WalksKeys st e range (keys_after left position) (keys ++ position.key ∷ [])
+  one-walks : (position : IndexPosition) → IsNextKeyIn (session_sight st e) left position → WalksKeys st e range (record left { last = Some position }) (keys ++ position.key ∷ [])
   one-walks position next =
       let shown = key-shown st at.world at.number e at.agrees at.there hold position.value position.key next.shows in
       let row = shown.0 in

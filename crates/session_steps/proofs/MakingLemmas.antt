@@ -1,11 +1,9 @@
 -- An index by a column is made, or it is refused: the engine follows the history.
-use Rattle.std.proofs.Common.{◌≡◌, ◌≢◌, ℕ, suc, List, ◌∷◌, map, Option, Some, None, Bool, true, false, refl, sym, ap, ◌∙◌, subst, ◌⊎◌, inl, inr, arith}
+use Rattle.std.proofs.Common.{◌≡◌, ◌≢◌, ℕ, suc, List, ◌∷◌, Option, Some, None, Bool, true, false, refl, sym, ap, ◌∙◌, subst, ◌⊎◌, inl, inr, arith}
 use Rattle.std.specs.Prelude.{◌↔◌, ◌==◌, IsSome, Contains, is_some, if◌then◌else◌}
 use Rattle.std.specs.Option.{option_map}
 use Rattle.std.proofs.lemmas.Bool.{cases_eq}
 use Rattle.xid_circle.proofs.Members.{Contains-none}
-use Rattle.page_slots.specs.View.{PageView}
-use Rattle.heap_pages.specs.View.{PagesView}
 use Rattle.commit_status.specs.declared.status.Status.{Status}
 use Rattle.commit_status.specs.Window.{Window, IsActive, place, status_of, next_id}
 use Rattle.snapshot.specs.Snap.{Snap, earliest}
@@ -14,7 +12,7 @@ use Rattle.visibility.specs.Seeing.{made_by}
 use Rattle.root_index.specs.View.{IndexView}
 use Rattle.index_entries.specs.declared.entry.Entry.{Entry}
 use Rattle.table_indexes.specs.Indexes.{index_at, entries_at, entries_of, since_at, IsInUse}
-use Rattle.heap_write.specs.Heap.{slots_of}
+use Rattle.heap_write.specs.Heap.{HeapView, slots_of}
 use Rattle.table_integrity.specs.Making.{AllHaveEnded}
 use Rattle.table_integrity.proofs.Making.{made-sound, made-led, made-since}
 use Rattle.history.specs.World.{World, Isolation, by_snapshot, by_statement, LacksIndex}
@@ -38,7 +36,7 @@ use Rattle.sessions.specs.Session.{kept_by, reads_by_snapshot, is_too_new, held_
 use Rattle.sessions.specs.Places.{open_at}
 use Rattle.sound_entries.specs.Since.{MayScanSince}
 use Rattle.session_steps.specs.Agrees.{Agrees, Sound, SessionKeeps, SessionScans, KeepsAllTargets, NameIds, WrittenAgrees}
-use Rattle.session_steps.specs.Making.{HasIndexOn, LacksIndexOn, NobodyHasId, MakesIndexOn, HasOrMakes, RefusesIndexOn}
+use Rattle.session_steps.specs.Making.{HasIndexOn, LacksIndexOn, SomeoneHasId, MakesIndexOn, HasOrMakes, RefusesIndexOn}
 use Rattle.sessions.specs.Marks.{MarksSession}
 use Rattle.session_steps.proofs.Owns.{reader-at, reader-is}
 use Rattle.session_steps.proofs.WrittenLemmas.{someone-written, nobody-written}
@@ -72,12 +70,12 @@ pub given-from : (o : Option ℕ) (s : Status) → IsSome (option_map (λ _. s) 
 given-from None s some = absurd (cc some)
 given-from (Some i) s some = refl
 
-module _ (st : State) (w : World) (none : NobodyHasId st) (agrees : Agrees st w) where
+module _ (st : State) (w : World) (none : ¬ SomeoneHasId st) (agrees : Agrees st w) where
   no-active : (x : ℕ) → ¬ IsActive st.heap.statuses x
   no-active x active =
       let by = agrees.found.owned x (active-from st.heap.statuses x active) in
       let e = reader-at st by.0 by.1 by.2 in
-      Contains-none x (subst (λ ids. Contains ids x) (none by.0 e.0 e.1) (subst (λ (r : relation.SeenSession). Contains r.own x) (sym e.2) by.3))
+      none (by.0, e.0, e.1, λ no. Contains-none x (subst (λ ids. Contains ids x) no (subst (λ (r : relation.SeenSession). Contains r.own x) (sym e.2) by.3)))
 
   all-ended : AllHaveEnded st.heap
   all-ended = record {
@@ -90,10 +88,13 @@ module _ (st : State) (w : World) (none : NobodyHasId st) (agrees : Agrees st w)
 -- It is made.
 
 pub made-horizon : (st st' : State) (c : ℕ) → MakesIndexOn st st' c → horizon_of st' ≡ horizon_of st
-made-horizon st st' c makes = ap (λ t. earliest (next_id t) (held_back st'.sessions)) makes.heap.statuses
+made-horizon st st' c makes = ap (λ (g : HeapView). earliest (next_id g.statuses) (held_back st'.sessions)) makes.heap.is
     ∙ ap (λ back. earliest (next_id st.heap.statuses) back) (held-marked (suc c) st.sessions st'.sessions makes.sessions.count makes.sessions.each)
 
-module _ (st st' : State) (w : World) (c : ℕ) (lacks : LacksIndexOn st c) (none : NobodyHasId st) (makes : MakesIndexOn st st' c) (agrees : Agrees st w) where
+module _ (st st' : State) (w : World) (c : ℕ) (lacks : LacksIndexOn st c) (none : ¬ SomeoneHasId st) (makes : MakesIndexOn st st' c) (agrees : Agrees st w) where
+  ids-stay : st'.heap.statuses ≡ st.heap.statuses
+  ids-stay = ap (λ (g : HeapView). g.statuses) makes.heap.is
+
   was : (s : ℕ) (now : Session) → session_at st' s ≡ Some now → (e : Session) × (session_at st s ≡ Some e) × MarksSession (suc c) e now
   was s now at = marked-at (suc c) st.sessions st'.sessions makes.sessions s now at
 
@@ -109,8 +110,8 @@ module _ (st st' : State) (w : World) (c : ℕ) (lacks : LacksIndexOn st c) (non
 
   found-made : theory.HeapAgrees (seen st') w
   found-made =
-      let slots : slots_of st'.heap ≡ slots_of st.heap = ap (λ (pages : PagesView). map (λ (p : PageView). p.slots) pages.pages) makes.heap.pages in
-      subst (λ t. theory.HeapAgrees (seen_in (slots_of st'.heap) t st'.sessions) w) (sym makes.heap.statuses)
+      let slots : slots_of st'.heap ≡ slots_of st.heap = ap (λ (g : HeapView). slots_of g) makes.heap.is in
+      subst (λ t. theory.HeapAgrees (seen_in (slots_of st'.heap) t st'.sessions) w) (sym ids-stay)
       (subst (λ slots. theory.HeapAgrees (seen_in slots st.heap.statuses st'.sessions) w) (sym slots)
       (Agrees-sessions (seen st) w (λ o. option_map reader_of (open_at st'.sessions o)) (λ o. place-reads (suc c) (open_at st.sessions o) (open_at st'.sessions o) (makes.sessions.each o)) agrees.found))
 
@@ -147,14 +148,14 @@ module _ (st st' : State) (w : World) (c : ℕ) (lacks : LacksIndexOn st c) (non
   sound-made : Sound st'
   sound-made = record {
     count = makes.sessions.count ∙ agrees.sound.count;
-    max_pages = makes.heap.max_pages ∙ (agrees.sound.max_pages ∙ ap (λ (g : Settings). g.max_pages) (sym makes.settings));
-    stop_age = ap (λ (t : Window). t.stop_age) makes.heap.statuses ∙ (agrees.sound.stop_age ∙ ap (λ (g : Settings). g.stop_age) (sym makes.settings));
-    window = rw makes.heap.statuses agrees.sound.window;
-    sessions = λ s now at. rw makes.heap.statuses (keeps-made s now at);
-    tops = rw makes.heap.statuses agrees.sound.tops;
+    max_pages = ap (λ (g : HeapView). g.max_pages) makes.heap.is ∙ (agrees.sound.max_pages ∙ ap (λ (g : Settings). g.max_pages) (sym makes.settings));
+    stop_age = ap (λ (t : Window). t.stop_age) ids-stay ∙ (agrees.sound.stop_age ∙ ap (λ (g : Settings). g.stop_age) (sym makes.settings));
+    window = rw ids-stay agrees.sound.window;
+    sessions = λ s now at. rw ids-stay (keeps-made s now at);
+    tops = rw ids-stay agrees.sound.tops;
     by_key = other-used 0 (λ same. absurd (omega (arith, same))) agrees.sound.by_key;
     since = made-since st.heap st'.heap c (all-ended st w none agrees) makes.heap agrees.sound.since;
-    scans = λ s now at. subst (λ t. SessionScans t st'.heap.indexes now) (sym makes.heap.statuses) (scans-made s now at);
+    scans = λ s now at. subst (λ t. SessionScans t st'.heap.indexes now) (sym ids-stay) (scans-made s now at);
     table = made-sound st.heap st'.heap c agrees.sound.table (all-ended st w none agrees) makes.heap;
   }
 

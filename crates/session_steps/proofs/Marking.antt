@@ -11,7 +11,7 @@ use Rattle.session_steps.specs.State.{State, engine_index, reader_of}
 use Rattle.sessions.specs.Session.{holds_back, held_back}
 use Rattle.sessions.specs.Places.{HoldsOpen, open_at}
 use Rattle.session_steps.specs.Keeps.{IsOwned, EngineKeeps}
-use Rattle.session_steps.specs.Making.{LacksIndexOn, SomeoneHasId, NobodyHasId}
+use Rattle.session_steps.specs.Making.{LacksIndexOn, SomeoneHasId}
 use Rattle.sessions.specs.Marks.{MarksSession, MarksPlace, MarksAll}
 
 -- The sessions are those that were, with their marks.
@@ -85,6 +85,6 @@ has-lacks st c index at lacks = none-some index (sym lacks.1 ∙ (ap (engine_ind
 -- Who has an id, among the places that were used.
 pub writer-among : (st : State) (used : List (Option Session)) (found : Option ℕ) → HoldsOpen used st.sessions
     → MatchOption found ((s : ℕ) (e : Session) → open_at used s ≡ Some e → e.own.ids ≡ []) (λ s. (e : Session) × (open_at used s ≡ Some e) × (e.own.ids ≢ []))
-    → MatchOption found (NobodyHasId st) (λ s. SomeoneHasId st)
-writer-among st used None holds none = λ s e at. none s e (holds.each s ∙ at)
+    → MatchOption found (¬ SomeoneHasId st) (λ s. SomeoneHasId st)
+writer-among st used None holds none = λ (s, e, at, some). some (none s e (holds.each s ∙ at))
 writer-among st used (Some s) holds some = (s, some.0, sym (holds.each s) ∙ some.1, some.2)

@@ -12,7 +12,7 @@ use Rattle.refinement.specs.Cursors as cursors
 use Rattle.refinement.proofs.CursorWalks.{Meets-one}
 use Rattle.table_scans.specs.declared.progress.CursorScan.TheVariants.{Rows}
 use Rattle.table_scans.specs.declared.progress.Scan.TheVariants.{Index}
-use Rattle.table_scans.specs.Scans.{NoneIsIn, range_after, ScansIndex, index_begins, index_goes_on}
+use Rattle.table_scans.specs.Scans.{NoneIsIn, ScansIndex, index_begins, index_goes_on}
 use Rattle.sessions.specs.declared.session.Session.{Session}
 use Rattle.session_steps.specs.State.{State, seen, seen_position, reader_of}
 use Rattle.sessions.specs.Session.{cursor_snapshot}
@@ -60,7 +60,7 @@ module _ (st : State) (e : Session) (span left : IndexRange) (rows : List Row) (
   comes-next position row next at =
       in-left st e span left row h.same (next-comes st at.world at.number e at.agrees at.there left (scanned-left st e span left rows h at) position row next)
 
-  one-walks : (position : IndexPosition) (row : Row) → IsNextFor st e left position row → Walks st e span (range_after left position) (rows ++ row ∷ [])
+  one-walks : (position : IndexPosition) (row : Row) → IsNextFor st e left position row → Walks st e span (record left { last = Some position }) (rows ++ row ∷ [])
   one-walks position row next = record {
     same = ap (λ (sp : IndexRange). record sp { last = Some position }) h.same;
     meets = λ at.

@@ -25,7 +25,7 @@ use Rattle.calls.specs.declared.step.Step.TheVariants as step
 use Rattle.calls.specs.declared.reply.Reply.{Reply}
 use Rattle.calls.specs.declared.reply.Reply.TheVariants as reply
 use Rattle.calls.specs.Words.{RowToWrite, FitsRow, row_of}
-use Rattle.calls.specs.Writes.{WriteStep, inserts, updates, deletes, step_of, key_of, IsPut, Asks}
+use Rattle.calls.specs.Writes.{WriteStep, inserts, updates, deletes, step_of, key_of, Asks}
 use Rattle.refinement.specs.Allowed.{Allows, next, after_refused_write}
 use Rattle.refinement.specs.Visible.{ReaderSees}
 use Rattle.refinement.specs.Agrees as theory
@@ -39,7 +39,7 @@ use Rattle.refinement.proofs.Runs.{KeepsScans, unmade, same_indexes}
 use Rattle.sessions.specs.declared.session.Session.{Session}
 use Rattle.visibility.specs.Visible.{state_of}
 use Rattle.session_steps.specs.State.{State, session_at, put_session, seen, seen_in, reader_of, isolation_seen, horizon_of}
-use Rattle.history.specs.Moves.{with_row, without_row}
+use Rattle.history.specs.Moves.{with_write}
 use Rattle.session_steps.specs.Agrees.{Agrees, Follows, KeepsAllTargets, WrittenAgrees}
 use Rattle.session_steps.specs.Tests.{MayAct, MayTry}
 use Rattle.session_steps.specs.Writes.{DoesWrite, FailsWrite, TriesWrite, refusal_for, reply_for}
@@ -74,7 +74,7 @@ fails-so (deletes key) place horizon h h' own fault.NoRoom fails = absurd fails
 fails-so (deletes key) place horizon h h' own fault.NoMemory fails = inl fails.2
 
 -- only who puts a row asks for room
-puts-row : (write : WriteStep) (place : Tid) (horizon : ℕ) (h h' : HeapView) (own : Own) → FailsWrite write place horizon h h' own fault.NoRoom → IsPut write
+puts-row : (write : WriteStep) (place : Tid) (horizon : ℕ) (h h' : HeapView) (own : Own) → FailsWrite write place horizon h h' own fault.NoRoom → hindrances.IsPut write
 puts-row (inserts row) place horizon h h' own fails = tt
 puts-row (updates row) place horizon h h' own fails = tt
 puts-row (deletes key) place horizon h h' own fails = absurd fails
@@ -185,7 +185,7 @@ module _ (st : State) (w : World) (s : ℕ) (text : RowToWrite) (e : Session) (f
       (adds-from (version_in (slots_of st.heap)) (version_in (slots_of h)) (free_place st.heap i.number) new (inserts-stand st.heap h e.own own row x i)) (is-new x row new (root-new st.heap false x row i.number)) refl in (
         done.0,
         agree agrees stays.in_use (marks-put st.sessions s e e' at refl) (unmade refl refl)
-            (written-put st w s e e' (with_row w.history row) at agrees (written-by st w h.statuses s e own x at i.takes_ids agrees)) done.1 (Sound-given st w h s e own at agrees x i.takes_ids window i.max_pages stays),
+            (written-put st w s e e' (with_write w.history row.key (Some row)) at agrees (written-by st w h.statuses s e own x at i.takes_ids agrees)) done.1 (Sound-given st w h s e own at agrees x i.takes_ids window i.max_pages stays),
         stays.led,
       )
 
@@ -223,7 +223,7 @@ module _ (st : State) (w : World) (s : ℕ) (text : RowToWrite) (e : Session) (p
       (alters-from put.added (version_in (slots_of h)) place t (taken_version t x put.to put.hot) put.alters) (is-deleted h.statuses x t put.to put.hot active) in (
         done.0,
         agree agrees stays.in_use (marks-put st.sessions s e e' at refl) (unmade refl refl)
-            (written-put st w s e e' (with_row w.history row) at agrees (written-by st w h.statuses s e own x at u.takes_ids agrees)) done.1 (Sound-given st w h s e own at agrees x u.takes_ids window u.max_pages stays),
+            (written-put st w s e e' (with_write w.history row.key (Some row)) at agrees (written-by st w h.statuses s e own x at u.takes_ids agrees)) done.1 (Sound-given st w h s e own at agrees x u.takes_ids window u.max_pages stays),
         stays.led,
       )
 
@@ -246,7 +246,7 @@ module _ (st : State) (w : World) (s key : ℕ) (e : Session) (place : Tid) (t :
       (alters-from (version_in (slots_of st.heap)) (version_in (slots_of h)) place t (taken_version t x place false) alters) (is-deleted h.statuses x t place false active) in (
         done.0,
         agree agrees stays.in_use (marks-put st.sessions s e e' at refl) (unmade refl refl)
-            (written-put st w s e e' (without_row w.history key) at agrees (written-by st w h.statuses s e own x at d.takes_ids agrees)) done.1 (Sound-given st w h s e own at agrees x d.takes_ids window d.max_pages stays),
+            (written-put st w s e e' (with_write w.history key None) at agrees (written-by st w h.statuses s e own x at d.takes_ids agrees)) done.1 (Sound-given st w h s e own at agrees x d.takes_ids window d.max_pages stays),
         stays.led,
       )
 

@@ -1,12 +1,12 @@
 -- An open session has an id exactly where it has written.
 use Rattle.std.proofs.Common.{◌≡◌, ◌≢◌, ℕ, zero, suc, ◌<◌, Bool, true, false, List, [], ◌∷◌, ◌++◌, length, Option, Some, None, refl, sym, ap, ◌∙◌, subst, inl, inr, arith}
 use Rattle.std.specs.Option.{option_map}
-use Rattle.std.proofs.lemmas.Bool.{cases_eq}
+use Rattle.std.proofs.lemmas.Bool.{cases_eq, true≢false}
 use Rattle.std.proofs.lemmas.Option.{same_Some, none-some}
 use Rattle.snapshot.specs.Own.{Own, unassigned_levels, saved_with, saved_with_each}
 use Rattle.commit_status.specs.Window.{Window}
 use Rattle.write_ids.specs.Ids.{TakesIds, SameOwn}
-use Rattle.history.specs.World.{World, OpenSession, SomeoneHasWritten, NobodyHasWritten}
+use Rattle.history.specs.World.{World, OpenSession, SomeoneHasWritten}
 use Rattle.history.specs.Moves.{put, change, as_failed, stepped}
 use Rattle.history.proofs.HistoryLemmas.{at_same, at_other}
 use Rattle.calls.specs.declared.step.Step.{Step}
@@ -22,7 +22,7 @@ use Rattle.sessions.specs.declared.session.Session.{Session}
 use Rattle.session_steps.specs.State.{State, session_at, put_session, reader_of}
 use Rattle.session_steps.proofs.StateLemmas.{failed_session}
 use Rattle.session_steps.specs.Agrees.{Agrees, names_id, NameIds, WrittenAgrees}
-use Rattle.session_steps.specs.Making.{SomeoneHasId, NobodyHasId}
+use Rattle.session_steps.specs.Making.{SomeoneHasId}
 use Rattle.session_steps.proofs.OwnIdsLemmas.{open-within, open-set_cases}
 use Rattle.session_steps.proofs.Owns.{reader-is}
 
@@ -181,9 +181,9 @@ someone-written st w someone agrees =
     let m = agrees.found.opened s (reader_of e) (reader-is st s e someone.2) in
     (s, m.0, m.1, sym (agrees.written s e m.0 someone.2 m.1).0 ∙ some-named e.own.ids someone.3)
 
-pub nobody-written : (st : State) (w : World) → NobodyHasId st → Agrees st w → NobodyHasWritten w
-nobody-written st w none agrees s m there = of (session_at st s) refl
+pub nobody-written : (st : State) (w : World) → ¬ SomeoneHasId st → Agrees st w → ¬ SomeoneHasWritten w
+nobody-written st w none agrees (s, m, there, wrote) = of (session_at st s) refl
   where
-    of : (o : Option Session) → session_at st s ≡ o → m.has_written ≡ false
-    of None at = absurd (none-some m (sym (agrees.found.idle s (ap (option_map reader_of) at)) ∙ there))
-    of (Some e) at = sym (agrees.written s e m at there).0 ∙ ap names_id (none s e at)
+    of : (o : Option Session) → session_at st s ≡ o → ⊥
+    of None at = none-some m (sym (agrees.found.idle s (ap (option_map reader_of) at)) ∙ there)
+    of (Some e) at = none (s, e, at, λ no. true≢false (sym wrote ∙ sym (agrees.written s e m at there).0 ∙ ap names_id no))

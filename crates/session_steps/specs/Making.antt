@@ -20,10 +20,6 @@ LacksIndexOn st c = (c < 4) × (engine_index st (suc c) ≡ None)
 abbrev pub SomeoneHasId : State → Type 0
 SomeoneHasId st = (s : ℕ) × (e : Session) × (session_at st s ≡ Some e) × (e.own.ids ≢ [])
 
--- none has
-abbrev pub NobodyHasId : State → Type 0
-NobodyHasId st = (s : ℕ) (e : Session) → session_at st s ≡ Some e → e.own.ids ≡ []
-
 -- the index is made, and who was open by snapshot then may not scan it
 pub record MakesIndexOn (old new : State) (column : ℕ) : Type 0 where
   pub settings : new.settings ≡ old.settings
@@ -33,11 +29,11 @@ pub record MakesIndexOn (old new : State) (column : ℕ) : Type 0 where
 -- The index is there, and nothing changes; or it is made, as it may be while no open session has an id.
 pub data HasOrMakes (old new : State) (column : ℕ) : Type 0 where
   has : HasIndexOn old column → new ≡ old → HasOrMakes old new column
-  makes : LacksIndexOn old column → NobodyHasId old → MakesIndexOn old new column → HasOrMakes old new column
+  makes : LacksIndexOn old column → ¬ SomeoneHasId old → MakesIndexOn old new column → HasOrMakes old new column
 
 -- Why it is not made, of the first reason in this order. Memory is asked for only where an entry comes.
 abbrev pub RefusesIndexOn : State → (column : ℕ) → Refusal → Type 0
 RefusesIndexOn st c refusal.NoSuchIndex = 3 < c
 RefusesIndexOn st c refusal.IndexBusy = LacksIndexOn st c × SomeoneHasId st
-RefusesIndexOn st c refusal.NoMemory = LacksIndexOn st c × NobodyHasId st × SomeCurrent st.heap.statuses (slots_of st.heap)
+RefusesIndexOn st c refusal.NoMemory = LacksIndexOn st c × (¬ SomeoneHasId st) × SomeCurrent st.heap.statuses (slots_of st.heap)
 RefusesIndexOn st c refusal = ⊥

@@ -1,7 +1,7 @@
 //! An index by a column is made while sessions are open.
 
 ghost use Rattle.std.specs.Prelude.{◌≡◌, ◌↔◌, IsTrue, MatchOption, MatchResult};
-ghost use Rattle.session_steps.specs.Making.{SomeoneHasId, NobodyHasId, LacksIndexOn, HasOrMakes, RefusesIndexOn};
+ghost use Rattle.session_steps.specs.Making.{SomeoneHasId, LacksIndexOn, HasOrMakes, RefusesIndexOn};
 
 use crate::engine::SessionEngine;
 use calls::Refusal;
@@ -10,7 +10,7 @@ use sessions::first_with_id;
 impl SessionEngine {
     /// An open session that has an id, if one has.
     fn writer(&self) -> Option<u8>
-        ensures { MatchOption result (NobodyHasId self.now) (λ _. SomeoneHasId self.now) }
+        ensures { MatchOption result (¬ SomeoneHasId self.now) (λ _. SomeoneHasId self.now) }
     {
         first_with_id(self.sessions.places_in_use())
     }

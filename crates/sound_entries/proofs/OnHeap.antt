@@ -2,7 +2,7 @@
 use Rattle.std.proofs.Common.{◌≡◌, ℕ, ℤ, ◌<◌, List, length, get_or, Option, Some, None, refl, sym, ap, ◌∙◌, subst, ⊎_elim, arith, slice_get, ◌↔◌}
 use Rattle.std.specs.List.{Contains}
 use Rattle.std.specs.Prelude.{MatchOption}
-use Rattle.std.specs.Option.{option_and_then}
+use Rattle.std.specs.Option.{option_and_then, option_map}
 use Rattle.std.proofs.lemmas.Option.{slice_get-get_or, same_Some}
 use Rattle.xid_circle.specs.declared.Tid.{Tid}
 use Rattle.tuple_header.specs.Version.{Version}
@@ -23,7 +23,7 @@ use Rattle.sound_page.proofs.SoundChains.{in-leads, leads-in}
 use Rattle.tuple_writes.proofs.Growth.{none-some}
 use Rattle.index_entries.specs.declared.entry.Entry.{Entry}
 use Rattle.index_lookup.specs.Pages.{slots_on, version_in}
-use Rattle.index_lookup.specs.Looking.{FirstFound, FirstPlace, SomeOf}
+use Rattle.index_lookup.specs.Looking.{FirstFound, IsFirstPlace, FirstPlace, SomeOf}
 use Rattle.index_lookup.proofs.Fetching.{seen-there}
 use Rattle.sound_entries.specs.Entries.{MayBeTarget, EntriesAreSound}
 use Rattle.sound_entries.specs.Leading.{IsOnHeap, IsByIndex, IsUndone, SeesNoExcused, SomeOnHeap}
@@ -47,6 +47,26 @@ fetched-none w seen slots root n t sound (chain, is, none) within at has =
     let p = place-of n chain (subst (λ c. Contains c n) one l.holds) in
     none p.0 t p.1 (ap (version_at slots) p.2 ∙ at) has
 
+-- what is at the place of the first version that is seen
+seen-on_heap : (value_of : Row → ℤ) (since : Option ℕ) (w : Window) (pages : List (List Slot)) (entries : List Entry) (s : Snap) (own : List ℕ) → EntriesAreSound value_of since w pages entries
+    → ((x : ℕ) → Contains own x → IsActive w x) → SeesNoExcused w since s own → (value : ℤ) (key : ℕ) (q : Tid) → IsFirstPlace w (IsVisible w s own) pages entries value key q
+    → (t : Version) × IsOnHeap value_of pages value key (λ t. IsVisible w s own t.header) q t
+seen-on_heap value_of since w pages entries s own sound active sees_none value key q f =
+    let slots = slots_on pages f.entry.tid.page in
+    let at = f.seen_at in
+    let chain = at.chain in
+    let seen = at.seen_in in
+    let t = seen.version in
+    let listed = listed-in w slots f.entry.tid.slot seen.index chain (sound.index.leads f.entry f.there) at.is_chain seen.first.within in
+    let i : IsByIndex w pages entries value key (λ t. IsVisible w s own t.header) q t = record {
+      entry = f.entry;
+      of = f.of;
+      leads = record { there = f.there; page = at.page; chain = subst (IsIn w slots f.entry.tid.slot) (sym seen.slot) listed };
+      there = seen-there w (IsVisible w s own) pages f.entry.tid q at;
+      has = seen.first.is_seen;
+    } in
+    (t, (visible-found value_of since w pages entries sound s own active sees_none value key q t).1 i)
+
 pub found-on_heap : (value_of : Row → ℤ) (since : Option ℕ) (w : Window) (pages : List (List Slot)) (entries : List Entry) (s : Snap) (own : List ℕ) → EntriesAreSound value_of since w pages entries
     → ((x : ℕ) → Contains own x → IsActive w x) → SeesNoExcused w since s own → (value : ℤ) (key : ℕ) (answer : Option Row) → FirstFound w (IsVisible w s own) pages entries value key answer
     → MatchOption answer
@@ -57,20 +77,9 @@ found-on_heap value_of since w pages entries s own sound active sees_none value 
     let slots = slots_on pages i.entry.tid.page in
     fetched-none w (IsVisible w s own) slots i.entry.tid.slot p.slot t (sound.heap i.entry.tid.page) (none i.entry i.leads.there i.of) i.leads.chain
     (ap (λ n. version_at (slots_on pages n) p.slot) (sym i.leads.page) ∙ i.there) i.has
-found-on_heap value_of since w pages entries s own sound active sees_none value key (Some row) f =
-    let slots = slots_on pages f.entry.tid.page in
-    let chain = f.fetched.0 in
-    let first = f.fetched.2.1 in
-    let place = f.fetched.2.0 in
-    let p : Tid = record { page = f.entry.tid.page; slot = get_or chain place 0 } in
-    let i : IsByIndex w pages entries value key (λ t. IsVisible w s own t.header) p f.version = record {
-      entry = f.entry;
-      of = f.of;
-      leads = record { there = f.there; page = refl; chain = listed-in w slots f.entry.tid.slot place chain (sound.index.leads f.entry f.there) f.fetched.1 first.within };
-      there = first.there;
-      has = first.is_seen;
-    } in
-    (p, f.version, (visible-found value_of since w pages entries sound s own active sees_none value key p f.version).1 i, f.is_row)
+found-on_heap value_of since w pages entries s own sound active sees_none value key (Some row) (q, f, is) =
+    let p = seen-on_heap value_of since w pages entries s own sound active sees_none value key q f in
+    (q, p.0, p.1, same_Some row p.0.row (sym is ∙ ap (option_map (λ (t : Version). t.row)) p.1.there))
 
 pub the_row-found : (value_of : Row → ℤ) (since : Option ℕ) (w : Window) (pages : List (List Slot)) (entries : List Entry) (s : Snap) (own : List ℕ) → EntriesAreSound value_of since w pages entries
     → ((x : ℕ) → Contains own x → IsActive w x) → SeesNoExcused w since s own → (value : ℤ) (key : ℕ)
@@ -93,20 +102,7 @@ pub place-on_heap : (value_of : Row → ℤ) (since : Option ℕ) (w : Window) (
 place-on_heap value_of since w pages entries s own sound active sees_none value key None none =
     found-on_heap value_of since w pages entries s own sound active sees_none value key None none
 place-on_heap value_of since w pages entries s own sound active sees_none value key (Some q) f =
-    let slots = slots_on pages f.entry.tid.page in
-    let at = f.seen_at in
-    let chain = at.chain in
-    let seen = at.seen_in in
-    let t = seen.version in
-    let listed = listed-in w slots f.entry.tid.slot seen.index chain (sound.index.leads f.entry f.there) at.is_chain seen.first.within in
-    let i : IsByIndex w pages entries value key (λ t. IsVisible w s own t.header) q t = record {
-      entry = f.entry;
-      of = f.of;
-      leads = record { there = f.there; page = at.page; chain = subst (IsIn w slots f.entry.tid.slot) (sym seen.slot) listed };
-      there = seen-there w (IsVisible w s own) pages f.entry.tid q at;
-      has = seen.first.is_seen;
-    } in
-    (t, (visible-found value_of since w pages entries sound s own active sees_none value key q t).1 i)
+    seen-on_heap value_of since w pages entries s own sound active sees_none value key q f
 
 -- Ids that made or deleted a version.
 

@@ -10,14 +10,11 @@ use Rattle.root_index.specs.declared.progress.Progress.TheVariants.{More, Done}
 use Rattle.heap_write.specs.Cleaning.{SweepsAt}
 use Rattle.sound_vacuum.specs.Between.{StepsBetween}
 
--- the entry stands in an index before this one, or in this one where a piece that begins after `from` has it behind
-abbrev pub IsBehind : ℕ → Option Entry → ℕ → Entry → Type 0
-IsBehind i from n e = (n < i) ⊎ ((n ≡ i) × ¬ IsAfter from e)
-
--- no entry there leads to a collected slot
+-- no entry leads to a collected slot that stands in an index before this one, or in this one where a piece that begins after `from` has
+-- it behind
 abbrev pub AreSwept : HeapView → List Tid → ℕ → Option Entry → Type 0
 AreSwept h dead i from = (n : ℕ) (e : Entry) → IsInUse h.indexes n
-    → Contains (entries_in h.indexes n) e → IsBehind i from n e → ¬ Contains dead e.tid
+    → Contains (entries_in h.indexes n) e → (n < i) ⊎ ((n ≡ i) × ¬ IsAfter from e) → ¬ Contains dead e.tid
 
 -- nor any entry at all
 abbrev pub AllAreSwept : HeapView → List Tid → Type 0

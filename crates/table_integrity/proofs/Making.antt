@@ -14,8 +14,6 @@ use Rattle.sound_page.specs.Sound.{IsIn}
 use Rattle.sound_page.proofs.SoundChains.{in-leads}
 use Rattle.index_entries.specs.declared.entry.Entry.{Entry}
 use Rattle.index_lookup.specs.Pages.{slots_on, slot_in}
-use Rattle.index_lookup.specs.Pages as lists
-use Rattle.heap_pages.specs.View.{PagesView}
 use Rattle.sound_entries.specs.Entries.{SoundHeap, SoundEntries, KeepsTarget, KeepsTargets}
 use Rattle.sound_entries.specs.Since.{IsExactSince}
 use Rattle.sound_entries.proofs.Going.{stays-same}
@@ -101,7 +99,10 @@ module _ (h : HeapView) (number : ℕ) (entries : List Entry) (sound : SoundTabl
 -- The table.
 
 same-slots : (h h' : HeapView) (column : ℕ) → MakesIndex h h' column → slots_of h' ≡ slots_of h
-same-slots h h' column m = ap (λ (p : PagesView). lists.page_slots_of p) m.pages
+same-slots h h' column m = ap (λ (g : HeapView). slots_of g) m.is
+
+same-ids : (h h' : HeapView) (column : ℕ) → MakesIndex h h' column → h'.statuses ≡ h.statuses
+same-ids h h' column m = ap (λ (g : HeapView). g.statuses) m.is
 
 -- an index that is sound on the pages and by the ids as they were
 sound-as : (h h' : HeapView) (column n : ℕ) (since : Option ℕ) (entries : Option (List Entry)) → MakesIndex h h' column → since_at h'.indexes n ≡ since → entries_at h'.indexes n ≡ entries
@@ -111,11 +112,11 @@ sound-as h h' column n since entries m same_since same_entries sound =
     subst (λ (o : Option (List Entry)). SoundEntries (value_in n) (since_at h'.indexes n) h'.statuses (slots_of h') (unwrap_or o [])) (sym same_entries)
     (subst (λ s. SoundEntries (value_in n) s h'.statuses (slots_of h') (unwrap_or entries [])) (sym same_since)
     (subst (λ pages. SoundEntries (value_in n) since h'.statuses pages (unwrap_or entries [])) (sym (same-slots h h' column m))
-    (subst (λ w. SoundEntries (value_in n) since w (slots_of h) (unwrap_or entries [])) (sym m.statuses) sound)))
+    (subst (λ w. SoundEntries (value_in n) since w (slots_of h) (unwrap_or entries [])) (sym (same-ids h h' column m)) sound)))
 
 pub made-sound : (h h' : HeapView) (column : ℕ) → SoundTable h → AllHaveEnded h → MakesIndex h h' column → SoundTable h'
 made-sound h h' column sound nobody m = record {
-  heap = subst (λ w. SoundHeap w (slots_of h')) (sym m.statuses) (subst (λ pages. SoundHeap h.statuses pages) (sym (same-slots h h' column m)) sound.heap);
+  heap = subst (λ w. SoundHeap w (slots_of h')) (sym (same-ids h h' column m)) (subst (λ pages. SoundHeap h.statuses pages) (sym (same-slots h h' column m)) sound.heap);
   indexes = λ n used. ⊎_elim
       (λ new. subst (λ i. SoundEntries (value_in i) (since_at h'.indexes i) h'.statuses (slots_of h') (entries_in h'.indexes i)) (sym new) made)
       (λ other. sound-as h h' column n (since_at h.indexes n) (entries_at h.indexes n) m (m.others_since n other) (m.others n other)
@@ -137,7 +138,7 @@ made-led h h' column sound m n e there among =
 -- the next id has none in progress before it, since none is
 pub made-since : (h h' : HeapView) (column : ℕ) → AllHaveEnded h → MakesIndex h h' column
     → ((n : ℕ) → IsExactSince h.statuses (since_at h.indexes n)) → (n : ℕ) → IsExactSince h'.statuses (since_at h'.indexes n)
-made-since h h' column nobody m exact n = subst (λ w. IsExactSince w (since_at h'.indexes n)) (sym m.statuses) (⊎_elim
+made-since h h' column nobody m exact n = subst (λ w. IsExactSince w (since_at h'.indexes n)) (sym (same-ids h h' column m)) (⊎_elim
     (λ new. subst (λ (o : Option ℕ). IsExactSince h.statuses o) (sym (ap (since_at h'.indexes) new ∙ m.since)) next)
     (λ other. subst (λ (o : Option ℕ). IsExactSince h.statuses o) (sym (m.others_since n other)) (exact n))
     (cases_eq n (suc column)))

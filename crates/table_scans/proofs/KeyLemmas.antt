@@ -1,11 +1,11 @@
 -- Keys are met on a scan over keys alone, key by key, and listed or written to places.
-use Rattle.std.proofs.Common.{◌≡◌, ℕ, ◌+◌, ◌<◌, ◌≤◌, List, [], ◌∷◌, ◌++◌, length, set, get_or, refl, sym, ap, ◌∙◌, subst, arith}
+use Rattle.std.proofs.Common.{◌≡◌, ℕ, ◌+◌, ◌<◌, ◌≤◌, List, [], ◌∷◌, ◌++◌, length, set, get_or, Some, refl, sym, ap, ◌∙◌, subst, arith}
 use Rattle.std.proofs.lemmas.List.{length-append}
 use Rattle.tuple_header.specs.declared.row_place.RowPlace.{RowPlace}
 use Rattle.index_lookup.specs.declared.index_scan.IndexPosition.{IndexPosition}
 use Rattle.table_scans.specs.declared.progress.KeyRange.{KeyRange}
 use Rattle.table_scans.specs.Scans.{Sight}
-use Rattle.table_scans.specs.Keys.{IsNextKeyIn, NoKeyIsIn, keys_after, ScansKeys, keys_begin, keys_go_on, MeetsSomeKey, TakesKeys, places_with_keys, PutsKeys}
+use Rattle.table_scans.specs.Keys.{IsNextKeyIn, NoKeyIsIn, ScansKeys, keys_begin, keys_go_on, MeetsSomeKey, TakesKeys, places_with_keys, PutsKeys}
 
 -- so many keys are met
 pub record HasMetKeys (t : Sight) (range left : KeyRange) (count : ℕ) (keys : List ℕ) : Type 0 where
@@ -16,7 +16,7 @@ pub no-key_met : (t : Sight) (range : KeyRange) → HasMetKeys t range range 0 [
 no-key_met t range = record { scans = keys_begin; met = refl }
 
 module _ (t : Sight) (range left : KeyRange) (count : ℕ) (keys : List ℕ) (h : HasMetKeys t range left count keys) where
-  pub one-key_met : (position : IndexPosition) → IsNextKeyIn t left position → HasMetKeys t range (keys_after left position) (count + 1) (keys ++ position.key ∷ [])
+  pub one-key_met : (position : IndexPosition) → IsNextKeyIn t left position → HasMetKeys t range (record left { last = Some position }) (count + 1) (keys ++ position.key ∷ [])
   one-key_met position next = record {
     scans = keys_go_on left keys position h.scans next;
     met = length-append keys (position.key ∷ []) ∙ ap (λ n. n + 1) h.met;
@@ -26,7 +26,7 @@ module _ (t : Sight) (range left : KeyRange) (count : ℕ) (keys : List ℕ) (h 
   pub meets-next_key : (position : IndexPosition) → IsNextKeyIn t left position → MeetsSomeKey t range
   meets-next_key position next =
       let long = length-append keys (position.key ∷ []) in
-      (keys_after left position, keys ++ position.key ∷ [], keys_go_on left keys position h.scans next, omega arith)
+      (record left { last = Some position }, keys ++ position.key ∷ [], keys_go_on left keys position h.scans next, omega arith)
 
   -- none is left
   pub all-keys_met : (most : ℕ) → count ≤ most → NoKeyIsIn t left → TakesKeys t range left most keys
@@ -77,7 +77,7 @@ no-key_put t range places = record { keys = []; written = refl; met = no-key_met
 
 module _ (t : Sight) (range left : KeyRange) (count : ℕ) (places after : List RowPlace) (h : HasPutKeys t range left count places after) where
   pub one-key_put : (position : IndexPosition) (d : RowPlace) → IsNextKeyIn t left position → count < length places
-      → HasPutKeys t range (keys_after left position) (count + 1) places (set after count (place_with_key position.key (get_or after count d)))
+      → HasPutKeys t range (record left { last = Some position }) (count + 1) places (set after count (place_with_key position.key (get_or after count d)))
   one-key_put position d next room = record {
     keys = h.keys ++ position.key ∷ [];
     written =

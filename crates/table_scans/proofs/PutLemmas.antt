@@ -10,7 +10,7 @@ use Rattle.page_slots.specs.View.{PageView}
 use Rattle.index_lookup.specs.declared.index_scan.IndexPosition.{IndexPosition}
 use Rattle.index_lookup.specs.declared.index_scan.IndexRange.{IndexRange}
 use Rattle.table_scans.specs.declared.progress.Scan.TheVariants.{Index, Heap}
-use Rattle.table_scans.specs.Scans.{Sight, IsNextIn, NoneIsIn, range_after, SeesRow, SeesNone, slot_on, start_of, ScansHeap, heap_begins, heap_passes, heap_finds, heap_turns}
+use Rattle.table_scans.specs.Scans.{Sight, IsNextIn, NoneIsIn, SeesRow, SeesNone, slot_on, start_of, ScansHeap, heap_begins, heap_passes, heap_finds, heap_turns}
 use Rattle.table_scans.specs.Takes.{ComesTo}
 use Rattle.table_scans.specs.Puts.{HasPut, PutsNext, PutsOfIndex, PutsOfHeap, PutsOfPage}
 use Rattle.table_scans.proofs.ScanLemmas.{no-rows, none-behind, none-unused}
@@ -50,7 +50,7 @@ none-put_met t range places = record { rows = []; put = record { number = refl; 
 
 module _ (t : Sight) (range left : IndexRange) (count : ℕ) (places after : List RowPlace) (h : HasPutMet t range left count places after) where
   pub one-put : (position : IndexPosition) (row : Row) (d new : RowPlace) → IsNextIn t left position row → count < length places → new ≡ place_with row (get_or after count d)
-      → HasPutMet t range (range_after left position) (count + 1) places (set after count new)
+      → HasPutMet t range (record left { last = Some position }) (count + 1) places (set after count new)
   one-put position row d new next room is = record {
     rows = h.rows ++ row ∷ [];
     put = put-one places count after h.rows row d new h.put room is;

@@ -8,7 +8,7 @@ use Rattle.page_slots.specs.View.{PageView}
 use Rattle.index_lookup.specs.declared.index_scan.IndexPosition.{IndexPosition}
 use Rattle.index_lookup.specs.declared.index_scan.IndexRange.{IndexRange}
 use Rattle.table_scans.specs.declared.progress.Scan.TheVariants.{Index, Heap}
-use Rattle.table_scans.specs.Scans.{Sight, IsNextIn, NoneIsIn, range_after, ScansIndex, index_begins, index_goes_on, SeesRow, SeesNone, slot_on, start_of, ScansHeap, heap_begins, heap_passes, heap_finds, heap_turns}
+use Rattle.table_scans.specs.Scans.{Sight, IsNextIn, NoneIsIn, ScansIndex, index_begins, index_goes_on, SeesRow, SeesNone, slot_on, start_of, ScansHeap, heap_begins, heap_passes, heap_finds, heap_turns}
 use Rattle.table_scans.specs.Takes.{IsAtEnd, MeetsSome, TakesRows, TakesAll, ComesTo, TakesPage}
 use Rattle.table_scans.proofs.ScanLemmas.{some-more, no-rows, all-left, heap-after, none-behind, none-unused}
 
@@ -23,7 +23,7 @@ pub none-met : (t : Sight) (range : IndexRange) → HasMet t range range 0 []
 none-met t range = record { scans = index_begins; met = refl }
 
 module _ (t : Sight) (range left : IndexRange) (count : ℕ) (rows : List Row) (h : HasMet t range left count rows) where
-  pub one-met : (position : IndexPosition) (row : Row) → IsNextIn t left position row → HasMet t range (range_after left position) (count + 1) (rows ++ row ∷ [])
+  pub one-met : (position : IndexPosition) (row : Row) → IsNextIn t left position row → HasMet t range (record left { last = Some position }) (count + 1) (rows ++ row ∷ [])
   one-met position row next = record {
     scans = index_goes_on left rows position row h.scans next;
     met = length-append rows (row ∷ []) ∙ ap (λ n. n + 1) h.met;
@@ -31,7 +31,7 @@ module _ (t : Sight) (range left : IndexRange) (count : ℕ) (rows : List Row) (
 
   -- there is a row to hand out, whether or not memory is
   pub meets-next : (position : IndexPosition) (row : Row) → IsNextIn t left position row → MeetsSome t (Index range)
-  meets-next position row next = (range_after left position, rows ++ row ∷ [], index_goes_on left rows position row h.scans next, some-more rows row)
+  meets-next position row next = (record left { last = Some position }, rows ++ row ∷ [], index_goes_on left rows position row h.scans next, some-more rows row)
 
   -- none is left
   pub all-met : (most : ℕ) → count ≤ most → NoneIsIn t left → TakesRows t range left most rows

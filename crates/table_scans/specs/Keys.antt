@@ -22,15 +22,11 @@ IsNextKeyIn t range position = IsNextKey t.statuses t.sees t.heap.pages (entries
 abbrev pub NoKeyIsIn : Sight → KeyRange → Type 0
 NoKeyIsIn t range = NoKeyLeft t.statuses t.sees t.heap.pages (entries_in t.heap.indexes 0) (span_of range)
 
--- what of the range comes after a place of its order
-abbrev pub keys_after : KeyRange → IndexPosition → KeyRange
-keys_after range position = record range { last = Some position }
-
 -- a scan of the range meets these keys, one after another, and this is left of it
 pub data ScansKeys (t : Sight) (range : KeyRange) : KeyRange → List ℕ → Type 0 where
   keys_begin : ScansKeys t range range []
   keys_go_on : (left : KeyRange) (keys : List ℕ) (position : IndexPosition) → ScansKeys t range left keys → IsNextKeyIn t left position
-      → ScansKeys t range (keys_after left position) (keys ++ position.key ∷ [])
+      → ScansKeys t range (record left { last = Some position }) (keys ++ position.key ∷ [])
 
 -- it meets some key
 abbrev pub MeetsSomeKey : Sight → KeyRange → Type 0

@@ -35,15 +35,11 @@ IsNextIn t range position row = IsNextRow t.statuses t.sees (slots_of t.heap) (e
 abbrev pub NoneIsIn : Sight → IndexRange → Type 0
 NoneIsIn t range = NoneLeft t.statuses t.sees (slots_of t.heap) (entries_in t.heap.indexes range.index) range
 
--- what of the range comes after a place of its order
-abbrev pub range_after : IndexRange → IndexPosition → IndexRange
-range_after range position = record range { last = Some position }
-
 -- a scan of the range meets these rows, one after another, and this is left of it
 pub data ScansIndex (t : Sight) (range : IndexRange) : IndexRange → List Row → Type 0 where
   index_begins : ScansIndex t range range []
   index_goes_on : (left : IndexRange) (rows : List Row) (position : IndexPosition) (row : Row) → ScansIndex t range left rows → IsNextIn t left position row
-      → ScansIndex t range (range_after left position) (rows ++ row ∷ [])
+      → ScansIndex t range (record left { last = Some position }) (rows ++ row ∷ [])
 
 -- Over the heap.
 

@@ -21,7 +21,7 @@ use Rattle.calls.specs.declared.vacuum.Mode.{Mode}
 use Rattle.calls.specs.declared.vacuum.Piece.{Piece}
 use Rattle.vacuum_passes.specs.declared.vacuum.Phase.{Phase}
 use Rattle.vacuum_passes.specs.declared.vacuum.Phase.TheVariants as phase
-use Rattle.vacuum_passes.specs.View.{VacuumView, places, space, phase_with, collected, at_end, with_phase, counted, new_vacuum, bound}
+use Rattle.vacuum_passes.specs.View.{VacuumView, places, space, phase_with, collected, at_end, counted, new_vacuum, bound}
 use Rattle.root_index.specs.Pieces.{RemovesPiece}
 use Rattle.vacuum_passes.specs.Visits.{Visits, IsNextPage}
 use Rattle.vacuum_passes.specs.Steps.{Steps, PhaseAfter, Sweeps, Frees, off_page, phase_left}
@@ -393,8 +393,8 @@ counted-on v u pages entries alone steps = record { pages = pages; entries = ent
 
 steps-on : (h h' : HeapView) (v v' : VacuumView) (horizon : ℕ) (piece : Piece) → Steps h h' v horizon (Some v') (Some piece) → GoesOn v v'
 steps-on h h' v _ horizon _ (Steps.visits p v' is next visit) = subst (λ (u : VacuumView). GoesOn v (counted u)) (sym visit.collects) (counted-on v (collected v p visit.dead) refl refl refl refl)
-steps-on h h' v _ horizon _ (Steps.begins_index v' is over some s) = subst (λ (u : VacuumView). GoesOn v (counted u)) (sym s.same) (counted-on v (with_phase (at_end v) v'.phase) refl refl refl refl)
-steps-on h h' v _ horizon _ (Steps.sweeps i from v' is s) = subst (λ (u : VacuumView). GoesOn v (counted u)) (sym s.same) (counted-on v (with_phase v v'.phase) refl refl refl refl)
+steps-on h h' v _ horizon _ (Steps.begins_index v' is over some s) = subst (λ (u : VacuumView). GoesOn v (counted u)) (sym s.same) (counted-on v (record (at_end v) { phase = v'.phase }) refl refl refl refl)
+steps-on h h' v _ horizon _ (Steps.sweeps i from v' is s) = subst (λ (u : VacuumView). GoesOn v (counted u)) (sym s.same) (counted-on v (record v { phase = v'.phase }) refl refl refl refl)
 steps-on h h' v _ horizon _ (Steps.frees p v' is f) = subst (λ (u : VacuumView). GoesOn v (counted u)) (sym f.is)
     (counted-on v (record v { store = off_page p v.store; phase = phase_left (off_page p v.store) }) refl refl refl refl)
 steps-on h h' v _ horizon _ (Steps.drops p v' is d) = subst (λ (u : VacuumView). GoesOn v (counted u)) (sym d.is)

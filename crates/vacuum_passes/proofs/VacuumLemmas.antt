@@ -19,7 +19,7 @@ use Rattle.calls.specs.declared.vacuum.Piece.{Piece}
 use Rattle.vacuum_passes.specs.declared.vacuum.Phase.{Phase}
 use Rattle.vacuum_passes.specs.declared.vacuum.Phase.TheVariants as phase
 use Rattle.root_index.specs.declared.progress.Progress.{Progress}
-use Rattle.vacuum_passes.specs.View.{VacuumView, places, space, phase_with, collected, at_end, with_phase, counted}
+use Rattle.vacuum_passes.specs.View.{VacuumView, places, space, phase_with, collected, at_end, counted}
 use Rattle.vacuum_passes.specs.Steps.{Steps, PhaseAfter, Sweeps, Frees, off_page, phase_left}
 use Rattle.vacuum_passes.specs.Keeps.{KeepsStore, IsVacuum}
 use Rattle.vacuum_passes.proofs.ListLemmas.{pairs-append, pairs-take, pairs-head, pairs-tail, all-from, in-filtered, in-mapped}
@@ -126,7 +126,7 @@ swept-kept h h' v v' i from within limit few up passed some s = subst IsVacuum (
   few = few;
   ascending = up;
   passed = passed;
-  store = index-kept h.indexes i s.progress v'.phase (with_phase v v'.phase) some s.next;
+  store = index-kept h.indexes i s.progress v'.phase (record v { phase = v'.phase }) some s.next;
 })
 
 -- Slots become unused.

@@ -11,7 +11,7 @@ use Rattle.vacuum_passes.specs.declared.vacuum.Phase.{Phase}
 use Rattle.vacuum_passes.specs.declared.vacuum.Phase.TheVariants as phase
 use Rattle.calls.specs.declared.vacuum.Piece.{Piece}
 use Rattle.calls.specs.declared.vacuum.Piece.TheVariants as piece
-use Rattle.vacuum_passes.specs.View.{VacuumView, counted, at_end, with_phase, places}
+use Rattle.vacuum_passes.specs.View.{VacuumView, counted, at_end, places}
 use Rattle.vacuum_passes.specs.Visits.{IsNextPage, NoPageLeft, Visits}
 use Rattle.heap_write.specs.Cleaning.{SweepsAt, FreesAt, Notes}
 
@@ -32,7 +32,7 @@ pub record Sweeps (h h' : HeapView) (v v' : VacuumView) (i : ℕ) (from : Option
   pub progress : Progress
   pub sweeps : SweepsAt h h' i v.store from progress
   pub next : PhaseAfter h.indexes i progress v'.phase
-  pub same : v' ≡ with_phase v v'.phase
+  pub same : v' ≡ record v { phase = v'.phase }
 
 -- Free.
 

@@ -91,9 +91,6 @@ collected v p dead = record v {
 abbrev pub at_end : VacuumView → VacuumView
 at_end v = record v { next = v.pages }
 
-abbrev pub with_phase : VacuumView → Phase → VacuumView
-with_phase v phase = record v { phase = phase }
-
 -- how many steps it takes at most, while it is alone: with the number of pages to visit and of entries at its beginning
 abbrev pub bound : ℕ → ℕ → ℕ
 bound pages entries = (MOST_SLOTS + 1) * pages * (entries + 8) + 1
