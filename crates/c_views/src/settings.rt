@@ -4,6 +4,7 @@ ghost use Rattle.std.specs.Prelude.{◌≡◌};
 ghost use Rattle.c_views.specs.Settings.{settings_of};
 
 use session_core::Settings;
+use tuple_header::COLUMNS;
 
 /// What an engine is made with: see [`Settings`], whose fields these are.
 #[repr(C)]
@@ -14,7 +15,7 @@ pub struct SandpiperSettings {
     pub freeze_min_age: u32,
     pub first_xid: u32,
     pub dead_limit: u32,
-    pub indexed: [bool; 4],
+    pub indexed: [bool; COLUMNS],
 }
 
 /// The same settings.

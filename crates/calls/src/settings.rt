@@ -4,6 +4,7 @@ ghost use Rattle.std.specs.Prelude.{◌≡◌, IfSome, None, ◌↔◌};
 ghost use Rattle.calls.specs.Words.{AreSettings, FirstFault};
 
 use thiserror::Error;
+use tuple_header::COLUMNS;
 
 /// What an engine is made with.
 #[derive(Clone, Copy, Debug, PartialEq, Eq)]
@@ -19,7 +20,7 @@ pub struct Settings {
     /// How many dead slots a vacuum collects before it goes through the indexes: 1 to 4096.
     pub dead_limit: u32,
     /// Which columns have an index.
-    pub indexed: [bool; 4],
+    pub indexed: [bool; COLUMNS],
 }
 
 /// Why an engine is not made: the first setting that is out of its range (see [`Settings`]), or memory.

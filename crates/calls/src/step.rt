@@ -10,7 +10,7 @@ use crate::vacuum::Mode;
 use prune_actions::Action;
 use std::alloc::{AllocError, Global};
 use std::marker::Model;
-use tuple_header::{MOST_BODY, Row};
+use tuple_header::{COLUMNS, MOST_BODY, Row};
 
 /// A row to be written, whose body may be of any length.
 #[derive(Debug, Drop)]
@@ -18,7 +18,7 @@ pub struct RowIn {
     /// The row's own key.
     pub key: u64,
     /// The columns 0 to 3.
-    pub cols: [i64; 4],
+    pub cols: [i64; COLUMNS],
     /// At most 1024 bytes, else the step is refused as TooLarge.
     pub body: Vec<u8>,
 }

@@ -19,6 +19,7 @@ use std::marker::Model;
 use std::sync::Arc;
 use table_indexes::Indexes;
 use thiserror::Error;
+use tuple_header::COLUMNS;
 use xid_circle::Xid;
 
 /// Why a write was not done. An insert tests NoRoom before it asks for memory; an update asks for all that it needs before it
@@ -76,7 +77,13 @@ impl HeapState {
     /// A table without pages. It may have `max_pages` pages, up to 65,536, and its first id is `first`, a normal one. No id is
     /// given `stop_age` numbers, at most 2,144,483,648, from the oldest that is remembered, or further. It has an index by key, and
     /// one by each column where `indexed` is true.
-    pub fn new(alloc: Global, first: Xid, stop_age: u32, max_pages: u32, indexed: [bool; 4]) -> Self
+    pub fn new(
+        alloc: Global,
+        first: Xid,
+        stop_age: u32,
+        max_pages: u32,
+        indexed: [bool; COLUMNS],
+    ) -> Self
         requires normal { IsNormal first.0 }
         requires limit { stop_age ≤ 2144483648 }
         requires few { max_pages ≤ MOST_PAGES }

@@ -4,6 +4,7 @@ ghost use Rattle.std.specs.Prelude.{◌≡◌, ◌<◌, OnOk, OnErr};
 ghost use Rattle.index_making.specs.Making.{SomeCurrent};
 ghost use Rattle.heap_write.specs.Heap.{slots_of};
 ghost use Rattle.heap_write.specs.Making.{MakesIndex};
+ghost use Rattle.tuple_header.specs.declared.version.TheConstants.{COLUMNS};
 
 use crate::heap::HeapState;
 use index_making::list_current;
@@ -14,7 +15,7 @@ impl HeapState {
     /// next id on. It is made beside the table, so that nothing has changed where memory is refused. An index that was there by
     /// the column goes. (The manual's CREATE INDEX; README.HOT.)
     pub fn make_index(&mut self, column: u8) -> Result<(), AllocError>
-        requires { column < 4 }
+        requires { column < COLUMNS }
         ensures made { OnOk result (MakesIndex self.old self.new column) }
         ensures err { OnErr result (self.new ≡ self.old) }
         ensures refused { OnErr result (SomeCurrent self.old.statuses (slots_of self.old)) }

@@ -5,6 +5,7 @@ use Rattle.xid_circle.specs.Following.{ReachesIn}
 use Rattle.tuple_header.specs.declared.version.Row.{Row}
 use Rattle.calls.specs.Bars.{SessionLooks}
 use Rattle.history.specs.History.{Write, Transaction, written, reading, IsLate}
+use Rattle.tuple_header.specs.declared.version.TheConstants.{COLUMNS}
 
 -- in which way a cursor goes over its rows: in the order of an index, in any order, or by their keys alone
 pub data Order : Type 0 where
@@ -89,11 +90,11 @@ SomeoneHasWritten w = (s : ℕ) × (m : OpenSession) × (w.session s ≡ Some m)
 
 -- there is no index of the column, and may be one
 abbrev pub LacksIndex : World → (column : ℕ) → Type 0
-LacksIndex w c = (c < 4) × (w.has_index (suc c) ≡ false)
+LacksIndex w c = (c < COLUMNS) × (w.has_index (suc c) ≡ false)
 
 -- the index of the column may be made, or is there
 abbrev pub MayIndex : World → (column : ℕ) → Type 0
-MayIndex w c = (c < 4) × (w.has_index (suc c) ≡ false → ¬ SomeoneHasWritten w)
+MayIndex w c = (c < COLUMNS) × (w.has_index (suc c) ≡ false → ¬ SomeoneHasWritten w)
 
 -- were s to wait for o, the waits, followed from o, would close a ring ("Deadlocks" in the manual's section on explicit locking)
 abbrev pub ClosesRing : (waits : ℕ → Option ℕ) → (s o : ℕ) → Type 0

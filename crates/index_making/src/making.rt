@@ -9,6 +9,7 @@ ghost use Rattle.entry_columns.specs.declared.short_tid.TheConstants.{PAGES};
 ghost use Rattle.table_indexes.specs.Indexes.{index_entry_of};
 ghost use Rattle.index_making.specs.Making.{ListsCurrent, SomeCurrent};
 ghost use Rattle.index_making.specs.Listing.{ReadsCurrent, IsRowOfCurrent, LacksCurrent, SomeFirstCurrent, AddsCurrent, ListsUpTo};
+ghost use Rattle.tuple_header.specs.declared.version.TheConstants.{COLUMNS};
 
 use crate::filling::Filling;
 use commit_status::StatusTable;
@@ -30,7 +31,7 @@ pub fn list_current(
     statuses: &StatusTable,
     column: u8,
 ) -> Result<RootIndex, AllocError>
-    requires { column < 4 }
+    requires { column < COLUMNS }
     ensures lists { IfOk result (λ index.
         ListsCurrent statuses.now (page_slots_of pages.now) (suc column) index.entries) }
     ensures kind { IfOk result (λ index. index.is_by_key ≡ false) }
@@ -55,7 +56,7 @@ fn list_pages(
     reader: &Reader<'_>,
     filling: &mut Filling,
 ) -> Result<(), AllocError>
-    requires column { column < 4 }
+    requires column { column < COLUMNS }
     requires reads { ReadsCurrent reader.now.statuses.now reader.now }
     requires none { filling.old ≡ [] }
     ensures lists { OnOk result (ListsCurrent reader.now.statuses.now (page_slots_of pages.now)
@@ -77,7 +78,7 @@ fn list_page(
     reader: &Reader<'_>,
     filling: &mut Filling,
 ) -> Result<(), AllocError>
-    requires column { column < 4 }
+    requires column { column < COLUMNS }
     requires within { number < length pages.now.pages }
     requires few { number < PAGES }
     requires reads { ReadsCurrent reader.now.statuses.now reader.now }
@@ -103,7 +104,7 @@ fn enter_current(
     reader: &Reader<'_>,
     filling: &mut Filling,
 ) -> Result<(), AllocError>
-    requires column { column < 4 }
+    requires column { column < COLUMNS }
     requires page { place.page < PAGES }
     requires reads { ReadsCurrent reader.now.statuses.now reader.now }
     ensures adds { OnOk result (AddsCurrent reader.now.statuses.now page.now.slots (suc column)
@@ -119,7 +120,7 @@ fn enter_current(
 
 /// The entry of a row in the index by this column, which leads to this place.
 fn entry_of(row: &RowRef<'_>, column: u8, place: Tid) -> Entry
-    requires column { column < 4 }
+    requires column { column < COLUMNS }
     requires page { place.page < PAGES }
     ensures entry { result ≡ index_entry_of (suc column) row.now place }
     ensures fits { Fits false result }

@@ -4,7 +4,7 @@ ghost use Rattle.std.specs.Prelude.{◌≡◌, ◌↔◌, IsTrue};
 ghost use Rattle.one_answer.specs.OneAnswer.{TellTheSame};
 
 use calls::{Refusal, Reply};
-use tuple_header::Row;
+use tuple_header::{COLUMNS, Row};
 
 /// Whether both refusals have one name, and Busy one session.
 fn same_refusal(a: Refusal, b: Refusal) -> bool
@@ -13,7 +13,7 @@ fn same_refusal(a: Refusal, b: Refusal) -> bool
     a == b
 }
 
-fn same_columns(a: &[i64; 4], b: &[i64; 4]) -> bool
+fn same_columns(a: &[i64; COLUMNS], b: &[i64; COLUMNS]) -> bool
     ensures { IsTrue result ↔ (a.now ≡ b.now) }
 {
     *a == *b

@@ -21,6 +21,7 @@ use following::{NoMemory, follow};
 use plain_history::PlainHistory;
 use std::alloc::Global;
 use std::marker::Model;
+use tuple_header::COLUMNS;
 
 /// What is said of an answer.
 #[derive(Clone, Copy, Debug, PartialEq, Eq)]
@@ -88,7 +89,7 @@ fn is_free(plain: &PlainHistory, step: &Step, reply: &Reply) -> bool
 
 impl Judge {
     /// Nothing has been judged, and these columns are indexed.
-    pub fn new(alloc: Global, indexed: [bool; 4]) -> Result<Judge, NoMemory>
+    pub fn new(alloc: Global, indexed: [bool; COLUMNS]) -> Result<Judge, NoMemory>
         ensures { IfOk result (λ j. world_of j ≡ beginning indexed) }
     {
         match PlainHistory::new(alloc, indexed) {

@@ -6,13 +6,13 @@ ghost use Rattle.tuple_header.specs.IndexValue.{value_in};
 use arrayvec::ArrayVec;
 use std::alloc::{AllocError, Global};
 use std::marker::Model;
-use tuple_header::Row;
+use tuple_header::{COLUMNS, Row};
 
 /// A row with no more memory than its body takes. A `Row` has room for the largest, which is too much where many are kept.
 #[derive(Drop)]
 pub struct KeptRow {
     key: u64,
-    cols: [i64; 4],
+    cols: [i64; COLUMNS],
     body: Vec<u8>,
 }
 

@@ -1,6 +1,6 @@
 -- The limits of the product: how much each constant is that a contract names.
 use Rattle.std.specs.Prelude.{◌≡◌, true, false, [], replicate}
-use Rattle.tuple_header.specs.declared.version.TheConstants.{MOST_BODY, MOST_SLOTS}
+use Rattle.tuple_header.specs.declared.version.TheConstants.{COLUMNS, MOST_BODY, MOST_SLOTS}
 use Rattle.dead_places.specs.declared.dead_set.TheConstants.{MOST_PLACES}
 use Rattle.page_sheet.specs.Slots.{room_of}
 use Rattle.root_index.specs.View.{free_places}
@@ -16,6 +16,8 @@ use Rattle.script_text.specs.declared.line.TheConstants.{MOST_LINE_BYTES}
 
 pub record LimitsAre : Type 0 where
   pub slots_of_a_page : MOST_SLOTS ≡ 291
+  -- of a row
+  pub columns : COLUMNS ≡ 4
   -- of a row, in bytes
   pub body : MOST_BODY ≡ 1024
   -- in an empty page: 8168 bytes without the pointer of a first slot

@@ -1,7 +1,7 @@
 -- What can be wrong with the header of a page, or with a slot by itself (PostgreSQL manual, Database Page Layout).
 use Rattle.std.specs.Prelude.{ℕ, zero, suc, ◌+◌, ◌-◌, ◌*◌, ◌/◌, ◌%◌, ◌==◌, nat_lt, not, ◌||◌, Bool, true, false, if◌then◌else◌, List, length, Option, Some, None}
 use Rattle.std.specs.Option.{option_or}
-use Rattle.tuple_header.specs.declared.version.TheConstants.{MOST_SLOTS}
+use Rattle.tuple_header.specs.declared.version.TheConstants.{BODY_START, MOST_SLOTS}
 use Rattle.tuple_header.specs.Layout.{number_at}
 use Rattle.tuple_header.specs.Faults.{first_fault}
 use Rattle.tuple_header.specs.declared.fault.TupleFault.{TupleFault}
@@ -57,7 +57,7 @@ has_place word = not (word % 32768 == 0) || not (word / 131072 == 0)
 abbrev pub is_bad_word : Count → (upper word : ℕ) → Pointer → Bool
 is_bad_word count upper word Pointer.Unused = has_place word
 is_bad_word count upper word (Pointer.Normal e) =
-    nat_lt e.len 66 || not (e.from % 8 == 0) || nat_lt e.from upper || nat_lt PAGE_BYTES (end_of e)
+    nat_lt e.len BODY_START || not (e.from % 8 == 0) || nat_lt e.from upper || nat_lt PAGE_BYTES (end_of e)
 is_bad_word count upper word (Pointer.Redirect target) = not (word / 131072 == 0) || target == 0 || nat_lt count target
 is_bad_word count upper word Pointer.Dead = has_place word
 

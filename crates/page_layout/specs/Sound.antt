@@ -4,7 +4,7 @@ use Rattle.std.specs.Int.{next_multiple_of}
 use Rattle.tuple_header.specs.Layout.{number_at, decoded_version}
 use Rattle.tuple_header.specs.Faults.{first_fault}
 use Rattle.tuple_header.specs.Version.{Version}
-use Rattle.tuple_header.specs.declared.version.TheConstants.{MOST_SLOTS}
+use Rattle.tuple_header.specs.declared.version.TheConstants.{BODY_START, MOST_SLOTS}
 use Rattle.xid_circle.specs.Numbers.{Count}
 use Rattle.page_layout.specs.declared.pointer.Pointer.{Pointer}
 use Rattle.page_layout.specs.declared.pointer.Extent.{Extent}
@@ -19,7 +19,7 @@ end_of e = e.from + next_multiple_of e.len 8
 pub record IsExtent (bytes : List ℕ) (e : Extent) : Type 0 where
   pub over : upper_in bytes ≤ e.from
   pub aligned : e.from % 8 ≡ 0
-  pub least : 66 ≤ e.len
+  pub least : BODY_START ≤ e.len
   pub within : end_of e ≤ PAGE_BYTES
   pub faultless : first_fault (part_of bytes e) ≡ None
 

@@ -13,7 +13,7 @@ use crate::numbers::{u16_at, u32_at};
 use crate::parts::part;
 use crate::pointer::{Pointer, pointer_at};
 use crate::sizes::{PAGE_BYTES, PAGE_HEADER_BYTES};
-use tuple_header::{MOST_SLOTS, decode};
+use tuple_header::{BODY_START, MOST_SLOTS, decode};
 
 /// Whether a field of the header that never changes is wrong.
 fn has_wrong_header(bytes: &[u8]) -> bool
@@ -70,7 +70,10 @@ fn is_bad_word(word: u32, count: usize, upper: usize) -> bool
         Pointer::Normal(extent) => {
             let from = usize::from(extent.from);
             let size = usize::from(extent.len).next_multiple_of(8);
-            extent.len < 66 || from % 8 != 0 || from < upper || from + size > PAGE_BYTES
+            extent.len < BODY_START as u16
+                || from % 8 != 0
+                || from < upper
+                || from + size > PAGE_BYTES
         }
         Pointer::Redirect(target) => has_length || target == 0 || usize::from(target) > count,
         Pointer::Dead => has_place,

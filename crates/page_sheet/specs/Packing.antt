@@ -11,12 +11,13 @@ use Rattle.page_sheet.specs.Slots.{bytes_taken}
 use Rattle.page_layout.specs.Layout.{pointer_in, part_of}
 use Rattle.page_sheet.specs.Layout.{slot_in, slots_in}
 use Rattle.page_layout.specs.Sound.{AreApart, HasPlainWord, end_of}
+use Rattle.tuple_header.specs.declared.version.TheConstants.{BODY_START}
 
 -- a version over this place, and its bytes have no fault
 pub record LiesOver (bytes : List ℕ) (upper : ℕ) (e : Extent) : Type 0 where
   pub over : upper ≤ e.from
   pub aligned : e.from % 8 ≡ 0
-  pub least : 66 ≤ e.len
+  pub least : BODY_START ≤ e.len
   pub within : end_of e ≤ PAGE_BYTES
   pub faultless : first_fault (part_of bytes e) ≡ None
 

@@ -13,6 +13,7 @@ use Rattle.page_sheet.specs.Slots.{version_of, version_at}
 use Rattle.page_sheet.specs.Layout.{slot_in}
 use Rattle.tuple_header.specs.Faults.{first_fault}
 use Rattle.tuple_header.specs.Layout.{decoded_version}
+use Rattle.tuple_header.specs.declared.version.TheConstants.{BODY_START}
 
 -- the size of a version, if there is one, not rounded up
 abbrev pub version_length : Slot → Option ℕ
@@ -39,5 +40,5 @@ BeginsAt bytes i from = (len : ℕ) × (pointer_in bytes i ≡ Pointer.Normal (r
 pub record IsVersionAt (bytes : List ℕ) (i : ℕ) (part : List ℕ) : Type 0 where
   pub faultless : first_fault part ≡ None
   pub value : version_of (slot_in bytes i) ≡ Some (decoded_version part)
-  pub least : 66 ≤ length part
+  pub least : BODY_START ≤ length part
   pub most : length part ≤ 1090

@@ -4,7 +4,7 @@ ghost use Rattle.std.specs.Prelude.{◌≡◌, ◌≢◌, ◌≤◌, ◌<◌, �
 ghost use Rattle.std.specs.Option.{option_map};
 ghost use Rattle.std.specs.List.{position_or_len};
 ghost use Rattle.tuple_header.specs.Layout.{number_at, with_bytes, header_bytes, encoding};
-ghost use Rattle.tuple_header.specs.declared.version.TheConstants.{MOST_SLOTS};
+ghost use Rattle.tuple_header.specs.declared.version.TheConstants.{BODY_START, MOST_SLOTS};
 ghost use Rattle.tuple_header.specs.Version.{size_of, rounded_size_of};
 ghost use Rattle.tuple_header.specs.Faults.{HeaderFits, IsVersion, header_fault};
 ghost use Rattle.page_sheet.specs.declared.sheet.TheConstants.{MOST_BYTES};
@@ -27,7 +27,8 @@ use page_layout::{
 };
 use std::marker::Model;
 use tuple_header::{
-    Header, Row, RowRef, header_of, key_of, put_header, put_version, row_in, row_size, version_of,
+    BODY_START, Header, Row, RowRef, header_of, key_of, put_header, put_version, row_in, row_size,
+    version_of,
 };
 use xid_circle::Xid;
 
@@ -60,7 +61,7 @@ impl Model for Sheet {
 /// Writes a header over that of the version in these bytes. Its contract speaks of all bytes, that of [`put_header`] of the version's.
 fn write_header(bytes: &mut [u8], extent: Extent, header: Header)
     requires within { extent.from + extent.len ≤ length bytes.old }
-    requires least { 66 ≤ extent.len }
+    requires least { BODY_START ≤ extent.len }
     ensures bytes { bytes.new
         ≡ with_bytes extent.from (header_bytes header ++ drop 24 (part_of bytes.old extent))
         bytes.old }
@@ -102,7 +103,7 @@ fn put_below(bytes: &mut [u8; PAGE_BYTES], count: usize, index: usize, header: &
     let from = usize::from(u16_at(bytes, 14)) - row_size(row);
     let extent = Extent {
         from: from as u16,
-        len: 66 + row.body.len() as u16,
+        len: BODY_START as u16 + row.body.len() as u16,
     };
     put_encoding(bytes, from, header, row);
     put_u16(bytes, 14, from as u16);

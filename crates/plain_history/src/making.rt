@@ -6,6 +6,7 @@ ghost use Rattle.history.specs.World.{SomeoneHasWritten, MayIndex};
 ghost use Rattle.history.specs.Moves.{is_open_by_snapshot, with_index_on, with_made_index, with_vacuum};
 ghost use Rattle.plain_history.specs.Plain.{has_session_written, open_of, session_in, too_new_in, world_of};
 ghost use Rattle.plain_history.specs.Answers.{RefusesMaking};
+ghost use Rattle.tuple_header.specs.declared.version.TheConstants.{COLUMNS};
 
 use crate::plain::{PlainHistory, PlainIsolation, PlainSession};
 use calls::Refusal;
@@ -71,7 +72,7 @@ fn mark_all(too_new: &mut [[bool; 5]], sessions: &[Option<PlainSession>], index:
 
 impl PlainHistory {
     fn make(&mut self, column: u8)
-        requires { column < 4 }
+        requires { column < COLUMNS }
         ensures { world_of self.new ≡ with_made_index (world_of self.old) (column + 1) }
     {
         self.indexed[column as usize] = true;
@@ -80,7 +81,7 @@ impl PlainHistory {
 
     /// The index of the column is there. It is too new for each session that is open by snapshot, unless it was there.
     pub fn make_if_lacking(&mut self, column: u8)
-        requires { column < 4 }
+        requires { column < COLUMNS }
         ensures { world_of self.new ≡ with_index_on (world_of self.old) column }
     {
         if !self.has_index(column + 1) {

@@ -9,6 +9,7 @@ use keyed_history::{KeyedHistory, PlainLevel};
 use plain_cursor::PlainCursor;
 use std::alloc::{AllocError, Global};
 use std::marker::Model;
+use tuple_header::COLUMNS;
 
 /// By which snapshot a session reads.
 #[derive(Clone, Copy)]
@@ -38,7 +39,7 @@ pub struct PlainHistory {
     // A place for each number of a u8, of which 0 to 63 are ever taken.
     pub(crate) sessions: Vec<Option<PlainSession>>,
     pub(crate) waits: Vec<Option<u8>>,
-    pub(crate) indexed: [bool; 4],
+    pub(crate) indexed: [bool; COLUMNS],
     // For each place, by the number of an index, whether it is too new for the session there.
     pub(crate) too_new: Vec<[bool; 5]>,
     // A vacuum runs.
@@ -82,7 +83,7 @@ impl PlainSession {
 impl PlainHistory {
     /// Nothing has committed, no session is open, these columns are indexed, and no vacuum runs. Memory for the sessions' places may be
     /// refused.
-    pub fn new(alloc: Global, indexed: [bool; 4]) -> Result<PlainHistory, AllocError>
+    pub fn new(alloc: Global, indexed: [bool; COLUMNS]) -> Result<PlainHistory, AllocError>
         ensures { IfOk result (λ p. world_of p ≡ beginning indexed) }
     {
         let mut sessions = Vec::new(alloc);

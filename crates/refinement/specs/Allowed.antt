@@ -18,7 +18,7 @@ use Rattle.calls.specs.Writes.{WriteStep, inserts, updates, deletes, key_of, Ask
 use Rattle.calls.specs.Bars.{BarsOpen, BarsReady, BarsFree, BarsWithCursor}
 use Rattle.calls.specs.declared.step.TheConstants.{MOST_SESSIONS}
 use Rattle.snapshot.specs.declared.own.TheConstants.{MOST_SAVEPOINTS}
-use Rattle.tuple_header.specs.declared.version.TheConstants.{MOST_BODY}
+use Rattle.tuple_header.specs.declared.version.TheConstants.{COLUMNS, MOST_BODY}
 
 -- what the session reads of the key is what the write asks for, and nothing keeps it from the write
 abbrev pub AllowsWrite : World → ℕ → WriteStep → Type 0
@@ -118,7 +118,7 @@ Allows w step.VacuumStep (reply.Refused refusal.NoVacuum) = w.has_vacuum ≡ fal
 Allows w step.VacuumCancel reply.Done = w.has_vacuum ≡ true
 Allows w step.VacuumCancel (reply.Refused refusal.NoVacuum) = w.has_vacuum ≡ false
 Allows w (step.CreateIndex c) reply.Done = MayIndex w c × (w.has_index (suc c) ≡ false → w.has_vacuum ≡ false)
-Allows w (step.CreateIndex c) (reply.Refused refusal.NoSuchIndex) = 3 < c
+Allows w (step.CreateIndex c) (reply.Refused refusal.NoSuchIndex) = COLUMNS ≤ c
 Allows w (step.CreateIndex c) (reply.Refused refusal.VacuumRunning) = LacksIndex w c × (w.has_vacuum ≡ true)
 Allows w (step.CreateIndex c) (reply.Refused refusal.IndexBusy) = LacksIndex w c × (w.has_vacuum ≡ false) × SomeoneHasWritten w
 Allows w (step.CreateIndex c) (reply.Refused refusal.NoMemory) = LacksIndex w c × (w.has_vacuum ≡ false) × (¬ SomeoneHasWritten w)

@@ -14,6 +14,7 @@ ghost use Rattle.script.specs.Next.{IsNext};
 ghost use Rattle.script.specs.Steps.{Advances, DoesLine, Uses, MatchesHeading};
 ghost use Rattle.script_text.specs.declared.line.Line.{Line};
 ghost use Rattle.script.specs.declared.run.TheConstants.{FULL};
+ghost use Rattle.tuple_header.specs.declared.version.TheConstants.{COLUMNS};
 
 use crate::fault::ShellFault;
 use crate::finish::finish_vacuum;
@@ -211,7 +212,7 @@ pub(crate) fn first_settings<R: Read, W: Write>(
 ) -> Result<Settings, ShellFault>
     requires { (pending.old ≡ []) × (text.old.items ≡ []) }
     ensures begins { IfOk result
-        (λ s. AreSettings s × (length s.indexed ≡ 4)
+        (λ s. AreSettings s × (length s.indexed ≡ COLUMNS)
         × Uses (R.remaining reader.old) (R.remaining reader.new) []
         (with_feed (heading s)) pending.new) }
     ensures quiet { Appends (W.contents writer.old) (W.contents writer.new) [] }
@@ -247,7 +248,7 @@ pub fn first_line<R: Read, W: Write>(
 ) -> Result<Engine, ShellFault>
     requires { (pending.old ≡ []) × (text.old.items ≡ []) }
     ensures begins { IfOk result
-        (λ e. (s : Settings) × IsNewWaiting s e × AreSettings s × (length s.indexed ≡ 4)
+        (λ e. (s : Settings) × IsNewWaiting s e × AreSettings s × (length s.indexed ≡ COLUMNS)
         × Uses (R.remaining reader.old) (R.remaining reader.new) []
         (with_feed (heading s)) pending.new) }
     ensures quiet { Appends (W.contents writer.old) (W.contents writer.new) [] }

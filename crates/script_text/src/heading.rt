@@ -7,6 +7,7 @@ ghost use Rattle.script_text.specs.Reading.{number_then as number_then_of, flag_
 
 use crate::words::{cut, number_then};
 use calls::Settings;
+use tuple_header::COLUMNS;
 
 #[tactic(auto, unfolding(crate::specs::Reading::flag_of))]
 fn flag(c: u8) -> Option<bool>
@@ -20,7 +21,7 @@ fn flag(c: u8) -> Option<bool>
 }
 
 #[tactic(auto, unfolding(crate::specs::Reading::flags4_of))]
-fn flags(word: &[u8]) -> Option<[bool; 4]>
+fn flags(word: &[u8]) -> Option<[bool; COLUMNS]>
     ensures { result ≡ flags4_of word.now }
 {
     if word.len() != 4 {

@@ -1,5 +1,5 @@
 -- An index by a column is made while sessions are open.
-use Rattle.std.specs.Prelude.{◌≡◌, ◌≢◌, ℕ, suc, ◌<◌, [], Some, None, IsSome}
+use Rattle.std.specs.Prelude.{◌≡◌, ◌≢◌, ℕ, suc, ◌<◌, ◌≤◌, [], Some, None, IsSome}
 use Rattle.heap_write.specs.Heap.{slots_of}
 use Rattle.index_making.specs.Making.{SomeCurrent}
 use Rattle.heap_write.specs.Making.{MakesIndex}
@@ -8,13 +8,14 @@ use Rattle.calls.specs.declared.reply.Refusal.TheVariants as refusal
 use Rattle.sessions.specs.declared.session.Session.{Session}
 use Rattle.session_steps.specs.State.{State, session_at, engine_index}
 use Rattle.sessions.specs.Marks.{MarksAll}
+use Rattle.tuple_header.specs.declared.version.TheConstants.{COLUMNS}
 
 -- the index by the column is there, or it is not and may be made
 abbrev pub HasIndexOn : State → (column : ℕ) → Type 0
-HasIndexOn st c = (c < 4) × IsSome (engine_index st (suc c))
+HasIndexOn st c = (c < COLUMNS) × IsSome (engine_index st (suc c))
 
 abbrev pub LacksIndexOn : State → (column : ℕ) → Type 0
-LacksIndexOn st c = (c < 4) × (engine_index st (suc c) ≡ None)
+LacksIndexOn st c = (c < COLUMNS) × (engine_index st (suc c) ≡ None)
 
 -- an open session has an id: it wrote, though it may have failed since, or rolled all of it back
 abbrev pub SomeoneHasId : State → Type 0
@@ -33,7 +34,7 @@ pub data HasOrMakes (old new : State) (column : ℕ) : Type 0 where
 
 -- Why it is not made, of the first reason in this order. Memory is asked for only where an entry comes.
 abbrev pub RefusesIndexOn : State → (column : ℕ) → Refusal → Type 0
-RefusesIndexOn st c refusal.NoSuchIndex = 3 < c
+RefusesIndexOn st c refusal.NoSuchIndex = COLUMNS ≤ c
 RefusesIndexOn st c refusal.IndexBusy = LacksIndexOn st c × SomeoneHasId st
 RefusesIndexOn st c refusal.NoMemory = LacksIndexOn st c × (¬ SomeoneHasId st) × SomeCurrent st.heap.statuses (slots_of st.heap)
 RefusesIndexOn st c refusal = ⊥

@@ -24,6 +24,7 @@ use space_maps::Mark;
 use std::alloc::Global;
 use std::marker::Model;
 use table_scans::CursorScan;
+use tuple_header::COLUMNS;
 use xid_circle::Xid;
 
 /// A table with its sessions, at most 64 open at a time.
@@ -195,7 +196,7 @@ impl SessionEngine {
             own: OwnIds::new(self.alloc),
             failed: false,
             cursor: None,
-            too_new: [false; 4],
+            too_new: [false; COLUMNS],
         });
     }
 

@@ -4,9 +4,11 @@ ghost use Rattle.std.specs.Prelude.{◌≡◌, ◌<◌, suc, option_copied};
 ghost use Rattle.snapshot.specs.Snap.{earliest};
 ghost use Rattle.sessions.specs.Session.{kept_by, kept_xmin, keeping, reads_by_snapshot, is_too_new};
 ghost use Rattle.sessions.specs.Marks.{MarksSession};
+ghost use Rattle.tuple_header.specs.declared.version.TheConstants.{COLUMNS};
 
 use snapshot::{OwnIds, Snapshot, earlier};
 use table_scans::CursorScan;
+use tuple_header::COLUMNS;
 use xid_circle::Xid;
 
 /// By which snapshot a session reads.
@@ -74,7 +76,7 @@ pub struct Session {
     /// Its cursor, if it has one.
     pub cursor: Option<CursorScan>,
     /// For each column, true where its index was made while the session was open by snapshot: it may lack rows that the session reads.
-    pub too_new: [bool; 4],
+    pub too_new: [bool; COLUMNS],
 }
 
 impl Session {
@@ -90,7 +92,7 @@ impl Session {
 
     /// Notes that the index by the column is made now: by snapshot the session may not scan it.
     pub(crate) fn mark(&mut self, column: u8)
-        requires { column < 4 }
+        requires { column < COLUMNS }
         ensures { MarksSession (suc column) self.old self.new }
     {
         self.too_new[column as usize] = self.isolation.reads_by_snapshot();

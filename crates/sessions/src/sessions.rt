@@ -7,6 +7,7 @@ ghost use Rattle.sessions.specs.Session.{open_bits};
 ghost use Rattle.sessions.specs.Places.{open_at, HoldsOpen};
 ghost use Rattle.sessions.specs.Lending.{LendsPlace, LendsOpen};
 ghost use Rattle.sessions.specs.Marks.{MarksAll};
+ghost use Rattle.tuple_header.specs.declared.version.TheConstants.{COLUMNS};
 
 use crate::marking::mark_all;
 use crate::session::Session;
@@ -77,7 +78,7 @@ impl Sessions {
 
     /// Notes of each open session that the index by the column is made now: by snapshot it may not scan it.
     pub fn mark(&mut self, column: u8)
-        requires { column < 4 }
+        requires { column < COLUMNS }
         ensures { MarksAll (suc column) self.old self.new }
     {
         let count = self.places.len();

@@ -5,7 +5,7 @@ use commit_status::Status;
 use index_entries::Entry;
 use reasons::Verdict;
 use slot_fates::SlotFate;
-use tuple_header::Header;
+use tuple_header::{COLUMNS, Header};
 use xid_circle::{Tid, Xid};
 
 /// How many of the first bytes of a body a picture shows.
@@ -69,7 +69,7 @@ pub struct VersionShape {
     /// The key of its row.
     pub key: u64,
     /// The columns.
-    pub cols: [i64; 4],
+    pub cols: [i64; COLUMNS],
     /// The first bytes of the body.
     pub body_start: ArrayVec<u8, BODY_START>,
     /// How many bytes the body has.

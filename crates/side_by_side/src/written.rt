@@ -2,9 +2,10 @@
 
 ghost use Rattle.std.specs.Prelude.{◌≡◌, ◌<◌, ◌≤◌, ◌+◌, ◌↔◌, IsTrue, length};
 ghost use Rattle.std.specs.Int.{next_multiple_of};
+ghost use Rattle.tuple_header.specs.declared.version.TheConstants.{BODY_START};
 
 use session_core::{RowIn, Step};
-use tuple_header::MOST_BODY;
+use tuple_header::{BODY_START, MOST_BODY};
 
 /// The session that would write, if the step is a write.
 pub(crate) fn writer_of(step: &Step) -> Option<u8> {
@@ -32,7 +33,7 @@ pub(crate) fn is_too_large(row: &RowIn) -> bool
 /// How many bytes a version of the row takes on a page: 66 and its body, rounded up to a multiple of 8.
 pub(crate) fn size_on_page(row: &RowIn) -> usize
     requires { length row.now.body ≤ MOST_BODY }
-    ensures { result ≡ next_multiple_of (66 + length row.now.body) 8 }
+    ensures { result ≡ next_multiple_of (BODY_START + length row.now.body) 8 }
 {
-    (66 + row.body.len()).next_multiple_of(8)
+    (BODY_START + row.body.len()).next_multiple_of(8)
 }

@@ -7,6 +7,7 @@ ghost use Rattle.script_text.specs.Grammar.{heading, with_feed};
 ghost use Rattle.script.specs.Steps.{Uses};
 ghost use Rattle.stories.specs.DrawOutcomes.{IsDrawCaused};
 ghost use Rattle.stories.specs.Outcomes.{MatchesFirst, MakesTable};
+ghost use Rattle.tuple_header.specs.declared.version.TheConstants.{COLUMNS};
 
 use crate::draw_fault::{DrawFault, no_memory};
 use crate::lines::next_of;
@@ -27,7 +28,7 @@ fn first_settings<R: Read, W: Write>(
 ) -> Result<Settings, DrawFault>
     requires { (pending.old ≡ []) × (line.old.items ≡ []) }
     ensures begins { IfOk result
-        (λ s. AreSettings s × (length s.indexed ≡ 4) × (line.new.items ≡ heading s)
+        (λ s. AreSettings s × (length s.indexed ≡ COLUMNS) × (line.new.items ≡ heading s)
         × Uses (R.remaining reader.old) (R.remaining reader.new) []
         (with_feed (heading s)) pending.new) }
     ensures quiet { Appends (W.contents writer.old) (W.contents writer.new) [] }

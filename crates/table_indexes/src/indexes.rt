@@ -11,24 +11,22 @@ ghost use Rattle.entry_columns.specs.declared.short_tid.TheConstants.{PAGES};
 ghost use Rattle.tuple_header.specs.IndexValue.{value_in};
 ghost use Rattle.xid_circle.specs.declared.Xid.{Xid as Id};
 ghost use Rattle.table_indexes.specs.Indexes.{IsInUse, HasIndexes, IsNextIndex, all_entries, index_at, since_at, since_after, entries_of, entries_at, entries_in, new_entries, without_body, SameValues, SameEntries, AddsAny, Enters, IsByColumn, HasEntry, HasEntries, LacksEntry, NeedsEntry};
+ghost use Rattle.tuple_header.specs.declared.version.TheConstants.{COLUMNS};
 
 use dead_places::DeadSet;
 use root_index::{Entry, PositionHint, Progress, RootIndex};
 use std::alloc::{AllocError, Global};
 use std::marker::Model;
-use tuple_header::{Row, RowRef};
+use tuple_header::{COLUMNS, Row, RowRef};
 use xid_circle::{Tid, Xid, precedes};
-
-/// How many columns may have an index.
-const COLUMNS: usize = 4;
 
 /// The index by key, and that by each column for which there is one.
 #[derive(Debug, Drop)]
 pub struct Indexes {
     by_key: RootIndex,
-    by_column: [Option<RootIndex>; 4],
+    by_column: [Option<RootIndex>; COLUMNS],
     /// From which id on the index by each column is exact, if it was not always.
-    since: [Option<Xid>; 4],
+    since: [Option<Xid>; COLUMNS],
 }
 
 impl Model for Indexes {
@@ -44,7 +42,7 @@ impl Model for Indexes {
 
 impl Indexes {
     /// Indexes without entries: one by key, and one by each column where `indexed` is true.
-    pub fn new(alloc: Global, indexed: [bool; 4]) -> Self
+    pub fn new(alloc: Global, indexed: [bool; COLUMNS]) -> Self
         ensures entries { (n : ℕ) → entries_at result n ≡ new_entries indexed n }
         ensures since { (n : ℕ) → since_at result n ≡ None }
     {
@@ -56,7 +54,7 @@ impl Indexes {
                 index_if(alloc, indexed[2]),
                 index_if(alloc, indexed[3]),
             ],
-            since: [None; 4],
+            since: [None; COLUMNS],
         }
     }
 
@@ -140,7 +138,7 @@ impl Indexes {
 
     /// Puts this index in place by the column, from 0 to 3, exact from this id on. One that was there goes. It takes no memory.
     pub fn put(&mut self, column: u8, index: RootIndex, since: Xid)
-        requires column { column < 4 }
+        requires column { column < COLUMNS }
         requires kind { index.is_by_key ≡ false }
         ensures entries { entries_at self.new (suc column) ≡ Some index.entries }
         ensures since { since_at self.new (suc column) ≡ Some since.0 }
@@ -210,7 +208,7 @@ impl Indexes {
 
     /// Adds an entry to each index in use, for a version at a place of a row with this key and these columns, on one of the first
     /// 65,536 pages. It takes no memory.
-    pub fn enter(&mut self, key: u64, cols: &[i64; 4], place: Tid)
+    pub fn enter(&mut self, key: u64, cols: &[i64; COLUMNS], place: Tid)
         requires room { HasEntries self.old }
         requires page { place.page < PAGES }
         ensures { Enters self.old self.new (without_body key cols.now) place }
@@ -265,7 +263,7 @@ fn sweep_column(
 }
 
 /// The value in the index of this number of a row with this key and these columns.
-fn value_in(number: usize, key: u64, cols: &[i64; 4]) -> i128
+fn value_in(number: usize, key: u64, cols: &[i64; COLUMNS]) -> i128
     ensures value { result ≡ value_in number (without_body key cols.now) }
     ensures fits { FitsSigned w128 result }
     ensures key { number ≡ 0 → result ≡ pos key }

@@ -10,7 +10,7 @@ use arrayvec::ArrayVec;
 use heap_write::HeapState;
 use index_lookup::{IndexRange, seen_row};
 use std::alloc::{AllocError, Global};
-use tuple_header::{Row, RowRef};
+use tuple_header::{COLUMNS, Row, RowRef};
 use visibility::Reader;
 use xid_circle::Tid;
 
@@ -23,7 +23,7 @@ pub fn no_row() -> Row
 {
     Row {
         key: 0,
-        cols: [0; 4],
+        cols: [0; COLUMNS],
         body: ArrayVec::new(),
     }
 }

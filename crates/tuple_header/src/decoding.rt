@@ -3,8 +3,9 @@
 ghost use Rattle.std.specs.Prelude.{◌≡◌, ◌≤◌, ◌+◌, length, Some, None, IfOk};
 ghost use Rattle.tuple_header.specs.Layout.{number_at, decoded_version, decoded_header, column_at, columns_at, decoded_row, encoding};
 ghost use Rattle.tuple_header.specs.Faults.{header_fault, layout_fault, first_fault, decoding};
+ghost use Rattle.tuple_header.specs.declared.version.TheConstants.{BODY_START};
 
-use crate::{Header, MOST_BODY, MOST_SLOTS, Row, RowRef, Tuple, TupleFault};
+use crate::{BODY_START, COLUMNS, Header, MOST_BODY, MOST_SLOTS, Row, RowRef, Tuple, TupleFault};
 use arrayvec::ArrayVec;
 use byteorder::{ByteOrder, LittleEndian};
 use xid_circle::{Tid, Xid};
@@ -42,11 +43,11 @@ pub fn key_of(bytes: &[u8]) -> u64
 
 /// The row that stands in these bytes of a version, where it is. Its body is copied nowhere.
 pub fn row_in(bytes: &[u8]) -> RowRef<'_>
-    requires from { 66 ≤ length bytes.now }
+    requires from { BODY_START ≤ length bytes.now }
     requires to { length bytes.now ≤ 1090 }
     ensures { result ≡ decoded_row bytes.now }
 {
-    RowRef::new(key_of(bytes), columns_of(bytes), &bytes[66..])
+    RowRef::new(key_of(bytes), columns_of(bytes), &bytes[BODY_START..])
 }
 
 fn body_of(bytes: &[u8]) -> ArrayVec<u8, MOST_BODY>
@@ -66,8 +67,8 @@ fn column_of(bytes: &[u8], at: usize) -> i64
     LittleEndian::read_i64(&bytes[at..])
 }
 
-fn columns_of(bytes: &[u8]) -> [i64; 4]
-    requires { 66 ≤ length bytes.now }
+fn columns_of(bytes: &[u8]) -> [i64; COLUMNS]
+    requires { BODY_START ≤ length bytes.now }
     ensures { result ≡ columns_at bytes.now }
 {
     [
@@ -80,11 +81,11 @@ fn columns_of(bytes: &[u8]) -> [i64; 4]
 
 #[tactic(auto, unfolding(crate::specs::Layout::number_at))]
 fn row_of(bytes: &[u8]) -> Row
-    requires from { 66 ≤ length bytes.now }
+    requires from { BODY_START ≤ length bytes.now }
     requires to { length bytes.now ≤ 1090 }
     ensures { result ≡ decoded_row bytes.now }
 {
-    let body = body_of(&bytes[66..]);
+    let body = body_of(&bytes[BODY_START..]);
     Row {
         key: LittleEndian::read_u64(&bytes[24..]),
         cols: columns_of(bytes),
@@ -130,11 +131,11 @@ pub fn fault_of(header: &Header) -> Option<TupleFault>
 fn layout_fault_of(bytes: &[u8]) -> Option<TupleFault>
     ensures { result ≡ layout_fault bytes.now }
 {
-    if bytes.len() < 66 {
+    if bytes.len() < BODY_START {
         return Some(TupleFault::Length);
     }
     let body_len = usize::from(LittleEndian::read_u16(&bytes[64..]));
-    if body_len > MOST_BODY || bytes.len() != 66 + body_len {
+    if body_len > MOST_BODY || bytes.len() != BODY_START + body_len {
         Some(TupleFault::Length)
     } else if bytes[22] != 24 {
         Some(TupleFault::Hoff)

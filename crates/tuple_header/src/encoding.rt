@@ -5,9 +5,10 @@ ghost use Rattle.std.specs.Int.{w64, cast_unsigned};
 ghost use Rattle.tuple_header.specs.Version.{size_of};
 ghost use Rattle.tuple_header.specs.Layout.{with_bytes, with_number, with_numbers, header_widths, header_values, header_bytes, encoding};
 ghost use Rattle.tuple_header.specs.Faults.{header_fault, HeaderFits, IsVersion, ReadsBack};
+ghost use Rattle.tuple_header.specs.declared.version.TheConstants.{BODY_START};
 
 use crate::version::{fact_columns, fact_header_fits, fact_version};
-use crate::{Header, Row, Tuple};
+use crate::{BODY_START, COLUMNS, Header, Row, Tuple};
 use byteorder::{ByteOrder, LittleEndian};
 
 fn put_u8(out: &mut [u8], at: usize, n: u8)
@@ -81,8 +82,8 @@ pub fn put_header(header: &Header, out: &mut [u8])
 }
 
 // Writes the columns of a row.
-fn put_columns(cols: &[i64; 4], out: &mut [u8])
-    requires { 66 ≤ length out.old }
+fn put_columns(cols: &[i64; COLUMNS], out: &mut [u8])
+    requires { BODY_START ≤ length out.old }
     ensures { out.new
         ≡ with_numbers 32 (8 ∷ 8 ∷ 8 ∷ 8 ∷ []) (map (cast_unsigned w64) cols.now) out.old }
 {
@@ -109,7 +110,7 @@ pub fn put_version(header: &Header, row: &Row, out: &mut [u8])
     put_u64(out, 24, row.key);
     put_columns(&row.cols, out);
     put_u16(out, 64, body.len() as u16);
-    put_bytes(out, 66, body);
+    put_bytes(out, BODY_START, body);
 }
 
 /// Writes a version's bytes, 66 and its body, at the front of `out`, which has room for them. What follows stays.

@@ -21,4 +21,7 @@ pub use fault::TupleFault;
 pub use hints::differ_in_hints_alone;
 pub use row_place::RowPlace;
 pub use row_ref::RowRef;
-pub use version::{Header, MOST_BODY, MOST_SLOT_NUMBERS, MOST_SLOTS, Row, Tuple, row_size, size};
+pub use version::{
+    BODY_START, COLUMNS, Header, MOST_BODY, MOST_SLOT_NUMBERS, MOST_SLOTS, Row, Tuple, row_size,
+    size,
+};

@@ -3,7 +3,7 @@
 ghost use Rattle.std.specs.Prelude.{◌≡◌, ◌≤◌, length};
 ghost use Rattle.tuple_header.specs.Places.{place_with};
 
-use crate::{MOST_BODY, Row, RowPlace};
+use crate::{COLUMNS, MOST_BODY, Row, RowPlace};
 use arrayvec::ArrayVec;
 use std::marker::Model;
 
@@ -11,7 +11,7 @@ use std::marker::Model;
 #[derive(Drop)]
 pub struct RowRef<'a> {
     key: u64,
-    cols: [i64; 4],
+    cols: [i64; COLUMNS],
     body: &'a [u8],
 }
 
@@ -33,7 +33,7 @@ impl<'a> Model for RowRef<'a> {
 
 impl<'a> RowRef<'a> {
     /// The row of this key, these columns and this body, which has at most 1024 bytes.
-    pub fn new(key: u64, cols: [i64; 4], body: &'a [u8]) -> RowRef<'a>
+    pub fn new(key: u64, cols: [i64; COLUMNS], body: &'a [u8]) -> RowRef<'a>
         requires { length body.now ≤ MOST_BODY }
         ensures { result ≡ record { key = key; cols = cols; body = record { items = body.now } } }
     {
@@ -48,7 +48,7 @@ impl<'a> RowRef<'a> {
     }
 
     /// The four columns.
-    pub fn cols(&self) -> &[i64; 4]
+    pub fn cols(&self) -> &[i64; COLUMNS]
         ensures { result.now ≡ self.now.cols }
     {
         &self.cols
@@ -60,7 +60,7 @@ impl<'a> RowRef<'a> {
     {
         let mut row = Row {
             key: 0,
-            cols: [0; 4],
+            cols: [0; COLUMNS],
             body: ArrayVec::new(),
         };
         self.copy_to(&mut row);

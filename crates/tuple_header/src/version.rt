@@ -16,8 +16,8 @@ use xid_circle::{Tid, Xid};
 pub struct Row {
     /// Its key.
     pub key: u64,
-    /// Its four columns.
-    pub cols: [i64; 4],
+    /// Its columns.
+    pub cols: [i64; COLUMNS],
     /// Its body, of at most 1024 bytes.
     pub body: ArrayVec<u8, MOST_BODY>,
 }
@@ -36,6 +36,12 @@ impl Row {
         }
     }
 }
+
+/// How many columns a row has.
+pub const COLUMNS: usize = 4;
+
+/// Where the body of a version begins: behind its header of 24 bytes, the key, the columns, and the length of the body.
+pub const BODY_START: usize = 34 + 8 * COLUMNS;
 
 /// How many bytes the body of a row may have.
 pub const MOST_BODY: usize = 1024;
@@ -189,7 +195,7 @@ pub(crate) fn fact_version(header: &Header, row: &Row)
 }
 
 /// That an array of columns has four. It does nothing.
-pub(crate) fn fact_columns(cols: &[i64; 4])
+pub(crate) fn fact_columns(cols: &[i64; COLUMNS])
     ensures four { length cols.now ≡ 4 }
     ensures fit_0 { FitsSigned w64 (slice_index_or cols.now 0 (pos 0)) }
     ensures fit_1 { FitsSigned w64 (slice_index_or cols.now 1 (pos 0)) }
@@ -207,7 +213,7 @@ pub fn row_size(row: &Row) -> usize
     ensures value { result ≡ rounded_size_of row.now }
     ensures limit { result ≤ 1096 }
 {
-    (66 + row.body.len()).next_multiple_of(8)
+    (BODY_START + row.body.len()).next_multiple_of(8)
 }
 
 /// How many bytes a version takes on a page: those of its row.
