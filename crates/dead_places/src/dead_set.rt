@@ -143,8 +143,8 @@ fn halve(tids: &[Tid], sought: &Tid) -> Result<usize, usize>
     search(tids, sought, tids.len() / 2, usize::MAX)
 }
 
-/// The number of this place, or the one that it would have. It looks first at this number, and then beside what it saw, so far away and four
-/// times as far each time, but never farther than halving would.
+/// The number of this place, or the one that it would have. It looks first at this number, and then beside what it saw, four times as far
+/// each time, but never farther than halving would.
 fn search(tids: &[Tid], sought: &Tid, near: usize, far: usize) -> Result<usize, usize>
     requires { AreAscending tids.now }
     ensures found { IfOk result (λ i. slice_get tids.now i ≡ Some sought.now) }

@@ -17,5 +17,5 @@ abbrev pub AreOutside : Gap → List Entry → Type 0
 AreOutside gap entries = All (λ e. ¬ IsInside gap e.tid) entries
 
 -- the numbers of all of these places that have one are from the least on, up to so many behind it
-abbrev pub IsWithin : List Tid → ℕ → ℕ → Type 0
-IsWithin tids least more = (p : ShortTid) → Contains tids (long p) → (least ≤ p.number) × (p.number ≤ least + more)
+abbrev pub AreNumberedWithin : List Tid → ℕ → ℕ → Type 0
+AreNumberedWithin tids least more = (p : ShortTid) → Contains tids (long p) → (least ≤ p.number) × (p.number ≤ least + more)

@@ -8,7 +8,7 @@ ghost use Rattle.index_entries.specs.Lists.{stays};
 ghost use Rattle.dead_places.specs.Places.{AreAscending};
 ghost use Rattle.entry_columns.specs.Fits.{Fits};
 ghost use Rattle.entry_columns.specs.Columns.{entries_with, long};
-ghost use Rattle.entry_columns.specs.Gaps.{AreOutside, IsWithin};
+ghost use Rattle.entry_columns.specs.Gaps.{AreOutside, AreNumberedWithin};
 ghost use Rattle.entry_columns.specs.declared.short_tid.ShortTid.{ShortTid as Short};
 
 use crate::gap::{Gap, between};
@@ -328,7 +328,7 @@ struct Span {
 #[inline(always)]
 fn span_of(dead: &[Tid]) -> Span
     requires { AreAscending dead.now }
-    ensures { IsWithin dead.now result.least result.more }
+    ensures { AreNumberedWithin dead.now result.least result.more }
 {
     let least = least_number(dead);
     let greatest = greatest_number(dead);
@@ -376,7 +376,7 @@ fn number_of(tid: &Tid) -> u64
 #[inline(always)]
 fn is_dead(dead: &[Tid], span: Span, near: Option<usize>, place: ShortTid) -> (bool, Option<usize>)
     requires ascending { AreAscending dead.now }
-    requires within { IsWithin dead.now span.least span.more }
+    requires within { AreNumberedWithin dead.now span.least span.more }
     ensures { IsTrue result.0 ↔ Contains dead.now (long place) }
 {
     if u64::from(place.number()).wrapping_sub(span.least) > span.more {

@@ -29,8 +29,8 @@ pub(crate) fn between(from: u32, to: u32) -> Gap
     ensures to { result.to.number ≡ to }
 {
     Gap {
-        from: ShortTid::numbered(from),
-        to: ShortTid::numbered(to),
+        from: ShortTid::of_number(from),
+        to: ShortTid::of_number(to),
     }
 }
 

@@ -30,7 +30,7 @@ impl ShortTid {
 
     /// The place of this number.
     #[inline(always)]
-    pub(crate) fn numbered(number: u32) -> Self
+    pub(crate) fn of_number(number: u32) -> Self
         ensures { result.number ≡ number }
     {
         ShortTid { number }

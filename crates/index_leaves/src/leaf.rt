@@ -195,11 +195,11 @@ impl<L: Label> Node for Leaf<L> {
         dead.fact_ascending();
         let dead = dead.as_slice();
         if holds(self.gap, dead) {
-            return Some(unchanged(last, count));
+            return Some(none_removed(last, count));
         }
         self.gap = self.entries.gap_behind(dead);
         if !self.entries.remove_dead(position, dead) {
-            return Some(unchanged(last, count));
+            return Some(none_removed(last, count));
         }
         spares.take_back(&mut self.entries);
         self.first = first_or(&self.entries, self.first);
@@ -247,7 +247,7 @@ impl<L: Label> Node for Leaf<L> {
 
 /// What a sweep did that removed none of so many entries.
 #[inline(always)]
-fn unchanged(last: Entry, count: usize) -> Swept<usize>
+fn none_removed(last: Entry, count: usize) -> Swept<usize>
     ensures last { result.last ≡ last }
     ensures removed { result.removed ≡ 0 }
     ensures more { result.more ≡ false }

@@ -16,13 +16,13 @@ pub returns-then-holds-clause-swept : goal.returns-then-holds-clause-swept
 returns-then-holds-clause-swept g c =
     let xs = c.self.inside.entries.entries in
     let gap = c.self.inside.gap in
-    let swept = c.unchanged.result in
+    let swept = c.none_removed.result in
     let within : c.args.position < length xs = omega (arith, c.len-count.ensures.value, c.if-position-count.false) in
-    let last : slice_get xs (length xs - 1) ≡ Some swept.last = c.self.invariant.last_apart (omega (arith, within)) ∙ ap Some (sym c.unchanged.ensures.last) in
+    let last : slice_get xs (length xs - 1) ≡ Some swept.last = c.self.invariant.last_apart (omega (arith, within)) ∙ ap Some (sym c.none_removed.ensures.last) in
     let inside = subst (λ (ts : List Tid). (t : Tid) → Contains ts t → IsInside gap t) c.as_slice-dead.ensures (OnTrue_at c.if-holds.true c.holds.ensures) in
-    let none : swept.removed + length xs ≡ length xs = omega (arith, c.unchanged.ensures.removed) in
+    let none : swept.removed + length xs ≡ length xs = omega (arith, c.none_removed.ensures.removed) in
     subst (λ (ys : List Entry). IsSwept ys ys c.args.position c.args.dead.now swept) (ap (λ (v : ColumnsView). v.entries) c.self.view_is)
-    (swept_leaf xs xs c.args.position c.args.dead.now swept within (none_goes gap c.args.dead.now xs c.args.position c.self.invariant.outside inside) last none c.unchanged.ensures.more)
+    (swept_leaf xs xs c.args.position c.args.dead.now swept within (none_goes gap c.args.dead.now xs c.args.position c.self.invariant.outside inside) last none c.none_removed.ensures.more)
 
 pub returns-then-not-remove_dead-clause-swept : goal.returns-then-not-remove_dead-clause-swept
 returns-then-not-remove_dead-clause-swept g c =
@@ -30,14 +30,14 @@ returns-then-not-remove_dead-clause-swept g c =
     let ys = c.remove_dead.new.self.entries in
     let near = c.as_slice-dead.result.now in
     let from = c.args.position in
-    let swept = c.unchanged-then-not-remove_dead.result in
+    let swept = c.none_removed-then-not-remove_dead.result in
     let within : from < length xs = omega (arith, c.len-count.ensures.value, c.if-position-count.false) in
-    let last : slice_get xs (length xs - 1) ≡ Some swept.last = c.self.invariant.last_apart (omega (arith, within)) ∙ ap Some (sym c.unchanged-then-not-remove_dead.ensures.last) in
+    let last : slice_get xs (length xs - 1) ≡ Some swept.last = c.self.invariant.last_apart (omega (arith, within)) ∙ ap Some (sym c.none_removed-then-not-remove_dead.ensures.last) in
     let same = ap (λ (v : ColumnsView). length v.entries) (c.remove_dead.ensures.none c.if-not-remove_dead.true) in
-    let gone : swept.removed + length ys ≡ length xs = omega (arith, c.unchanged-then-not-remove_dead.ensures.removed, same) in
+    let gone : swept.removed + length ys ≡ length xs = omega (arith, c.none_removed-then-not-remove_dead.ensures.removed, same) in
     let made = subst (λ (ts : List Tid). ys ≡ take from xs ++ filter (stays ts) (drop from xs)) c.as_slice-dead.ensures c.remove_dead.ensures.entries in
     subst (λ (zs : List Entry). IsSwept zs ys from c.args.dead.now swept) (ap (λ (v : ColumnsView). v.entries) c.self.view_is)
-    (swept_leaf xs ys from c.args.dead.now swept within made last gone c.unchanged-then-not-remove_dead.ensures.more)
+    (swept_leaf xs ys from c.args.dead.now swept within made last gone c.none_removed-then-not-remove_dead.ensures.more)
 
 pub invariant_of-self-2 : goal.invariant_of-self-2
 invariant_of-self-2 g c =
