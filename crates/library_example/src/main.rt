@@ -17,7 +17,7 @@ const SETTINGS: Settings = Settings {
     stop_age: 1000,
     freeze_min_age: 0,
     first_xid: 3,
-    dead_limit: 64,
+    dead_limit: 4096,
     indexed: [false; 4],
 };
 

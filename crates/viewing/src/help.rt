@@ -6,7 +6,7 @@ use script_text::{RefusedGrowth, cut, extend, push};
 static SPELLINGS: [(&str, &str); 36] = [
     (
         "heap PAGES STOP MIN FIRST DEAD COLS",
-        "heap 4 1000 0 3 64 0000",
+        "heap 4 1000 0 3 4096 0000",
     ),
     ("begin S", "begin 0"),
     ("beginrc S", "beginrc 1"),
