@@ -1,5 +1,5 @@
 use Rattle.std.proofs.Common.{sym, refl}
-use Rattle.dead_places.proofs.BoundLemmas.{from_first}
+use Rattle.vacuum_passes.proofs.LowestLemmas.{from_first}
 use Rattle.vacuum_passes.proofs.FreedPlaces.{first-there, none-first}
 use Rattle.vacuum_passes.proofs.freeing.lowest_page.Goals as goal
 
