@@ -39,7 +39,7 @@ use Rattle.refinement.proofs.Runs.{KeepsScans, unmade, same_indexes}
 use Rattle.sessions.specs.declared.session.Session.{Session}
 use Rattle.visibility.specs.Visible.{state_of}
 use Rattle.session_steps.specs.State.{State, session_at, put_session, seen, seen_in, reader_of, isolation_seen, horizon_of}
-use Rattle.history.specs.Moves.{with_write}
+use Rattle.history.specs.Moves.{with_write as writing}
 use Rattle.session_steps.specs.Agrees.{Agrees, Follows, KeepsAllTargets, WrittenAgrees}
 use Rattle.session_steps.specs.Tests.{MayAct, MayTry}
 use Rattle.session_steps.specs.Writes.{DoesWrite, FailsWrite, TriesWrite, refusal_for, reply_for}
@@ -185,7 +185,7 @@ module _ (st : State) (w : World) (s : ℕ) (text : RowToWrite) (e : Session) (f
       (adds-from (version_in (slots_of st.heap)) (version_in (slots_of h)) (free_place st.heap i.number) new (inserts-stand st.heap h e.own own row x i)) (is-new x row new (root-new st.heap false x row i.number)) refl in (
         done.0,
         agree agrees stays.in_use (marks-put st.sessions s e e' at refl) (unmade refl refl)
-            (written-put st w s e e' (with_write w.history row.key (Some row)) at agrees (written-by st w h.statuses s e own x at i.takes_ids agrees)) done.1 (Sound-given st w h s e own at agrees x i.takes_ids window i.max_pages stays),
+            (written-put st w s e e' (writing w.history row.key (Some row)) at agrees (written-by st w h.statuses s e own x at i.takes_ids agrees)) done.1 (Sound-given st w h s e own at agrees x i.takes_ids window i.max_pages stays),
         stays.led,
       )
 
@@ -223,7 +223,7 @@ module _ (st : State) (w : World) (s : ℕ) (text : RowToWrite) (e : Session) (p
       (alters-from put.added (version_in (slots_of h)) place t (taken_version t x put.to put.hot) put.alters) (is-deleted h.statuses x t put.to put.hot active) in (
         done.0,
         agree agrees stays.in_use (marks-put st.sessions s e e' at refl) (unmade refl refl)
-            (written-put st w s e e' (with_write w.history row.key (Some row)) at agrees (written-by st w h.statuses s e own x at u.takes_ids agrees)) done.1 (Sound-given st w h s e own at agrees x u.takes_ids window u.max_pages stays),
+            (written-put st w s e e' (writing w.history row.key (Some row)) at agrees (written-by st w h.statuses s e own x at u.takes_ids agrees)) done.1 (Sound-given st w h s e own at agrees x u.takes_ids window u.max_pages stays),
         stays.led,
       )
 
@@ -246,7 +246,7 @@ module _ (st : State) (w : World) (s key : ℕ) (e : Session) (place : Tid) (t :
       (alters-from (version_in (slots_of st.heap)) (version_in (slots_of h)) place t (taken_version t x place false) alters) (is-deleted h.statuses x t place false active) in (
         done.0,
         agree agrees stays.in_use (marks-put st.sessions s e e' at refl) (unmade refl refl)
-            (written-put st w s e e' (with_write w.history key None) at agrees (written-by st w h.statuses s e own x at d.takes_ids agrees)) done.1 (Sound-given st w h s e own at agrees x d.takes_ids window d.max_pages stays),
+            (written-put st w s e e' (writing w.history key None) at agrees (written-by st w h.statuses s e own x at d.takes_ids agrees)) done.1 (Sound-given st w h s e own at agrees x d.takes_ids window d.max_pages stays),
         stays.led,
       )
 
