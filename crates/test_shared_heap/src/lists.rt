@@ -11,7 +11,8 @@ use std::thread::Threads;
 
 /// Adds a line to a list. It promises nothing: what a push does would be carried along to the end of each list.
 pub(crate) fn add(lines: &mut Vec<Line>, wait: bool, step: Step) -> Result<(), AllocError> {
-    lines.push(Line { wait, step })
+    lines.push(Line { wait, step })?;
+    Ok(())
 }
 
 /// What the workers with these lists have done. Like the function below it promises nothing: what `run_threads` does would be carried
