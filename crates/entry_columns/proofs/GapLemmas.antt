@@ -42,12 +42,6 @@ order_back p q before = elim (cases_lt p.number q.number) [
   ]
 ]
 
-pub before_more : (t : Tid) (p q : ShortTid) → p.number ≤ q.number → PlacePrecedes t (long p) → PlacePrecedes t (long q)
-before_more t p q le before = elim (cases_lt p.number q.number) [
-  | inl less ↦ PlacePrecedes-trans t (long p) (long q) before (order p q less)
-  | inr other ↦ let same : p.number ≡ q.number = omega arith in subst (λ n. PlacePrecedes t (record { page = n / 65536; slot = n % 65536 })) same before
-]
-
 -- All of ascending places.
 
 number_in : (xs : List Tid) (t : Tid) → Contains xs t → (k : ℕ) × (k < length xs) × (slice_get xs k ≡ Some t)

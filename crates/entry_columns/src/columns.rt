@@ -192,6 +192,7 @@ impl<L: Label> EntryColumns<L> {
             ≡ take from self.old.entries
             ++ filter (stays dead.now) (drop from self.old.entries) }
         ensures none { result ≡ false → self.new ≡ self.old }
+        ensures some { IsTrue result → length self.new.entries < length self.old.entries }
         ensures shorter { length self.new.entries ≤ length self.old.entries }
         ensures room { self.old.room ≤ self.new.room }
     {

@@ -19,7 +19,10 @@ pub struct Gap {
 }
 
 /// All places but the last.
-pub fn all_places() -> Gap {
+pub fn all_places() -> Gap
+    ensures from { result.from.number ≡ 0 }
+    ensures to { result.to.number ≡ 4294967295 }
+{
     between(0, u32::MAX)
 }
 
