@@ -3,8 +3,9 @@
 
 The kit's rt walks along each path through crates.txt, of which there are millions. It does so to begin with, and twice for each library,
 whose sum it takes anew from the files of each crate on each path: about as much work as the proofs. Here a walk keeps what it has found
-out, and the next begins anew. All else is rt's own: what it proves, tries, builds, runs and says. An rt that is no such script is run as
-it is.
+out, and the next begins anew. And the check of a static library leaves in out/checked what it proved, as rt has it of a program: so
+tools/over_gate.py need not prove it again. All else is rt's own: what it proves, tries, builds, runs and says. An rt that is no such script
+is run as it is.
 """
 import copy
 import functools
@@ -39,6 +40,17 @@ def once_in_a_walk(ask):
     return asked
 
 
+def leaves_checked(prove):
+    """The same call, by which a static library's check leaves what it proved."""
+
+    @functools.wraps(prove)
+    def proved(crate, *commands):
+        left = ["-o", f"{crate.folder}/out/checked"] if crate.is_static else []
+        return prove(crate, *([*words, *left] if words[0] == "check" and "--test" not in words else words for words in commands))
+
+    return proved
+
+
 def is_of_the_kit(path):
     """Whether the file is the kit's rt, which runs nothing where it is only loaded."""
     with open(path, encoding="utf-8", errors="replace") as file:
@@ -65,6 +77,7 @@ def main():
     crate = kit.rtlib.Crate
     for name in filter(lambda name: hasattr(crate, name), WALKS):
         setattr(crate, name, once_in_a_walk(getattr(crate, name)))
+    crate.prove = leaves_checked(crate.prove)
     sys.exit(kit.main(["ci"]))
 
 

@@ -1,10 +1,11 @@
 #!/usr/bin/env python3
-"""Proves `sandpiper_c` over the libraries that `rt ci` has just proved, and has left in crates/NAME/out/rlib, and compiles it:
+"""Compiles `sandpiper_c` over the libraries that `rt ci` has just proved, and has left in crates/NAME/out/rlib:
 crates/sandpiper_c/out/libsandpiper_c.a. Run at the top as tools/over_gate.py archive.
 
 `rt lib` would prove all those libraries again, since it takes one only with a stamp that it wrote itself. Here the prover is called over
-them as `rt ci` calls it for what stands above. Exits 3 where `rt ci` has left none, or they are older than their sources. What calls the
-prover so has its words from here.
+them as `rt ci` calls it for a program: it takes what the check of `sandpiper_c` has left (tools/ci.py), if it reads the same, and proves it
+again only where that is not there. Exits 3 where `rt ci` has left no libraries, or they are older than their sources. What calls the prover
+so has its words from here.
 """
 import glob
 import os
@@ -51,10 +52,10 @@ def time_of(name: str) -> float:
     return max(os.path.getmtime(file) for file in [*filter(os.path.isfile, files), f"{ROOT}/crates.txt"])
 
 
-def is_made(name: str) -> bool:
-    """Whether a run has left this library, of the sources as they stand. Where `rt ci` keeps what it proved it gives old files another name,
-    which their change times tell: the gate says since when it runs."""
-    made, began = f"{library(name)}/format", os.environ.get("GATE_BEGAN")
+def is_made(name: str, folder: Optional[str] = None) -> bool:
+    """Whether a run has left this library, or that folder of the crate, of the sources as they stand. Where `rt ci` keeps what it proved it
+    gives old files another name, which their change times tell: the gate says since when it runs."""
+    made, began = f"{folder or library(name)}/format", os.environ.get("GATE_BEGAN")
     if not os.path.exists(made):
         return False
     found = os.stat(made)
@@ -76,14 +77,22 @@ def words_for(crate: str, uses: Dict[str, List[str]]) -> List[str]:
     return [*words, "--antt-project", f"{KIT}/rattle/logic/antt-project.json", "--logic-built", f"{KIT}/logic_built"]
 
 
+def how_proved(words: List[str]) -> List[str]:
+    """The prover's words for `sandpiper_c`, by which it takes what the check has left; else those by which it proves it."""
+    checked = f"{ROOT}/crates/sandpiper_c/out/checked"
+    if not is_made("sandpiper_c", checked):
+        return [*words, "--jobs", str(len(os.sched_getaffinity(0)))]
+    at = words.index("--logic-built")
+    return [*words[:at], *words[at + 2 :], "--crate-checked", checked]
+
+
 def archive() -> int:
     uses = used()
     older = [name for name in below("sandpiper_c", uses) if not is_left(name)]
     if older:
         print(f"over_gate.py: not left by rt ci as it stands: {', '.join(older)}")
         return NONE_LEFT
-    jobs = str(len(os.sched_getaffinity(0)))
-    words = [PROVER, "build", *words_for("sandpiper_c", uses), "--crate-type", "staticlib", "--jobs", jobs]
+    words = [PROVER, "build", *how_proved(words_for("sandpiper_c", uses)), "--crate-type", "staticlib"]
     words += ["--toolchain", f"{KIT}/toolchain", "--backend", "llvm", "-o", ARCHIVE]
     return subprocess.run(words, cwd=f"{ROOT}/crates/sandpiper_c", stdin=subprocess.DEVNULL, check=False).returncode
 

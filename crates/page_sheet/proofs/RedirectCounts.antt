@@ -1,14 +1,14 @@
 -- Redirects to one slot, counted by their words.
-use Rattle.std.proofs.Common.{◌≡◌, ◌∙◌, ℕ, zero, suc, ◌+◌, ◌*◌, ◌<◌, ◌≤◌, inl, inr, List, Some, None, sym, ap, refl, arith}
+use Rattle.std.proofs.Common.{◌≡◌, ◌∙◌, ◌==◌, Bool, true, false, ℕ, zero, suc, ◌+◌, ◌*◌, ◌<◌, ◌≤◌, inl, inr, List, Some, None, sym, ap, refl, arith}
 use Rattle.std.specs.Option.{option_and_then}
-use Rattle.std.proofs.lemmas.Bool.{cases_lt}
+use Rattle.std.proofs.lemmas.Bool.{cases_lt, eqb-true, eq-eqb, false_from_ne_true}
 use Rattle.tuple_header.specs.Layout.{number_at}
 use Rattle.page_layout.specs.declared.pointer.Pointer.{Pointer}
 use Rattle.page_layout.specs.Layout.{pointer_in, pointer_of, word_of}
 use Rattle.page_layout.specs.Sound.{HasPlainWord}
 use Rattle.page_layout.proofs.PointerLemmas.{word-back, pointer-read}
-use Rattle.page_sheet.specs.Layout.{SomeRedirects, shown_by, slots_in}
-use Rattle.page_sheet.specs.Slots.{IsRedirected, target_of, redirect_at}
+use Rattle.page_sheet.specs.Layout.{SomeRedirects, shown_by, slot_in, slots_in}
+use Rattle.page_sheet.specs.Slots.{IsRedirected, redirects_to, target_of, redirect_at}
 use Rattle.page_sheet.proofs.Found.{found, missing}
 use Rattle.page_sheet.proofs.Shown.{shown}
 
@@ -54,6 +54,30 @@ pub none-beyond : (bytes : List ℕ) (number count : ℕ) → ((i : ℕ) → i <
 none-beyond bytes number count within beyond some = let le = within some.index some.within some.is in omega (arith, le, beyond)
 
 -- So it is of the slots.
+
+leads : (bytes : List ℕ) (p : Pointer) (number : ℕ) → redirects_to number (shown_by bytes p) ≡ true → p ≡ Pointer.Redirect number
+leads bytes Pointer.Unused number is = absurd (cc is)
+leads bytes (Pointer.Normal e) number is = absurd (cc is)
+leads bytes (Pointer.Redirect target) number is = ap Pointer.Redirect (eqb-true target number is)
+leads bytes Pointer.Dead number is = absurd (cc is)
+
+same-tests : (a b : Bool) → (a ≡ true → b ≡ true) → (b ≡ true → a ≡ true) → a ≡ b
+same-tests true b there back = sym (there refl)
+same-tests false b there back = sym (false_from_ne_true b (λ t. let both : false ≡ true = back t in cc both))
+
+pub by-word : (bytes : List ℕ) (i number word : ℕ) → word ≡ number_at (24 + 4 * i) 4 bytes → HasPlainWord bytes i → number < 32768
+    → (word == number + 65536) ≡ redirects_to number (slot_in bytes i)
+by-word bytes i number word read plain small = same-tests (word == number + 65536) (redirects_to number (slot_in bytes i))
+    (λ t.
+    let here : pointer_in bytes i ≡ Pointer.Redirect number =
+    pointer-read bytes i ∙ ap pointer_of (sym read ∙ eqb-true word (number + 65536) t) ∙ word-back (Pointer.Redirect number) small in
+    ap (redirects_to number) (shown bytes i (Pointer.Redirect number) (sym here)) ∙ eq-eqb number number refl)
+    (λ t. eq-eqb word (number + 65536) (read ∙ plain ∙ ap word_of (leads bytes (pointer_in bytes i) number (ap (redirects_to number) (sym (shown bytes i (pointer_in bytes i) refl)) ∙ t))))
+
+pub not-beyond : (bytes : List ℕ) (i number count : ℕ) → (pointer_in bytes i ≡ Pointer.Redirect number → number ≤ count) → count < number
+    → redirects_to number (slot_in bytes i) ≡ false
+not-beyond bytes i number count within beyond = false_from_ne_true (redirects_to number (slot_in bytes i))
+    (λ t. let le = within (leads bytes (pointer_in bytes i) number (ap (redirects_to number) (sym (shown bytes i (pointer_in bytes i) refl)) ∙ t)) in omega (arith, le, beyond))
 
 pub redirected-there : (bytes : List ℕ) (count number : ℕ) → SomeRedirects bytes count number → IsRedirected (slots_in count bytes) number
 redirected-there bytes count number some = (

@@ -355,17 +355,14 @@ impl Sheet {
         }
     }
 
-    /// Whether the slot at an index is a redirect to the slot of this number.
+    /// Whether the slot at an index is a redirect to the slot of this number. Words are compared, so no pointer is taken apart.
+    #[inline(always)]
     pub fn redirects_to(&self, index: usize, number: u16) -> bool
         requires { index < self.now.count }
         ensures { result ≡ redirects_to number (slot_in self.now.bytes index) }
     {
-        match self.pointer(index) {
-            Pointer::Unused => false,
-            Pointer::Normal(_extent) => false,
-            Pointer::Redirect(target) => target == number,
-            Pointer::Dead => false,
-        }
+        usize::from(number) <= self.count
+            && u32_at(&self.bytes, PAGE_HEADER_BYTES + 4 * index) == u32::from(number) + 65536
     }
 
     /// Whether a slot is a redirect to the slot of this number. It goes over several slots at once.

@@ -257,6 +257,15 @@ impl Page {
         }
     }
 
+    /// Whether the slot of this number, which is there, is a redirect to another.
+    #[inline(always)]
+    pub fn redirects_to(&self, number: u16, target: u16) -> bool
+        requires { SlotIsThere self.now.slots number }
+        ensures { result ≡ redirects_to target (the_slot self.now.slots number) }
+    {
+        self.sheet.redirects_to(usize::from(number) - 1, target)
+    }
+
     /// Whether some slot is a redirect to the slot of this number.
     pub fn is_redirected(&self, number: u16) -> bool
         ensures { IsTrue result ↔ IsRedirected self.now.slots number }

@@ -1,7 +1,7 @@
 //! The plan of a page on which one version alone may be dead, now or later. It marks no slot, and lists no chain.
 
 ghost use Rattle.std.specs.Prelude.{◌≡◌, ◌≤◌, ◌<◌, [], ◌∷◌, false, IsTrue, IfSome, Some, length};
-ghost use Rattle.page_sheet.specs.Slots.{slot_at, SlotIsThere, IsNormalAt, redirects_to, the_slot};
+ghost use Rattle.page_sheet.specs.Slots.{slot_at, IsNormalAt};
 ghost use Rattle.sound_page.specs.Dead.{IsDeadAt};
 ghost use Rattle.prune.specs.Actions.{CanApply};
 ghost use Rattle.prune.specs.Pruning.{root_action, IsPlan};
@@ -14,7 +14,7 @@ use crate::glance::is_plain_at;
 use crate::planning::orphan_action;
 use commit_status::StatusTable;
 use hot_chain::{is_root, next_in_chain};
-use page_slots::{Page, SlotHead};
+use page_slots::Page;
 use prune_actions::Action;
 use space_maps::{DOUBT_PLACES, Doubts, with_doubt};
 use xid_circle::Xid;
@@ -48,18 +48,6 @@ fn only_doubt(page: &Page, doubts: Doubts, statuses: &StatusTable) -> Option<u16
     Some(only)
 }
 
-/// True where a slot is a redirect to the target.
-#[inline(always)]
-fn leads_to(page: &Page, number: u16, target: u16) -> bool
-    requires { SlotIsThere page.now.slots number }
-    ensures { result ≡ redirects_to target (the_slot page.now.slots number) }
-{
-    match page.head(number) {
-        SlotHead::Redirect(to) => to == target,
-        _ => false,
-    }
-}
-
 /// The first slot, from this number on, that is a redirect to the target. It is a function of its own, so that its loop, over all
 /// pointers of a page, keeps to registers.
 #[inline(never)]
@@ -68,7 +56,7 @@ fn next_redirect(page: &Page, from: u16, target: u16) -> Option<u16>
     ensures { IsFirstRedirect page.now.slots target from result }
 {
     for number in from..page.slots() + 1 {
-        if leads_to(page, number, target) {
+        if page.redirects_to(number, target) {
             return Some(number);
         }
     }
