@@ -206,10 +206,11 @@ impl SessionEngine {
         requires finishes { status ≢ Status.InProgress }
         ensures { Closes self.old self.new s status }
     {
-        let session = self.sessions.place_mut(s).take();
-        if let Some(session) = &session {
+        let place = self.sessions.place_mut(s);
+        if let Some(session) = place {
             self.heap.finish(session.own.as_slice(), status);
         }
+        *place = None;
     }
 
     /// How many pages are in use.
