@@ -8,7 +8,7 @@ ghost use Rattle.calls.specs.declared.step.Step.TheVariants as step;
 ghost use Rattle.vacuum_engine.specs.Exact.{EngineExact};
 
 use crate::engine::Engine;
-use calls::{Mode, Refusal, Reply};
+use calls::{Mode, Piece, Refusal, Reply};
 use status_cache::StatusCache;
 use xid_circle::Xid;
 
@@ -19,6 +19,33 @@ fn truncate(cache: &mut Option<StatusCache>, cutoff: Xid)
     if let Some(cache) = cache {
         cache.truncate(cutoff);
     }
+}
+
+/// Puts the piece in a reply of another kind. It is a function of its own, since a new reply is a kilobyte, which is cleared first.
+#[inline(never)]
+fn put_first_piece(piece: Piece, reply: &mut Reply)
+    ensures { reply.new ≡ Reply.Worked piece }
+{
+    *reply = Reply::Worked(piece);
+}
+
+/// Puts the piece in the place of the one before, if the reply has one.
+#[inline(always)]
+fn put_piece(piece: Piece, reply: &mut Reply)
+    ensures { reply.new ≡ Reply.Worked piece }
+{
+    match reply {
+        Reply::Worked(place) => *place = piece,
+        _ => put_first_piece(piece, reply),
+    }
+}
+
+/// Puts the end of a vacuum in the reply: it is a function of its own for the same reason.
+#[inline(never)]
+fn put_end(first: u32, reply: &mut Reply)
+    ensures { reply.new ≡ Reply.Ended first }
+{
+    *reply = Reply::Ended(first);
 }
 
 impl Engine {
@@ -48,12 +75,10 @@ impl Engine {
             return;
         };
         let cutoff = vacuum.forgets_before();
-        // (put in place once, since a reply is a kilobyte)
-        let answer = match self.core.vacuum_step(vacuum) {
-            Some(piece) => Reply::Worked(piece),
-            None => Reply::Ended(self.end_vacuum(cutoff)),
-        };
-        *reply = answer;
+        match self.core.vacuum_step(vacuum) {
+            Some(piece) => put_piece(piece, reply),
+            None => put_end(self.end_vacuum(cutoff), reply),
+        }
     }
 
     /// Drops the vacuum, which has ended, and forgets the ids before the cutoff, if there is one. It answers the oldest that is
