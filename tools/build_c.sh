@@ -1,7 +1,7 @@
 #!/usr/bin/env bash
 # tools/build_c.sh PREFIX [--over-gate]: proves the library for callers, builds it, and installs it under PREFIX (tools/install.sh). That
 # takes some 50 minutes on four processors. With --over-gate what `rt ci` has just proved is not proved again, where it is left
-# (tools/over_gate.py), and it takes some 5. In a minute and without a proof: tools/quick.sh.
+# (tools/over_gate.py), and it takes one or two. In a minute and without a proof: tools/quick.sh.
 # RT_JOBS says how many jobs rt is to use; CC names the C compiler, if it is not cc.
 set -euo pipefail
 
@@ -19,7 +19,7 @@ prove() {
     (cd "$root/crates/sandpiper_c" && rt lib ${RT_JOBS:+--jobs "$RT_JOBS"})
 }
 if [ $# -eq 2 ]; then
-    echo "build_c.sh: proves the calls for C over what the gate has left: some 5 minutes; where it is not left all is proved"
+    echo "build_c.sh: compiles the calls for C over what the gate has left: a minute or two; what is not left is proved"
     status=0
     python3 "$root/tools/over_gate.py" archive || status=$?
     [ $status -ne 3 ] || { status=0; prove; }
