@@ -137,6 +137,15 @@ static long pruning_updates(void) {
     return ROWS / ON_A_PAGE;
 }
 
+/* Updates of rows that were updated before: each prunes one dead version, to which a redirect leads. */
+static long repeated_updates(void) {
+    load(ROWS);
+    for (int round = 0; round < 3; round++)
+        for (uint64_t key = 0; key < ROWS; key++) update(key);
+    for (uint64_t key = 0; key < ROWS; key++) measured_update(key);
+    return ROWS;
+}
+
 /* Beginnings and commits in turn, with nothing between. */
 static long empty_transactions(void) {
     load(1000);
@@ -223,7 +232,7 @@ static const struct {
     long (*run)(void);
 } KINDS[] = {{"get", gets},           {"empty", empty_transactions}, {"insert", inserts},        {"hot", hot_updates},
              {"delete", deletes},     {"scan", scans},
-             {"full", full_updates},  {"prunes", pruning_updates}, {"prune", prunes},          {"pruned", pruned},
+             {"full", full_updates},  {"prunes", pruning_updates}, {"again", repeated_updates}, {"prune", prunes},      {"pruned", pruned},
              {"young", young_visits}, {"freezing", freezing_visits}, {"held", held_visits},    {"cleaning", cleaning_visits},
              {"making", makings}};
 
