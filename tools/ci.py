@@ -13,6 +13,7 @@ import importlib.machinery
 import importlib.util
 import os
 import shutil
+import subprocess
 import sys
 import threading
 
@@ -45,7 +46,7 @@ def leaves_checked(prove):
 
     @functools.wraps(prove)
     def proved(crate, *commands):
-        left = ["-o", f"{crate.folder}/out/checked"] if crate.is_static else []
+        left = ["-o", f"{crate.folder}/out/checked"] if getattr(crate, "is_static", False) else []
         return prove(crate, *([*words, *left] if words[0] == "check" and "--test" not in words else words for words in commands))
 
     return proved
@@ -77,7 +78,10 @@ def main():
     crate = kit.rtlib.Crate
     for name in filter(lambda name: hasattr(crate, name), WALKS):
         setattr(crate, name, once_in_a_walk(getattr(crate, name)))
-    crate.prove = leaves_checked(crate.prove)
+    # (an older prover could not take it)
+    help_of_build = [getattr(kit.rtlib, "RATTLE", "true"), "build", "--help"]
+    if "--crate-checked" in subprocess.run(help_of_build, capture_output=True, text=True, check=False).stdout:
+        crate.prove = leaves_checked(crate.prove)
     sys.exit(kit.main(["ci"]))
 
 
