@@ -3,8 +3,8 @@
 # programs, the library, the header and classes, the crate, the wheel, the documents, SHA256SUMS, and GATE.txt. The last are
 # the end of GATE, the file with all that tools/test.sh said of this commit.
 #
-# It compiles the calls for C over what `rt ci` has left (tools/over_gate.py), and stops where that is not there, is older than its sources, or
-# where something is not committed. One commit gives the same bytes each time. CC names the C compiler, if it is not cc.
+# It compiles the calls for C over what `rt ci` has left (tools/over_gate.py), and stops where that is not there, is older than its
+# sources, or where something is not committed. One commit gives the same bytes each time. CC names the C compiler, if it is not cc.
 set -euo pipefail
 
 if [ $# -ne 2 ]; then
