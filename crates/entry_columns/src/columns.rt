@@ -183,6 +183,16 @@ impl<L: Label> EntryColumns<L> {
         between(from, from.saturating_add(ahead))
     }
 
+    /// Reads places, one in each line of memory.
+    #[inline(always)]
+    pub fn touch(&self) -> u32 {
+        let mut touched = 0u32;
+        for line in 0..self.places.len() / 16 {
+            touched = touched.wrapping_add(self.places[line * 16].number());
+        }
+        touched
+    }
+
     /// Removes the entries to dead places from this place on, and moves those behind them up. Says whether there were any.
     #[inline(never)]
     pub fn remove_dead(&mut self, from: usize, dead: &[Tid]) -> bool

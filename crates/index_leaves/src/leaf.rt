@@ -214,6 +214,20 @@ impl<L: Label> Node for Leaf<L> {
         })
     }
 
+    #[inline(always)]
+    fn touch(&self, dead: &DeadSet) -> u32 {
+        dead.fact_ascending();
+        if holds(self.gap, dead.as_slice()) {
+            return 0;
+        }
+        self.entries.touch()
+    }
+
+    #[inline(always)]
+    fn take_touched(spares: &mut SpareLists<L>, touched: u32) {
+        spares.note(touched);
+    }
+
     fn no_spares(alloc: Global) -> SpareLists<L> {
         SpareLists::new(alloc)
     }

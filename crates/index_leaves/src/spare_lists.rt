@@ -16,6 +16,8 @@ pub struct SpareLists<L: Label> {
     large: Vec<EntryColumns<L>>,
     /// That of a leaf which took a large one: with it a leaf that is left with few entries gives its large one back.
     small: Option<EntryColumns<L>>,
+    /// What was read ahead. Nobody asks for it.
+    touched: u32,
 }
 
 impl<L: Label> Model for SpareLists<L> {
@@ -42,7 +44,15 @@ impl<L: Label> SpareLists<L> {
         SpareLists {
             large: Vec::new(alloc),
             small: None,
+            touched: 0,
         }
+    }
+
+    /// Notes what was read ahead.
+    pub(crate) fn note(&mut self, touched: u32)
+        ensures { self.new ≡ self.old }
+    {
+        self.touched = touched;
     }
 
     /// The number of large ones.

@@ -148,6 +148,14 @@ impl<N: Node> Node for Branch<N> {
         nodes::sweep_from(&mut self.nodes, spares, position, dead)
     }
 
+    #[inline(always)]
+    fn touch(&self, _dead: &DeadSet) -> u32 {
+        0
+    }
+
+    #[inline(always)]
+    fn take_touched(_spares: &mut Spares<N, N::Spares>, _touched: u32) {}
+
     fn no_spares(alloc: Global) -> Spares<N, N::Spares> {
         Spares {
             nodes: Vec::new(alloc),

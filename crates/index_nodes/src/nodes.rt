@@ -610,6 +610,24 @@ pub fn sweep_from<N: Node>(
     }
 }
 
+/// So many nodes are read ahead at once.
+const AHEAD: usize = 8;
+
+/// Reads what a sweep of the nodes from this number on will read, at each eighth.
+#[inline(always)]
+fn read_ahead<N: Node>(nodes: &[N], below: &mut N::Spares, number: usize, dead: &DeadSet)
+    ensures { below.new ≡ below.old }
+{
+    if number % AHEAD != 0 {
+        return;
+    }
+    let mut touched = 0u32;
+    for node in number..nodes.len().min(number.saturating_add(AHEAD)) {
+        touched = touched.wrapping_add(nodes[node].touch(dead));
+    }
+    N::take_touched(below, touched);
+}
+
 /// Sweeps the node of this number from its first entry on, if there is such a node.
 #[inline(always)]
 fn sweep_next<N: Node>(
@@ -643,6 +661,7 @@ fn sweep_next<N: Node>(
     if number >= nodes.len() {
         return None;
     }
+    read_ahead(nodes, &mut spares.below, number, dead);
     let inner = N::first();
     sweep_one(
         nodes,
