@@ -21,7 +21,7 @@ use Rattle.heap_write.specs.Writes.Replaces.{on_page}
 use Rattle.table_indexes.specs.Indexes.{NeedsEntry}
 use Rattle.heap_write.specs.Growth.{page_in}
 use Rattle.heap_write.specs.Refusals.{NeedsIds, VersionIsThere, UpdateNeedsMemory, FailsUpdate, AnswersUpdate}
-use Rattle.heap_write.specs.Steps.{IsDoneUnder}
+use Rattle.heap_write.specs.Steps.{IsReplaceable, IsDoneUnder}
 use Rattle.heap_write.proofs.PageLemmas.{keeps-all}
 use Rattle.write_ids.proofs.IdLemmas.{takes-grown}
 
@@ -53,17 +53,17 @@ answers-memory h h' own own' place row horizon free needs keeps same window = re
 
 -- The update of a version whose page has room.
 
-pub answers-here : (h grown h' : HeapView) (own grown_own own' : Own) (place : Tid) (row : Row) (horizon : ℕ) (x : Xid) → ¬ NeedsFreeze h.statuses own → VersionIsThere h place
+pub answers-here : {h grown h' : HeapView} {own grown_own own' : Own} {place : Tid} {row : Row} (horizon : ℕ) (x : Xid) → IsReplaceable h own place
     → rounded_size_of row ≤ room_of (page_on h place.page).slots → Keeps h grown → SameOwn own grown_own → (unassigned_levels own.ids own.saved ≡ 0 → grown.statuses ≡ h.statuses)
     → IsDoneUnder grown h' grown_own own' x.0 → UpdatesOnPage h h' place x.0 row → AnswersUpdate h h' own own' place row horizon (Ok x)
-answers-here h grown h' own grown_own own' place row horizon x free there room keeps same none under replaces = record {
+answers-here {h = h} {grown = grown} {h' = h'} {own = own} {grown_own = grown_own} {own' = own'} horizon x may room keeps same none under replaces = record {
   ok = (
     record {
-      free = free;
+      free = may.free;
       takes_ids = takes-grown h.statuses grown.statuses h'.statuses own grown_own own' x.0 keeps.statuses same none under.takes;
       ready = h;
       readies = has_room room refl;
-      there = there;
+      there = may.there;
       replaces = on_page room replaces;
       max_pages = under.max_pages ∙ keeps.max_pages;
     },

@@ -14,15 +14,14 @@ use Rattle.space_maps.specs.declared.mark.Mark.TheVariants.{Nothing}
 use Rattle.heap_pages.specs.View.{PagesView}
 use Rattle.heap_pages.specs.declared.pages.Placement.TheVariants as to
 use Rattle.table_indexes.specs.Indexes.{SameEntries, Enters}
-use Rattle.table_indexes.proofs.IndexLemmas.{same-entries, entries-back}
+use Rattle.table_indexes.proofs.IndexLemmas.{same-entries}
 use Rattle.table_indexes.proofs.Columns.{entries-then, enters-grown, values-grown}
 use Rattle.heap_write.specs.declared.target.Target.{Target}
 use Rattle.heap_write.specs.declared.target.Target.TheVariants.{Page, New}
 use Rattle.heap_write.specs.Heap.{HeapView, unused_page, page_on, PutsPage}
 use Rattle.heap_write.specs.Heap.PutsPage.{in_use, after_all}
-use Rattle.heap_write.specs.Writes.{GoesTo, PutsRoot, SetsXmax, HotUpdates, ColdUpdates, KeepsValues, UpdatesOnPage, Inserts, Deletes, Replaces}
+use Rattle.heap_write.specs.Writes.{GoesTo, PutsRoot, SetsXmax, HotUpdates, ColdUpdates, KeepsValues, Inserts, Deletes, Replaces}
 use Rattle.write_ids.specs.Ids.{NeedsFreeze, TakesIds}
-use Rattle.heap_write.specs.Writes.UpdatesOnPage.{heap_only, as_root}
 use Rattle.heap_write.specs.Writes.Replaces.{elsewhere}
 use Rattle.heap_write.specs.Refusals.{VersionIsThere}
 use Rattle.heap_write.specs.Growth.{page_in, SamePages, target_number}
@@ -86,21 +85,18 @@ here-grown h h1 h' place x row grown here = record {
   entries = entries-then h.indexes h1.indexes h'.indexes grown.entries here.entries;
 }
 
+pub cold-grown : (h h1 h' : HeapView) (place : Tid) (x : ℕ) (row : Row) → Grown h h1 place.page → ColdUpdates h1 h' place x row place.page → ColdUpdates h h' place x row place.page
+cold-grown h h1 h' place x row grown replaces = record {
+  middle = replaces.middle;
+  root = root-grown h h1 replaces.middle true x row place.page grown replaces.root;
+  away = subst (λ slots. SetsXmax replaces.middle h' place x (record { page = place.page; slot = free_number slots })) grown.slots replaces.away;
+}
+
 -- whether the values in the indexes change
 
 pub values-on : (h h1 : HeapView) (place : Tid) (row : Row) → row_at (page_on h1 place.page).slots place.slot ≡ row_at (page_on h place.page).slots place.slot
     → SameEntries h.indexes h1.indexes → KeepsValues h place row → KeepsValues h1 place row
 values-on h h1 place row same entries keeps old at = values-grown h.indexes h1.indexes old row entries (keeps old (sym same ∙ at))
-
-pub values-kept : (h h1 : HeapView) (place : Tid) (row : Row) → (page_on h1 place.page).slots ≡ (page_on h place.page).slots → SameEntries h.indexes h1.indexes
-    → KeepsValues h place row → KeepsValues h1 place row
-values-kept h h1 place row slots entries keeps old at =
-    values-grown h.indexes h1.indexes old row entries (keeps old (sym (ap (λ s. row_at s place.slot) slots) ∙ at))
-
-pub values-back : (h h1 : HeapView) (place : Tid) (row : Row) → (page_on h1 place.page).slots ≡ (page_on h place.page).slots → SameEntries h.indexes h1.indexes
-    → KeepsValues h1 place row → KeepsValues h place row
-values-back h h1 place row slots entries keeps old at =
-    values-grown h1.indexes h.indexes old row (entries-back h.indexes h1.indexes entries) (keeps old (ap (λ s. row_at s place.slot) slots ∙ at))
 
 -- An insert.
 
@@ -206,17 +202,6 @@ stays-there h h1 middle place x row n before same_pages there root at =
           let kept = puts-other h1.pages middle.pages n place.page root.page within other root.puts in
           subst (λ (p : PageView). IsNormalAt p.slots place.slot) (sym kept ∙ is) there_1
     ]
-
--- An update on the page, said of the table before there was more memory.
-
-pub on_page-grown : (h h1 h' : HeapView) (place : Tid) (x : ℕ) (row : Row) → Grown h h1 place.page → UpdatesOnPage h1 h' place x row → UpdatesOnPage h h' place x row
-on_page-grown h h1 h' place x row grown (heap_only keeps here) = heap_only (values-back h h1 place row grown.slots grown.entries keeps) (here-grown h h1 h' place x row grown here)
-on_page-grown h h1 h' place x row grown (as_root changes replaces) =
-    as_root (λ keeps. changes (values-kept h h1 place row grown.slots grown.entries keeps)) (record {
-      middle = replaces.middle;
-      root = root-grown h h1 replaces.middle true x row place.page grown replaces.root;
-      away = subst (λ slots. SetsXmax replaces.middle h' place x (record { page = place.page; slot = free_number slots })) grown.slots replaces.away;
-    })
 
 -- An update on the page.
 

@@ -6,7 +6,7 @@ ghost use Rattle.page_sheet.specs.Slots.{room_of, row_at};
 ghost use Rattle.tuple_header.specs.Version.{rounded_size_of};
 ghost use Rattle.table_indexes.specs.Indexes.{HasEntries, NeedsEntry, SameValues};
 ghost use Rattle.heap_write.specs.Heap.{page_on, Keeps};
-ghost use Rattle.heap_write.specs.Writes.{KeepsValues, HotUpdates, ColdUpdates, UpdatesOnPage};
+ghost use Rattle.heap_write.specs.Writes.{KeepsValues, HotUpdates, ColdUpdates};
 ghost use Rattle.write_ids.specs.Ids.{NewestIsGiven, SameOwn, HasIds};
 ghost use Rattle.heap_write.specs.Refusals.{VersionIsThere, NeedsIds, AnswersUpdate};
 ghost use Rattle.heap_write.specs.Growth.{IsReserved, target_number};
@@ -67,7 +67,8 @@ impl HeapState {
         let reserved = self.reserve_ids_for(own, keeps_values);
         self.statuses.fact_window();
         match reserved {
-            Ok(()) => Ok(self.replace_on_page(own, place, row, keeps_values)),
+            Ok(()) if keeps_values => Ok(self.write_hot_update(own, place, row)),
+            Ok(()) => Ok(self.cold_update(own, place, row, Target::Page(place.page))),
             Err(_) => Err(WriteFault::NoMemory),
         }
     }
@@ -111,23 +112,6 @@ impl HeapState {
     {
         reserve_ids(&mut self.statuses, own)?;
         self.indexes.make_room_for(heap_only)
-    }
-
-    /// Replaces a version by one on its page, which has room for it: a heap-only one, or a root.
-    fn replace_on_page(&mut self, own: &mut OwnIds, place: Tid, row: &Row, heap_only: bool) -> Xid
-        requires may { IsReplaceable self.old own.old place }
-        requires has_ids { HasIds self.old.statuses own.old }
-        requires room { rounded_size_of row.now ≤ room_of (page_on self.old place.page).slots }
-        requires heap_only { IsTrue heap_only ↔ KeepsValues self.old place row.now }
-        requires has_entries { IsFalse heap_only → HasEntries self.old.indexes }
-        ensures under { IsDoneUnder self.old self.new own.old own.new result.0 }
-        ensures replaces { UpdatesOnPage self.old self.new place result.0 row.now }
-    {
-        if heap_only {
-            self.write_hot_update(own, place, row)
-        } else {
-            self.cold_update(own, place, row, Target::Page(place.page))
-        }
     }
 
     /// Replaces a version by a heap-only one on its page, which has room for it.
