@@ -3,10 +3,10 @@
 ghost use Rattle.std.specs.Prelude.{◌≡◌, ◌≢◌, ◌≤◌, ◌<◌, ◌+◌, ◌-◌, ◌*◌, ◌++◌, ◌∷◌, ℕ, List, [], length, sum_by, drop, slice_set, slice_index_or, true, false, ◌==◌, ◌&&◌, Some, None, IfSome, IsSome, IsTrue, ◌↔◌, MatchOption, if◌then◌else◌};
 ghost use Rattle.std.specs.Option.{option_map};
 ghost use Rattle.std.specs.List.{position_or_len};
-ghost use Rattle.tuple_header.specs.Layout.{number_at, with_bytes, header_bytes, encoding};
+ghost use Rattle.tuple_header.specs.Layout.{number_at, with_bytes, header_bytes};
 ghost use Rattle.tuple_header.specs.declared.version.TheConstants.{BODY_START, MOST_SLOTS};
 ghost use Rattle.tuple_header.specs.Version.{size_of, rounded_size_of};
-ghost use Rattle.tuple_header.specs.Faults.{HeaderFits, IsVersion, header_fault};
+ghost use Rattle.tuple_header.specs.Faults.{HeaderFits, header_fault};
 ghost use Rattle.page_sheet.specs.declared.sheet.TheConstants.{MOST_BYTES};
 ghost use Rattle.page_layout.specs.declared.sizes.TheConstants.{PAGE_BYTES, PAGE_HEADER_BYTES};
 ghost use Rattle.page_sheet.specs.Slots.{is_unused, is_dead, is_undeleted_by, undeleted_row, redirects_to, with_header, version_of, target_of, head_of, bytes_taken};
@@ -71,17 +71,6 @@ fn write_header(bytes: &mut [u8], extent: Extent, header: Header)
     put_header(&header, &mut bytes[from..from + usize::from(extent.len)]);
 }
 
-/// Writes the bytes of a version from a place on. Its contract speaks of all bytes, that of [`put_version`] of those from the place on.
-fn put_encoding(bytes: &mut [u8], from: usize, header: &Header, row: &Row)
-    requires room { from + size_of row.now ≤ length bytes.old }
-    requires faultless { header_fault header.now ≡ None }
-    ensures bytes { bytes.new
-        ≡ with_bytes from (encoding (record { header = header.now; row = row.now })) bytes.old }
-    ensures version { IsVersion (record { header = header.now; row = row.now }) }
-{
-    put_version(header, row, &mut bytes[from..]);
-}
-
 /// Puts a version at an index, below all others, where the gap has room for it.
 fn put_below(bytes: &mut [u8; PAGE_BYTES], count: usize, index: usize, header: &Header, row: &Row)
     requires sound { IsSound bytes.old count }
@@ -105,7 +94,7 @@ fn put_below(bytes: &mut [u8; PAGE_BYTES], count: usize, index: usize, header: &
         from: from as u16,
         len: BODY_START as u16 + row.body.len() as u16,
     };
-    put_encoding(bytes, from, header, row);
+    put_version(header, row, &mut bytes[from..]);
     put_u16(bytes, 14, from as u16);
     put_pointer(bytes, index, Pointer::Normal(extent));
 }

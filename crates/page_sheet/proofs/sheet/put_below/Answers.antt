@@ -1,5 +1,9 @@
-use Rattle.std.proofs.Common.{◌≡◌, ◌≤◌, ◌+◌, ◌-◌, ◌*◌, ◌∙◌, sym, refl, arith}
+use Rattle.std.proofs.Common.{◌≡◌, ℕ, ◌≤◌, ◌+◌, ◌-◌, ◌*◌, ◌∙◌, ◌++◌, length, take, drop, sym, subst, refl, arith}
+use borrow.Rule.Slice.PartMut.{put_mid}
 use Rattle.tuple_header.specs.Version.{Version, size_of, rounded_size_of}
+use Rattle.tuple_header.specs.Layout.{with_bytes, encoding}
+use Rattle.tuple_header.proofs.Headers.{length-encoding}
+use Rattle.tuple_header.proofs.Writes.{with_bytes-put}
 use Rattle.page_layout.specs.declared.pointer.Extent.{Extent}
 use Rattle.page_layout.specs.Layout.{upper_in}
 use Rattle.page_sheet.proofs.Added.{IsAdded, added}
@@ -18,8 +22,13 @@ whole c =
     let enough = c.requires.room in
     let room : e.from + rounded_size_of c.args.row.now ≡ upper_in a = omega arith in
     let gap : 24 + 4 * c.args.count ≤ e.from = omega arith in
-    added a c.put_encoding.new.bytes c.put_u16.new.bytes c.put_pointer.new.bytes c.args.count c.args.index e v c.requires.sound c.requires.there gap room len_is
-    c.put_encoding.ensures.version c.put_encoding.ensures.bytes c.put_u16.ensures c.put_pointer.ensures
+    let fits = c.put_version.ensures.version in
+    let low : e.from ≤ length a = omega (arith, c.requires.sound.long, c.requires.sound.upper) in
+    let out = c.put_version.new.out in
+    let Put : ℕ → Type 0 = λ n. out ≡ encoding v ++ drop (size_of v.row) (take (n - e.from) (drop e.from a)) → put_mid e.from (n - e.from) a out ≡ with_bytes e.from (encoding v) a in
+    let written = subst Put c.requires.sound.long (with_bytes-put e.from (size_of v.row) (encoding v) a out (length-encoding v fits) low) c.put_version.ensures.bytes in
+    added a (put_mid e.from (8192 - e.from) a out) c.put_u16.new.bytes c.put_pointer.new.bytes c.args.count c.args.index e v c.requires.sound c.requires.there gap room len_is
+    fits written c.put_u16.ensures c.put_pointer.ensures
 
 pub returns-clause-sound : goal.returns-clause-sound
 returns-clause-sound c = (whole c).sound
