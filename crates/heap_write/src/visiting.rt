@@ -13,7 +13,7 @@ use crate::heap::HeapState;
 use commit_status::StatusTable;
 use freeze::{DeadSlots, FrozenPage, freeze_page};
 use page_slots::Page;
-use prune::{PrunePlan, apply, plan};
+use prune::{PrunePlan, apply_actions, plan};
 use xid_circle::Xid;
 
 impl HeapState {
@@ -104,6 +104,6 @@ fn apply_and_freeze(
     ensures mark { IsPageMark statuses.now horizon.0 page.new.slots result.mark }
     ensures dead { ListsDead page.new.slots result.dead.items }
 {
-    apply(page, plan);
+    apply_actions(page, plan.actions.as_slice());
     freeze_page(page, number, cutoff, horizon, statuses)
 }

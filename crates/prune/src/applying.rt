@@ -44,14 +44,6 @@ pub fn apply_actions(page: &mut Page, actions: &[(u16, Action)])
     }
 }
 
-/// Does what a plan names, as [`apply_actions`] does, for who has a whole plan.
-pub fn apply(page: &mut Page, plan: &PrunePlan)
-    requires { CanApply (length page.old.slots) plan.now.actions.items }
-    ensures { page.new ≡ applied plan.now.actions.items page.old }
-{
-    apply_actions(page, plan.actions.as_slice());
-}
-
 /// Prunes a page where only these slots need more than a glance. It is a function of its own, so that its list is cleared only
 /// where it is called.
 #[inline(never)]
@@ -64,7 +56,7 @@ fn prune_doubtful(page: &mut Page, doubtful: &[u16], statuses: &StatusTable, hor
         actions: ArrayVec::new(),
     };
     list_actions(&mut plan.actions, doubtful, page, statuses, horizon);
-    apply(page, &plan);
+    apply_actions(page, plan.actions.as_slice());
 }
 
 /// Prunes a page by its plan.

@@ -6,10 +6,10 @@
 //! "Heap-Only Tuples" and "Routine Vacuuming").
 //!
 //! [`plan`] says what is to be done without changing the page, [`check_plan`] whether a plan may be applied, no matter who made it
-//! and when, [`apply`] does what it names and nothing else, and [`prune`] is the first and the last of these. Where no version on
-//! the page is dead there is nothing to do: [`first_death`] tells whether one is, and else when one may be. All of them go over the
-//! headers once (`glance.rt`), and walk only the chains that may hold a dead version (`marks.rt`). Where it is known in which slots
-//! versions may be dead, now or later, [`plan_by_doubts`] looks at these alone, and mostly finds one (`one_doubt.rt`).
+//! and when, [`apply_actions`] does what it names and nothing else, and [`prune`] is the first and the last of these. Where no
+//! version on the page is dead there is nothing to do: [`first_death`] tells whether one is, and else when one may be. All of them
+//! go over the headers once (`glance.rt`), and walk only the chains that may hold a dead version (`marks.rt`). Where it is known in
+//! which slots versions may be dead, now or later, [`plan_by_doubts`] looks at these alone, and mostly finds one (`one_doubt.rt`).
 //! [`room_after`] tells beforehand how much room the page has once a plan is applied. `specs/Cutting.antt` defines what is cut, by a
 //! chain's list on any page and by its links, `specs/Pruning.antt` what becomes of each slot, `specs/Checks.antt` which plans check;
 //! `Sound` and `Readers` of `sound_page`, on which pages no reader misses anything. Those who see a page as a list of slots use
@@ -31,7 +31,7 @@ mod planning;
 mod room;
 
 pub use action::PrunePlan;
-pub use applying::{apply, apply_actions, prune};
+pub use applying::{apply_actions, prune};
 pub use checking::{check_actions, check_plan};
 pub use dead::first_death;
 pub use marks::cut_count;
