@@ -2,7 +2,8 @@
 
 ghost use Rattle.std.specs.Prelude.{◌≡◌, None, IfOk};
 ghost use Rattle.std.specs.Arc.{arc_value};
-ghost use Rattle.std.specs.Fn.{FnOnceTakesAtMut, FnOnceReturnsAtMut};
+ghost use Rattle.std.specs.Borrow.{sem};
+ghost use Rattle.heap_pages.specs.Lending.{LendsPage};
 
 use page_slots::Page;
 use std::alloc::{AllocError, Global};
@@ -56,25 +57,16 @@ impl OwnPage {
         &self.own
     }
 
-    /// Changes the page in place, as `change` does. Readers keep what they were given. It takes no memory but what the change
-    /// takes.
+    /// The page, to be changed in place. The copy that readers share is let go first: they keep what they were given.
     #[inline(always)]
-    pub(crate) fn edit<R, F: FnOnce(&mut Page) -> R>(&mut self, change: F) -> R
-        requires { FnOnceTakesAtMut F.FnOnce change self.old }
-        ensures { FnOnceReturnsAtMut F.FnOnce change self.old result self.new }
+    pub(crate) fn page_mut(&mut self) -> &mut Page
+        ensures* writes_back { sem 𝓛 (LendsPage self.entry result) }
+        ensures value { result.now ≡ self.old }
     {
         if self.shared.is_some() {
             forget(&mut self.shared);
         }
-        let page: &mut Page = &mut self.own;
-        change(page)
-    }
-
-    /// Sets whether all versions on the page are visible to all. It is an edit, so a copy that readers share is let go.
-    pub(crate) fn set_flag(&mut self, flag: bool)
-        ensures { self.new ≡ record self.old { flag = flag } }
-    {
-        self.edit(|page: &mut Page| page.set_flag(flag));
+        &mut self.own
     }
 
     /// The page as it is now, for readers to keep. It is copied where it was changed since they were last given it.

@@ -112,7 +112,7 @@ impl Pages {
         ensures edits { Edits F.FnOnce change self.old self.new number result }
     {
         let own = &mut self.pages[number as usize];
-        let result = own.edit(change);
+        let result = change(own.page_mut());
         self.free.note(number, free_byte(own.page()));
         result
     }
@@ -127,8 +127,9 @@ impl Pages {
     {
         self.marks.note(number, Mark::Nothing);
         let target = &mut self.pages[number as usize];
-        target.set_flag(false);
-        let result = target.edit(change);
+        let page = target.page_mut();
+        page.set_flag(false);
+        let result = change(page);
         self.free.note(number, free_byte(target.page()));
         result
     }
@@ -189,7 +190,8 @@ impl Pages {
         requires { number < length self.old.pages }
         ensures { NotesMark self.old self.new number mark }
     {
-        self.pages[number as usize].set_flag(mark.is_visible());
+        let page = self.pages[number as usize].page_mut();
+        page.set_flag(mark.is_visible());
         self.marks.note(number, mark);
     }
 

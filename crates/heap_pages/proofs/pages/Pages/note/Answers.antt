@@ -8,6 +8,9 @@ use Rattle.heap_pages.proofs.FirstLemmas.{read_at}
 use Rattle.heap_pages.proofs.FreeSpaceLemmas.{flagged}
 use Rattle.heap_pages.proofs.pages.Pages.note.Goals as goal
 
+is_flagged : (c : goal.After-note) → c.set_flag.new.self ≡ record c.index_mut.result.now { flag = c.is_visible.result }
+is_flagged c = c.set_flag.ensures ∙ ap (λ (page : PageView). record page { flag = c.is_visible.result }) c.page_mut-page.ensures.value
+
 pub invariant_of-self : goal.invariant_of-self
 invariant_of-self c =
     let pages = c.self.inside.pages.items in
@@ -17,7 +20,7 @@ invariant_of-self c =
     let at : slice_get pages n ≡ Some was = read_at pages n was within c.index_mut.ensures.value in
     let long = length-set pages n c.set_flag.new.self in record {
       few = omega (arith, long, c.self.invariant.few);
-      bytes = flagged c.self.inside.free.bytes pages n was c.is_visible.result c.self.invariant.bytes at ∙ ap (λ (page : PageView). free_space_bytes (set pages n page)) (sym c.set_flag.ensures);
+      bytes = flagged c.self.inside.free.bytes pages n was c.is_visible.result c.self.invariant.bytes at ∙ ap (λ (page : PageView). free_space_bytes (set pages n page)) (sym (is_flagged c));
       pages_spare = c.self.invariant.pages_spare;
       free_spare = c.self.invariant.free_spare;
       marked = omega (arith, ap length c.note.ensures.marks, length-set c.self.inside.marks.marks n c.args.mark, long, c.self.invariant.marked);
@@ -34,7 +37,7 @@ returns c =
     let flagged_as : PageView = record was { flag = says_visible c.args.mark } in (
       was,
       at,
-      ap (λ (page : PageView). record { pages = set pages n page; marks = c.note.new.self.marks; spare = c.self.inside.spare }) (c.set_flag.ensures ∙ ap (λ f. record was { flag = f }) c.is_visible.ensures)
+      ap (λ (page : PageView). record { pages = set pages n page; marks = c.note.new.self.marks; spare = c.self.inside.spare }) (is_flagged c ∙ ap (λ f. record was { flag = f }) c.is_visible.ensures)
           ∙ ap (λ (m : List Mark). record { pages = set pages n flagged_as; marks = m; spare = c.self.inside.spare }) c.note.ensures.marks
           ∙ ap (λ (p : PagesView). record { pages = set p.pages n flagged_as; marks = set p.marks n c.args.mark; spare = p.spare }) c.self.view_is,
     )
