@@ -65,7 +65,7 @@ impl HeapState {
 
     /// Goes through a piece of the index of this number, which is in use: of its entries after `from`, or of all, those go that
     /// lead to a dead place. It answers where the piece ended, and takes where the one before did, as
-    /// [`root_index::RootIndex::remove_where`] does.
+    /// [`root_index::RootIndex::remove_where`] does. (The indexes are private, here and below.)
     pub fn sweep(
         &mut self,
         number: u8,

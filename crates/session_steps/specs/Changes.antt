@@ -1,5 +1,5 @@
 -- What the engine's own changes do to its state.
-use Rattle.std.specs.Prelude.{◌≡◌, ℕ, List, [], ◌∷◌, ◌++◌, Some, None, false, slice_set}
+use Rattle.std.specs.Prelude.{◌≡◌, ℕ, List, [], ◌++◌, Some, None, false, slice_set}
 use Rattle.snapshot.specs.Own.{Own, newest}
 use Rattle.commit_status.specs.declared.status.Status.{Status}
 use Rattle.commit_status.specs.declared.status.Status.TheVariants.{Aborted}

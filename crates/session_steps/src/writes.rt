@@ -1,10 +1,9 @@
 //! The steps of a session that write a key.
 
-ghost use Rattle.std.specs.Prelude.{◌≤◌, ◌<◌, ◌↔◌, IsTrue, Some, None};
+ghost use Rattle.std.specs.Prelude.{◌<◌, Some, None};
 ghost use Rattle.tuple_header.specs.Version.{rounded_size_of};
 ghost use Rattle.page_sheet.specs.Slots.{room_of};
 ghost use Rattle.heap_write.specs.Heap.{page_on};
-ghost use Rattle.heap_write.specs.Writes.{KeepsValues};
 ghost use Rattle.calls.specs.declared.step.Step.{Step};
 ghost use Rattle.calls.specs.Words.{FitsRow};
 ghost use Rattle.sessions.specs.declared.session.Session.{Session};
@@ -60,32 +59,8 @@ impl SessionEngine {
         self.insert_row(s, &written)
     }
 
-    /// Updates the version at a place to the row, which has room on its page and which nothing keeps the session from writing,
-    /// under the id of its newest level. Nothing is pruned, so the sessions aren't looked at for a horizon.
-    fn update_with_room(
-        &mut self,
-        s: u8,
-        place: Tid,
-        row: &Row,
-        keeps_values: bool,
-    ) -> Result<Ack, Refusal>
-        requires may { (e : Session) × MayAct self.old s e
-            × MayChangeKey self.old e row.now.key place }
-        requires fits { FitsRow (worded row.now) }
-        requires room { rounded_size_of row.now ≤ room_of (page_on self.old.heap place.page).slots }
-        requires values { IsTrue keeps_values ↔ KeepsValues self.old.heap place row.now }
-        ensures { AnswersStep self.old (Step.Update s (worded row.now)) (reply_to result) self.new }
-    {
-        let session = self.sessions.open_mut(s);
-        // an id of its levels is one of its own ids
-        session.own.fact_prefixes();
-        write_answer(
-            self.heap
-                .update_on_page(&mut session.own, place, row, keeps_values),
-        )
-    }
-
-    /// As [`SessionEngine::update_with_room`], but where the row has no room on the page: that is pruned at the horizon first.
+    /// Updates the version at a place to the row, which has no room on its page and which nothing keeps the session from writing, under
+    /// the id of its newest level: the page is pruned at the horizon first.
     fn update_on_full_page(&mut self, s: u8, place: Tid, row: &Row) -> Result<Ack, Refusal>
         requires may { (e : Session) × MayAct self.old s e
             × MayChangeKey self.old e row.now.key place }
@@ -115,10 +90,15 @@ impl SessionEngine {
         match self.check_change(session, row.key) {
             Ok((place, near)) => {
                 self.expect_entry(near);
-                match self.heap.fits_beside(place, row) {
-                    Some(keeps_values) => self.update_with_room(s, place, row, keeps_values),
-                    None => self.update_on_full_page(s, place, row),
-                }
+                let Some(keeps_values) = self.heap.fits_beside(place, row) else {
+                    return self.update_on_full_page(s, place, row);
+                };
+                let writer = self.sessions.open_mut(s);
+                // an id of its levels is one of its own ids
+                writer.own.fact_prefixes();
+                // (nothing is pruned, so the sessions aren't looked at for a horizon)
+                let own = &mut writer.own;
+                write_answer(self.heap.update_on_page(own, place, row, keeps_values))
             }
             Err(refusal) => self.refuse(s, refusal),
         }
