@@ -104,16 +104,18 @@ impl Pages {
     }
 
     /// Changes the page of this number, which is in use, as `change` does, and answers what that answers. All other pages, and
-    /// what is noted of any, stay as they are. It takes no memory but what the change takes.
+    /// what is noted of any, stay as they are. It takes no memory but what the change takes. It is inlined, so that a large
+    /// answer is copied once less.
+    #[inline(always)]
     pub fn edit<R, F: FnOnce(&mut Page) -> R>(&mut self, number: u32, change: F) -> R
         requires within { number < length self.old.pages }
         requires ready { (page : PageView) → slice_get self.old.pages number ≡ Some page
             → FnOnceTakesAtMut F.FnOnce change page }
         ensures edits { Edits F.FnOnce change self.old self.new number result }
     {
-        let own = &mut self.pages[number as usize];
-        let result = change(own.page_mut());
-        self.free.note(number, free_byte(own.page()));
+        let page = self.pages[number as usize].page_mut();
+        let result = change(page);
+        self.free.note(number, free_byte(page));
         result
     }
 
@@ -126,11 +128,10 @@ impl Pages {
         ensures writes { WritesOn F.FnOnce change self.old self.new number result }
     {
         self.marks.note(number, Mark::Nothing);
-        let target = &mut self.pages[number as usize];
-        let page = target.page_mut();
-        page.set_flag(false);
-        let result = change(page);
-        self.free.note(number, free_byte(target.page()));
+        let target = self.pages[number as usize].page_mut();
+        target.set_flag(false);
+        let result = change(target);
+        self.free.note(number, free_byte(target));
         result
     }
 
@@ -190,8 +191,9 @@ impl Pages {
         requires { number < length self.old.pages }
         ensures { NotesMark self.old self.new number mark }
     {
-        let page = self.pages[number as usize].page_mut();
-        page.set_flag(mark.is_visible());
+        self.pages[number as usize]
+            .page_mut()
+            .set_flag(mark.is_visible());
         self.marks.note(number, mark);
     }
 

@@ -9,7 +9,7 @@ use Rattle.heap_pages.proofs.FreeSpaceLemmas.{flagged}
 use Rattle.heap_pages.proofs.pages.Pages.note.Goals as goal
 
 is_flagged : (c : goal.After-note) → c.set_flag.new.self ≡ record c.index_mut.result.now { flag = c.is_visible.result }
-is_flagged c = c.set_flag.ensures ∙ ap (λ (page : PageView). record page { flag = c.is_visible.result }) c.page_mut-page.ensures.value
+is_flagged c = c.set_flag.ensures ∙ ap (λ (page : PageView). record page { flag = c.is_visible.result }) c.page_mut.ensures.value
 
 pub invariant_of-self : goal.invariant_of-self
 invariant_of-self c =
