@@ -4,13 +4,13 @@
     edits.py [NAME ..]      those of the crates (of these alone, if some are named) whose line in tests/edits.lock is old or missing
     edits.py --all [NAME ..]    those of all, whatever the lock says
     edits.py --check        tries none, and says which lines are old; exits 1 if any is
-    edits.py --compile [NAME ..]    tries none, and says which are no code, those of audit/ too (tools/read_edits.py)
+    edits.py --compile [NAME ..]    tries none, and says which are no code of crates without a fresh line, or of those named, audit/ too
     edits.py --gate         as the gate has it: the edits of each crate whose line is old, and ten of the others, drawn by the commit.
                             It leaves the lock as it is
 
 An edit that was refused is refused again as long as all stays that its verdict rests on: the crate's sources, specs, proofs and edits, the
 sources and specs of the crates below, and the toolchain's logic. A line of the lock has a sum of these for a crate, and the day on which
-each of its edits was tried and refused.
+each of its edits was read as code, those of audit/ too, and then tried and refused.
 
 An edit has a first line `fn: PATH`, or `impl: PATH` where it breaks a law of a type. A first check has to prove each of these as it
 stands. Then the edits are made, many in one check where none stands in another's way, as tools/audit.py makes them. One is refused where
@@ -38,7 +38,7 @@ import read_edits
 from over_gate import PROVER, ROOT, below, is_made, used, words_for
 
 LOCK = f"{ROOT}/tests/edits.lock"
-HEAD = "# crate, sum of all that the verdicts on its edits rest on, day on which each was tried and refused: by tools/edits.py\n"
+HEAD = "# crate, sum of all that the verdicts on its edits rest on, day on which each was read, tried and refused: by tools/edits.py\n"
 # how many edits of crates whose line is fresh the gate tries all the same
 DRAWN = 10
 # what an edit's check is made of, and what of the crates below it reads
@@ -60,7 +60,7 @@ def logic() -> str:
 
 def sum_of(crate: str, uses: Dict[str, List[str]], of_logic: str) -> str:
     """A sum of all that the verdicts on a crate's edits rest on."""
-    files = files_in(crate, [*PARTS, "by-function"])
+    files = files_in(crate, [*PARTS, *read_edits.FOLDERS])
     for name in sorted(below(crate, uses)):
         files += files_in(name, PARTS_BELOW)
     whole = hashlib.sha256(f"{of_logic} {' '.join(sorted(uses[crate]))}\n".encode())
@@ -194,9 +194,6 @@ def main() -> None:
     way.add_argument("--gate", action="store_true", help="try those of old lines and a few others, and leave the lock")
     parser.add_argument("names", nargs="*", help="crates; all that have edits, if none is named")
     words = parser.parse_args()
-    if words.compile:
-        sys.exit(1 if read_edits.read_all(words.names) else 0)
-
     uses, of_logic = used(), logic()
     crates = [crate for crate in uses if audit.edits_of(f"{ROOT}/crates/{crate}", "by-function")]
     sums, rows = {crate: sum_of(crate, uses, of_logic) for crate in crates}, locked()
@@ -205,6 +202,12 @@ def main() -> None:
     print(f"edits.py: {len(crates) - len(old)} of {len(crates)} lines of tests/edits.lock are fresh{names}", flush=True)
     if words.check:
         sys.exit(1 if old else 0)
+    if not words.gate:
+        # (a crate with edits in audit/ alone has no line)
+        read = words.names or [crate for crate in uses if words.all or crate in old or crate not in crates]
+        faults = read_edits.read_all(read)
+        if faults or words.compile:
+            sys.exit(1 if faults else 0)
 
     wanted = [crate for crate in crates if not words.names or crate in words.names]
     todo = {crate: edits_in(crate) for crate in wanted if words.all or crate in old}
