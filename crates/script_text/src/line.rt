@@ -2,6 +2,7 @@
 
 ghost use Rattle.std.specs.Prelude.{◌≡◌, ◌++◌, IfOk};
 ghost use Rattle.std.specs.Option.{option_map};
+ghost use Rattle.std.specs.Str.{bytes_eq};
 ghost use Rattle.script_text.specs.Grammar.{Spells};
 ghost use Rattle.script_text.specs.Reading.{number_of, row_words_of, key_words_of, count_words_of, page_words_of, range_words_of, bounds_words_of, plan_words_of, vacuum_line_of, line_in, usual_verbs, other_verbs, line_at as line_at_of};
 
@@ -27,6 +28,13 @@ pub enum Line {
     Page(u32),
     /// The entries of an index.
     Entries(u8),
+}
+
+// True where a text is spelled so. A branch on this is proved in half the time of one on `==`, which lends the literal anew.
+fn is(text: &[u8], spelling: &[u8]) -> bool
+    ensures { result ≡ bytes_eq text.now spelling.now }
+{
+    text == spelling
 }
 
 // A session and a row.
@@ -149,15 +157,15 @@ fn page(word: &[u8]) -> Option<u32>
 fn vacuum_line(words: &[u8]) -> Option<Line>
     ensures { result ≡ vacuum_line_of words.now }
 {
-    if words == b"step".as_slice() {
+    if is(words, b"step") {
         Some(Line::Do(Step::VacuumStep))
-    } else if words == b"finish".as_slice() {
+    } else if is(words, b"finish") {
         Some(Line::VacuumFinish)
-    } else if words == b"begin normal".as_slice() {
+    } else if is(words, b"begin normal") {
         Some(Line::Do(Step::VacuumBegin(Mode::Normal)))
-    } else if words == b"begin aggressive".as_slice() {
+    } else if is(words, b"begin aggressive") {
         Some(Line::Do(Step::VacuumBegin(Mode::Aggressive)))
-    } else if words == b"cancel".as_slice() {
+    } else if is(words, b"cancel") {
         Some(Line::Do(Step::VacuumCancel))
     } else {
         None
@@ -168,33 +176,33 @@ fn vacuum_line(words: &[u8]) -> Option<Line>
 fn other_line(alloc: Global, word: &[u8], rest: &[u8]) -> Result<Option<Line>, RefusedGrowth>
     ensures { IfOk result (λ o. o ≡ line_in other_verbs word.now rest.now) }
 {
-    if word == b"savepoint".as_slice() {
+    if is(word, b"savepoint") {
         Ok(number8(rest).map(|s| Line::Do(Step::Savepoint(s))))
-    } else if word == b"rollbackto".as_slice() {
+    } else if is(word, b"rollbackto") {
         Ok(number8(rest).map(|s| Line::Do(Step::RollbackTo(s))))
-    } else if word == b"release".as_slice() {
+    } else if is(word, b"release") {
         Ok(number8(rest).map(|s| Line::Do(Step::Release(s))))
-    } else if word == b"openindex".as_slice() {
+    } else if is(word, b"openindex") {
         Ok(range(rest).map(|(s, index, low, high)| Line::Do(Step::OpenIndex(s, index, low, high))))
-    } else if word == b"openheap".as_slice() {
+    } else if is(word, b"openheap") {
         Ok(number8(rest).map(|s| Line::Do(Step::OpenHeap(s))))
-    } else if word == b"openkeys".as_slice() {
+    } else if is(word, b"openkeys") {
         Ok(bounds(rest).map(|(s, low, high)| Line::Do(Step::OpenKeys(s, low, high))))
-    } else if word == b"close".as_slice() {
+    } else if is(word, b"close") {
         Ok(number8(rest).map(|s| Line::Do(Step::Close(s))))
-    } else if word == b"takepage".as_slice() {
+    } else if is(word, b"takepage") {
         Ok(session_and_page(rest).map(|(s, page)| Line::Do(Step::TakePage(s, page))))
-    } else if word == b"prune".as_slice() {
+    } else if is(word, b"prune") {
         Ok(page(rest).map(|p| Line::Do(Step::Prune(p))))
-    } else if word == b"apply".as_slice() {
+    } else if is(word, b"apply") {
         Ok(page_and_plan(alloc, rest)?.map(|(p, plan)| Line::Do(Step::ApplyPlan(p, plan))))
-    } else if word == b"vacuum".as_slice() {
+    } else if is(word, b"vacuum") {
         Ok(vacuum_line(rest))
-    } else if word == b"createindex".as_slice() {
+    } else if is(word, b"createindex") {
         Ok(number8(rest).map(|c| Line::Do(Step::CreateIndex(c))))
-    } else if word == b"page".as_slice() {
+    } else if is(word, b"page") {
         Ok(page(rest).map(|p| Line::Page(p)))
-    } else if word == b"entries".as_slice() {
+    } else if is(word, b"entries") {
         Ok(number8(rest).map(|i| Line::Entries(i)))
     } else {
         Ok(None)
@@ -205,23 +213,23 @@ fn other_line(alloc: Global, word: &[u8], rest: &[u8]) -> Result<Option<Line>, R
 fn line_for(alloc: Global, word: &[u8], rest: &[u8]) -> Result<Option<Line>, RefusedGrowth>
     ensures { IfOk result (λ o. o ≡ line_in (usual_verbs ++ other_verbs) word.now rest.now) }
 {
-    if word == b"get".as_slice() {
+    if is(word, b"get") {
         Ok(key(rest).map(|(s, key)| Line::Do(Step::Get(s, key))))
-    } else if word == b"begin".as_slice() {
+    } else if is(word, b"begin") {
         Ok(number8(rest).map(|s| Line::Do(Step::Begin(s))))
-    } else if word == b"beginrc".as_slice() {
+    } else if is(word, b"beginrc") {
         Ok(number8(rest).map(|s| Line::Do(Step::BeginReadCommitted(s))))
-    } else if word == b"commit".as_slice() {
+    } else if is(word, b"commit") {
         Ok(number8(rest).map(|s| Line::Do(Step::Commit(s))))
-    } else if word == b"insert".as_slice() {
+    } else if is(word, b"insert") {
         Ok(row(alloc, rest)?.map(|(s, row)| Line::Do(Step::Insert(s, row))))
-    } else if word == b"update".as_slice() {
+    } else if is(word, b"update") {
         Ok(row(alloc, rest)?.map(|(s, row)| Line::Do(Step::Update(s, row))))
-    } else if word == b"delete".as_slice() {
+    } else if is(word, b"delete") {
         Ok(key(rest).map(|(s, key)| Line::Do(Step::Delete(s, key))))
-    } else if word == b"next".as_slice() {
+    } else if is(word, b"next") {
         Ok(count(rest).map(|(s, n)| Line::Do(Step::Next(s, n))))
-    } else if word == b"abort".as_slice() {
+    } else if is(word, b"abort") {
         Ok(number8(rest).map(|s| Line::Do(Step::Abort(s))))
     } else {
         other_line(alloc, word, rest)
@@ -232,7 +240,7 @@ fn line_for(alloc: Global, word: &[u8], rest: &[u8]) -> Result<Option<Line>, Ref
 pub(crate) fn read_line(alloc: Global, line: &[u8]) -> Result<Option<Line>, RefusedGrowth>
     ensures { IfOk result (λ o. o ≡ line_at_of line.now) }
 {
-    if line == b"ids".as_slice() {
+    if is(line, b"ids") {
         return Ok(Some(Line::Ids));
     }
     match cut(line) {
