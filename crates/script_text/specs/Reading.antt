@@ -1,5 +1,5 @@
 -- What the reader of a line gives, step by step.
-use Rattle.std.specs.Prelude.{ℕ, ℤ, pos, negsuc, ◌+◌, ◌-◌, ◌*◌, ◌^◌, ◌==◌, ◌&&◌, ◌||◌, nat_lt, nat_le, Bool, true, false, List, [], ◌∷◌, ◌++◌, length, take, drop, slice_index, codes, Option, Some, None, position, if◌then◌else◌}
+use Rattle.std.specs.Prelude.{ℕ, ℤ, pos, negsuc, ◌+◌, ◌-◌, ◌*◌, ◌^◌, ◌==◌, ◌&&◌, ◌||◌, nat_lt, nat_le, Bool, true, false, List, [], ◌∷◌, ◌++◌, length, take, drop, slice_index, codes, Option, Some, None, map, position, if◌then◌else◌}
 use Rattle.std.specs.Option.{option_map}
 use Rattle.std.specs.Char.{is_ascii_digit}
 use Rattle.std.specs.Str.{bytes_eq}
@@ -8,6 +8,7 @@ use Rattle.prune_actions.specs.declared.Action.{Action}
 use Rattle.prune_actions.specs.declared.Action.TheVariants.{Unuse, Kill, Redirect}
 use Rattle.calls.specs.Words.{RowToWrite, PlanToApply}
 use Rattle.calls.specs.declared.settings.Settings.{Settings}
+use Rattle.calls.specs.declared.step.Step.{Step}
 use Rattle.calls.specs.declared.step.Step.TheVariants as step
 use Rattle.calls.specs.declared.vacuum.Mode.TheVariants as mode
 use Rattle.script_text.specs.declared.line.Line.{Line}
@@ -215,37 +216,57 @@ vacuum_line_of words = if bytes_eq words (codes "step") then Some (Do step.Vacuu
 abbrev pub Verbs : Type 0
 Verbs = List (List ℕ × (List ℕ → Option Line))
 
--- those that are asked for most, and the others
-abbrev pub usual_verbs : Verbs
-usual_verbs =
-    (codes "get", λ rest. option_map (λ p. Do (step.Get p.0 p.1)) (key_words_of rest))
-    ∷ (codes "begin", λ rest. option_map (λ s. Do (step.Begin s)) (number_of 255 rest))
-    ∷ (codes "beginrc", λ rest. option_map (λ s. Do (step.BeginReadCommitted s)) (number_of 255 rest))
-    ∷ (codes "commit", λ rest. option_map (λ s. Do (step.Commit s)) (number_of 255 rest))
-    ∷ (codes "insert", λ rest. option_map (λ p. Do (step.Insert p.0 p.1)) (row_words_of rest))
+-- those of rows and plans, which are put in new memory
+abbrev pub written_verbs : Verbs
+written_verbs =
+    (codes "insert", λ rest. option_map (λ p. Do (step.Insert p.0 p.1)) (row_words_of rest))
     ∷ (codes "update", λ rest. option_map (λ p. Do (step.Update p.0 p.1)) (row_words_of rest))
-    ∷ (codes "delete", λ rest. option_map (λ p. Do (step.Delete p.0 p.1)) (key_words_of rest))
-    ∷ (codes "next", λ rest. option_map (λ p. Do (step.Next p.0 p.1)) (count_words_of rest))
-    ∷ (codes "abort", λ rest. option_map (λ s. Do (step.Abort s)) (number_of 255 rest))
+    ∷ (codes "apply", λ rest. option_map (λ p. Do (step.ApplyPlan p.0 p.1)) (plan_words_of rest))
     ∷ []
 
+-- those with more than a number below 256, or with other words
 abbrev pub other_verbs : Verbs
 other_verbs =
-    (codes "savepoint", λ rest. option_map (λ s. Do (step.Savepoint s)) (number_of 255 rest))
-    ∷ (codes "rollbackto", λ rest. option_map (λ s. Do (step.RollbackTo s)) (number_of 255 rest))
-    ∷ (codes "release", λ rest. option_map (λ s. Do (step.Release s)) (number_of 255 rest))
+    (codes "get", λ rest. option_map (λ p. Do (step.Get p.0 p.1)) (key_words_of rest))
+    ∷ (codes "delete", λ rest. option_map (λ p. Do (step.Delete p.0 p.1)) (key_words_of rest))
+    ∷ (codes "next", λ rest. option_map (λ p. Do (step.Next p.0 p.1)) (count_words_of rest))
     ∷ (codes "openindex", λ rest. option_map (λ p. Do (step.OpenIndex p.0 p.1 p.2 p.3)) (range_words_of rest))
-    ∷ (codes "openheap", λ rest. option_map (λ s. Do (step.OpenHeap s)) (number_of 255 rest))
     ∷ (codes "openkeys", λ rest. option_map (λ p. Do (step.OpenKeys p.0 p.1 p.2)) (bounds_words_of rest))
-    ∷ (codes "close", λ rest. option_map (λ s. Do (step.Close s)) (number_of 255 rest))
     ∷ (codes "takepage", λ rest. option_map (λ p. Do (step.TakePage p.0 p.1)) (page_words_of rest))
     ∷ (codes "prune", λ rest. option_map (λ p. Do (step.Prune p)) (number_of 4294967295 rest))
-    ∷ (codes "apply", λ rest. option_map (λ p. Do (step.ApplyPlan p.0 p.1)) (plan_words_of rest))
     ∷ (codes "vacuum", vacuum_line_of)
-    ∷ (codes "createindex", λ rest. option_map (λ c. Do (step.CreateIndex c)) (number_of 255 rest))
     ∷ (codes "page", λ rest. option_map (λ p. Page p) (number_of 4294967295 rest))
     ∷ (codes "entries", λ rest. option_map (λ i. Entries i) (number_of 255 rest))
     ∷ []
+
+-- verbs of steps with one number below 256, that of a session or of a column
+abbrev pub NumberedVerbs : Type 0
+NumberedVerbs = List (List ℕ × (ℕ → Step))
+
+abbrev pub numbered_steps : NumberedVerbs
+numbered_steps =
+    (codes "begin", λ s. step.Begin s)
+    ∷ (codes "beginrc", λ s. step.BeginReadCommitted s)
+    ∷ (codes "commit", λ s. step.Commit s)
+    ∷ (codes "abort", λ s. step.Abort s)
+    ∷ (codes "savepoint", λ s. step.Savepoint s)
+    ∷ (codes "rollbackto", λ s. step.RollbackTo s)
+    ∷ (codes "release", λ s. step.Release s)
+    ∷ (codes "openheap", λ s. step.OpenHeap s)
+    ∷ (codes "close", λ s. step.Close s)
+    ∷ (codes "createindex", λ c. step.CreateIndex c)
+    ∷ []
+
+-- what a word asks for that is one of these verbs, with this number
+abbrev pub step_in : NumberedVerbs → List ℕ → ℕ → Option Step
+step_in [] word n = None
+step_in (verb ∷ verbs) word n = if bytes_eq word verb.0 then Some (verb.1 n) else step_in verbs word n
+
+abbrev pub lines_of : NumberedVerbs → Verbs
+lines_of verbs = map (λ verb. (verb.0, λ rest. option_map (λ n. Do (verb.1 n)) (number_of 255 rest))) verbs
+
+abbrev pub all_verbs : Verbs
+all_verbs = written_verbs ++ (other_verbs ++ lines_of numbered_steps)
 
 -- what a word asks for that is one of these verbs, with the words behind it
 abbrev pub line_in : Verbs → List ℕ → List ℕ → Option Line
@@ -254,4 +275,4 @@ line_in (verb ∷ verbs) word rest = if bytes_eq word verb.0 then verb.1 rest el
 
 -- what a line asks for
 unfoldable pub line_at : List ℕ → Option Line
-line_at line = if bytes_eq line (codes "ids") then Some Ids else (cut line >>= λ parts. line_in (usual_verbs ++ other_verbs) parts.0 parts.1)
+line_at line = if bytes_eq line (codes "ids") then Some Ids else (cut line >>= λ parts. line_in all_verbs parts.0 parts.1)

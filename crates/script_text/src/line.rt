@@ -4,7 +4,7 @@ ghost use Rattle.std.specs.Prelude.{◌≡◌, ◌++◌, IfOk};
 ghost use Rattle.std.specs.Option.{option_map};
 ghost use Rattle.std.specs.Str.{bytes_eq};
 ghost use Rattle.script_text.specs.Grammar.{Spells};
-ghost use Rattle.script_text.specs.Reading.{number_of, row_words_of, key_words_of, count_words_of, page_words_of, range_words_of, bounds_words_of, plan_words_of, vacuum_line_of, line_in, usual_verbs, other_verbs, line_at as line_at_of};
+ghost use Rattle.script_text.specs.Reading.{number_of, row_words_of, key_words_of, count_words_of, page_words_of, range_words_of, bounds_words_of, plan_words_of, vacuum_line_of, line_in, step_in, all_verbs, other_verbs, numbered_steps, lines_of, line_at as line_at_of};
 
 use crate::growth::RefusedGrowth;
 use crate::plan::plan;
@@ -172,67 +172,85 @@ fn vacuum_line(words: &[u8]) -> Option<Line>
     }
 }
 
-// Reads a line that begins with this word, one of those that are used less often.
-fn other_line(alloc: Global, word: &[u8], rest: &[u8]) -> Result<Option<Line>, RefusedGrowth>
-    ensures { IfOk result (λ o. o ≡ line_in other_verbs word.now rest.now) }
+// The step that this word asks for with one number, that of a session or of a column.
+fn numbered_step(word: &[u8], n: u8) -> Option<Step>
+    ensures { result ≡ step_in numbered_steps word.now n }
 {
-    if is(word, b"savepoint") {
-        Ok(number8(rest).map(|s| Line::Do(Step::Savepoint(s))))
+    if is(word, b"begin") {
+        Some(Step::Begin(n))
+    } else if is(word, b"beginrc") {
+        Some(Step::BeginReadCommitted(n))
+    } else if is(word, b"commit") {
+        Some(Step::Commit(n))
+    } else if is(word, b"abort") {
+        Some(Step::Abort(n))
+    } else if is(word, b"savepoint") {
+        Some(Step::Savepoint(n))
     } else if is(word, b"rollbackto") {
-        Ok(number8(rest).map(|s| Line::Do(Step::RollbackTo(s))))
+        Some(Step::RollbackTo(n))
     } else if is(word, b"release") {
-        Ok(number8(rest).map(|s| Line::Do(Step::Release(s))))
-    } else if is(word, b"openindex") {
-        Ok(range(rest).map(|(s, index, low, high)| Line::Do(Step::OpenIndex(s, index, low, high))))
+        Some(Step::Release(n))
     } else if is(word, b"openheap") {
-        Ok(number8(rest).map(|s| Line::Do(Step::OpenHeap(s))))
-    } else if is(word, b"openkeys") {
-        Ok(bounds(rest).map(|(s, low, high)| Line::Do(Step::OpenKeys(s, low, high))))
+        Some(Step::OpenHeap(n))
     } else if is(word, b"close") {
-        Ok(number8(rest).map(|s| Line::Do(Step::Close(s))))
-    } else if is(word, b"takepage") {
-        Ok(session_and_page(rest).map(|(s, page)| Line::Do(Step::TakePage(s, page))))
-    } else if is(word, b"prune") {
-        Ok(page(rest).map(|p| Line::Do(Step::Prune(p))))
-    } else if is(word, b"apply") {
-        Ok(page_and_plan(alloc, rest)?.map(|(p, plan)| Line::Do(Step::ApplyPlan(p, plan))))
-    } else if is(word, b"vacuum") {
-        Ok(vacuum_line(rest))
+        Some(Step::Close(n))
     } else if is(word, b"createindex") {
-        Ok(number8(rest).map(|c| Line::Do(Step::CreateIndex(c))))
-    } else if is(word, b"page") {
-        Ok(page(rest).map(|p| Line::Page(p)))
-    } else if is(word, b"entries") {
-        Ok(number8(rest).map(|i| Line::Entries(i)))
+        Some(Step::CreateIndex(n))
     } else {
-        Ok(None)
+        None
     }
 }
 
-// Reads a line that begins with this word; the most usual words come first.
-fn line_for(alloc: Global, word: &[u8], rest: &[u8]) -> Result<Option<Line>, RefusedGrowth>
-    ensures { IfOk result (λ o. o ≡ line_in (usual_verbs ++ other_verbs) word.now rest.now) }
+// Reads a line that begins with this word and has one number below 256.
+fn numbered_line(word: &[u8], rest: &[u8]) -> Option<Line>
+    ensures { result ≡ line_in (lines_of numbered_steps) word.now rest.now }
+{
+    let n = number8(rest)?;
+    let step = numbered_step(word, n)?;
+    Some(Line::Do(step))
+}
+
+// Reads a line that begins with this word, and whose step has no memory of its own.
+fn other_line(word: &[u8], rest: &[u8]) -> Option<Line>
+    ensures { result ≡ line_in (other_verbs ++ lines_of numbered_steps) word.now rest.now }
 {
     if is(word, b"get") {
-        Ok(key(rest).map(|(s, key)| Line::Do(Step::Get(s, key))))
-    } else if is(word, b"begin") {
-        Ok(number8(rest).map(|s| Line::Do(Step::Begin(s))))
-    } else if is(word, b"beginrc") {
-        Ok(number8(rest).map(|s| Line::Do(Step::BeginReadCommitted(s))))
-    } else if is(word, b"commit") {
-        Ok(number8(rest).map(|s| Line::Do(Step::Commit(s))))
-    } else if is(word, b"insert") {
+        key(rest).map(|(s, key)| Line::Do(Step::Get(s, key)))
+    } else if is(word, b"delete") {
+        key(rest).map(|(s, key)| Line::Do(Step::Delete(s, key)))
+    } else if is(word, b"next") {
+        count(rest).map(|(s, n)| Line::Do(Step::Next(s, n)))
+    } else if is(word, b"openindex") {
+        range(rest).map(|(s, index, low, high)| Line::Do(Step::OpenIndex(s, index, low, high)))
+    } else if is(word, b"openkeys") {
+        bounds(rest).map(|(s, low, high)| Line::Do(Step::OpenKeys(s, low, high)))
+    } else if is(word, b"takepage") {
+        session_and_page(rest).map(|(s, page)| Line::Do(Step::TakePage(s, page)))
+    } else if is(word, b"prune") {
+        page(rest).map(|p| Line::Do(Step::Prune(p)))
+    } else if is(word, b"vacuum") {
+        vacuum_line(rest)
+    } else if is(word, b"page") {
+        page(rest).map(|p| Line::Page(p))
+    } else if is(word, b"entries") {
+        number8(rest).map(|i| Line::Entries(i))
+    } else {
+        numbered_line(word, rest)
+    }
+}
+
+// Reads a line that begins with this word. The step of a row or of a plan has memory of its own.
+fn line_for(alloc: Global, word: &[u8], rest: &[u8]) -> Result<Option<Line>, RefusedGrowth>
+    ensures { IfOk result (λ o. o ≡ line_in all_verbs word.now rest.now) }
+{
+    if is(word, b"insert") {
         Ok(row(alloc, rest)?.map(|(s, row)| Line::Do(Step::Insert(s, row))))
     } else if is(word, b"update") {
         Ok(row(alloc, rest)?.map(|(s, row)| Line::Do(Step::Update(s, row))))
-    } else if is(word, b"delete") {
-        Ok(key(rest).map(|(s, key)| Line::Do(Step::Delete(s, key))))
-    } else if is(word, b"next") {
-        Ok(count(rest).map(|(s, n)| Line::Do(Step::Next(s, n))))
-    } else if is(word, b"abort") {
-        Ok(number8(rest).map(|s| Line::Do(Step::Abort(s))))
+    } else if is(word, b"apply") {
+        Ok(page_and_plan(alloc, rest)?.map(|(p, plan)| Line::Do(Step::ApplyPlan(p, plan))))
     } else {
-        other_line(alloc, word, rest)
+        Ok(other_line(word, rest))
     }
 }
 
