@@ -3,7 +3,7 @@
 ghost use Rattle.std.specs.Prelude.{◌≡◌, ◌++◌, IfOk};
 ghost use Rattle.reply_text.specs.Reading.{busy_of, other_refusals, refusal_in, refusal_named as refusal_named_of, usual_refusals};
 
-use crate::words::{OutOfMemory, cut, number};
+use crate::words::{OutOfMemory, cut, is, number};
 use calls::Refusal;
 use std::alloc::Global;
 
@@ -11,29 +11,29 @@ use std::alloc::Global;
 fn other_refusal(words: &[u8]) -> Option<Refusal>
     ensures { result ≡ refusal_in other_refusals words.now }
 {
-    if words == b"14 NoRoom".as_slice() {
+    if is(words, b"14 NoRoom") {
         Some(Refusal::NoRoom)
-    } else if words == b"15 NeedsFreeze".as_slice() {
+    } else if is(words, b"15 NeedsFreeze") {
         Some(Refusal::NeedsFreeze)
-    } else if words == b"16 NoMemory".as_slice() {
+    } else if is(words, b"16 NoMemory") {
         Some(Refusal::NoMemory)
-    } else if words == b"17 VacuumRunning".as_slice() {
+    } else if is(words, b"17 VacuumRunning") {
         Some(Refusal::VacuumRunning)
-    } else if words == b"18 NoVacuum".as_slice() {
+    } else if is(words, b"18 NoVacuum") {
         Some(Refusal::NoVacuum)
-    } else if words == b"19 NoSuchPage".as_slice() {
+    } else if is(words, b"19 NoSuchPage") {
         Some(Refusal::NoSuchPage)
-    } else if words == b"20 NoSuchIndex".as_slice() {
+    } else if is(words, b"20 NoSuchIndex") {
         Some(Refusal::NoSuchIndex)
-    } else if words == b"21 Stale".as_slice() {
+    } else if is(words, b"21 Stale") {
         Some(Refusal::Stale)
-    } else if words == b"22 IndexTooNew".as_slice() {
+    } else if is(words, b"22 IndexTooNew") {
         Some(Refusal::IndexTooNew)
-    } else if words == b"23 NoSuchSession".as_slice() {
+    } else if is(words, b"23 NoSuchSession") {
         Some(Refusal::NoSuchSession)
-    } else if words == b"24 BadBounds".as_slice() {
+    } else if is(words, b"24 BadBounds") {
         Some(Refusal::BadBounds)
-    } else if words == b"25 IndexBusy".as_slice() {
+    } else if is(words, b"25 IndexBusy") {
         Some(Refusal::IndexBusy)
     } else {
         None
@@ -44,29 +44,29 @@ fn other_refusal(words: &[u8]) -> Option<Refusal>
 fn bare_refusal(words: &[u8]) -> Option<Refusal>
     ensures { result ≡ refusal_in (usual_refusals ++ other_refusals) words.now }
 {
-    if words == b"1 NotOpen".as_slice() {
+    if is(words, b"1 NotOpen") {
         Some(Refusal::NotOpen)
-    } else if words == b"2 AlreadyOpen".as_slice() {
+    } else if is(words, b"2 AlreadyOpen") {
         Some(Refusal::AlreadyOpen)
-    } else if words == b"3 Failed".as_slice() {
+    } else if is(words, b"3 Failed") {
         Some(Refusal::Failed)
-    } else if words == b"4 AlreadyThere".as_slice() {
+    } else if is(words, b"4 AlreadyThere") {
         Some(Refusal::AlreadyThere)
-    } else if words == b"5 NotThere".as_slice() {
+    } else if is(words, b"5 NotThere") {
         Some(Refusal::NotThere)
-    } else if words == b"6 Conflict".as_slice() {
+    } else if is(words, b"6 Conflict") {
         Some(Refusal::Conflict)
-    } else if words == b"8 Deadlock".as_slice() {
+    } else if is(words, b"8 Deadlock") {
         Some(Refusal::Deadlock)
-    } else if words == b"9 CursorOpen".as_slice() {
+    } else if is(words, b"9 CursorOpen") {
         Some(Refusal::CursorOpen)
-    } else if words == b"10 NoCursor".as_slice() {
+    } else if is(words, b"10 NoCursor") {
         Some(Refusal::NoCursor)
-    } else if words == b"11 TooDeep".as_slice() {
+    } else if is(words, b"11 TooDeep") {
         Some(Refusal::TooDeep)
-    } else if words == b"12 NoSavepoint".as_slice() {
+    } else if is(words, b"12 NoSavepoint") {
         Some(Refusal::NoSavepoint)
-    } else if words == b"13 TooLarge".as_slice() {
+    } else if is(words, b"13 TooLarge") {
         Some(Refusal::TooLarge)
     } else {
         other_refusal(words)
@@ -84,7 +84,7 @@ fn busy(alloc: Global, words: &[u8]) -> Result<Option<Refusal>, OutOfMemory>
     let Some((name, session)) = cut(rest) else {
         return Ok(None);
     };
-    if first == b"7".as_slice() && name == b"Busy".as_slice() {
+    if is(first, b"7") && is(name, b"Busy") {
         Ok(number(alloc, session, 255)?.map(|s| Refusal::Busy(s as u8)))
     } else {
         Ok(None)

@@ -7,7 +7,7 @@ ghost use Rattle.reply_text.specs.Reading.{row_sayings, saying_in, told, told_of
 
 use crate::refusals::refusal_named;
 use crate::rows::{keys, rows};
-use crate::words::{OutOfMemory, cut, number, table_row};
+use crate::words::{OutOfMemory, cut, is, number, table_row};
 use calls::{Piece, Reply};
 use std::alloc::Global;
 
@@ -16,16 +16,16 @@ fn vacuum_reply(alloc: Global, word: &[u8], rest: &[u8]) -> Result<Option<Reply>
     ensures { IfOk result
         (λ o. option_map told o ≡ saying_in vacuum_sayings word.now rest.now) }
 {
-    if word == b"heap".as_slice() {
+    if is(word, b"heap") {
         let page = number(alloc, rest, u64::from(u32::MAX))?;
         Ok(page.map(|page| Reply::Worked(Piece::Heap(page as u32))))
-    } else if word == b"index".as_slice() {
+    } else if is(word, b"index") {
         let index = number(alloc, rest, 255)?;
         Ok(index.map(|index| Reply::Worked(Piece::Index(index as u8))))
-    } else if word == b"free".as_slice() {
+    } else if is(word, b"free") {
         let page = number(alloc, rest, u64::from(u32::MAX))?;
         Ok(page.map(|page| Reply::Worked(Piece::Free(page as u32))))
-    } else if word == b"ended".as_slice() {
+    } else if is(word, b"ended") {
         let first = number(alloc, rest, u64::from(u32::MAX))?;
         Ok(first.map(|first| Reply::Ended(first as u32)))
     } else {
@@ -38,13 +38,13 @@ fn reply_for(alloc: Global, word: &[u8], rest: &[u8]) -> Result<Option<Reply>, O
     ensures { IfOk result
         (λ o. option_map told o ≡ saying_in (row_sayings ++ vacuum_sayings) word.now rest.now) }
 {
-    if word == b"row".as_slice() {
+    if is(word, b"row") {
         Ok(table_row(alloc, rest)?.map(|row| Reply::Found(Some(row))))
-    } else if word == b"error".as_slice() {
+    } else if is(word, b"error") {
         Ok(refusal_named(alloc, rest)?.map(|refusal| Reply::Refused(refusal)))
-    } else if word == b"rows".as_slice() {
+    } else if is(word, b"rows") {
         Ok(rows(alloc, rest)?.map(|found| Reply::Rows(found)))
-    } else if word == b"keys".as_slice() {
+    } else if is(word, b"keys") {
         Ok(keys(alloc, rest)?.map(|found| Reply::Keys(found)))
     } else {
         vacuum_reply(alloc, word, rest)
@@ -55,15 +55,15 @@ fn reply_for(alloc: Global, word: &[u8], rest: &[u8]) -> Result<Option<Reply>, O
 fn read_reply(alloc: Global, text: &[u8]) -> Result<Option<Reply>, OutOfMemory>
     ensures { IfOk result (λ o. option_map told o ≡ told_of text.now) }
 {
-    if text == b"ok".as_slice() {
+    if is(text, b"ok") {
         Ok(Some(Reply::Done))
-    } else if text == b"none".as_slice() {
+    } else if is(text, b"none") {
         Ok(Some(Reply::Found(None)))
-    } else if text == b"committed".as_slice() {
+    } else if is(text, b"committed") {
         Ok(Some(Reply::Committed))
-    } else if text == b"rolled back".as_slice() {
+    } else if is(text, b"rolled back") {
         Ok(Some(Reply::RolledBack))
-    } else if text == b"end".as_slice() {
+    } else if is(text, b"end") {
         Ok(Some(Reply::End))
     } else {
         match cut(text) {

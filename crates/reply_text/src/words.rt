@@ -4,6 +4,7 @@
 
 ghost use Rattle.std.specs.Prelude.{◌≡◌, ◌<◌, ◌≤◌, ◌==◌, ◌++◌, ◌∷◌, [], IfOk, IfSome, OnOk, None, Some, codes, if◌then◌else◌, length, nat_le, position};
 ghost use Rattle.std.specs.Option.{option_map};
+ghost use Rattle.std.specs.Str.{bytes_eq};
 ghost use Rattle.calls.specs.Words.{row_of};
 ghost use Rattle.tuple_header.specs.declared.version.TheConstants.{MOST_BODY as MOST_BODY_BYTES};
 ghost use Rattle.script_text.specs.Reading.{cut as cut_of, cut_at as cut_at_of, number_of};
@@ -19,6 +20,13 @@ use tuple_header::MOST_BODY;
 /// Memory was refused.
 #[derive(Clone, Copy, Debug, PartialEq, Eq)]
 pub struct OutOfMemory;
+
+// True where a text is spelled so. A branch on this is proved in half the time of one on `==`, which lends the literal anew.
+pub(crate) fn is(text: &[u8], spelling: &[u8]) -> bool
+    ensures { result ≡ bytes_eq text.now spelling.now }
+{
+    text == spelling
+}
 
 // The index of the first of these bytes.
 fn place(text: &[u8], byte: u8) -> Option<usize>
