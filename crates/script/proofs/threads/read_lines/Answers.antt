@@ -46,3 +46,24 @@ pub returns-clause-reads : goal.returns-clause-reads
 returns-clause-reads g c =
     let h = c.loop-number.invariant in
     reading_ends _ _ _ _ _ _ _ _ _ _ _ h (λ rest t. sym h.number_is ∙ omega (arith, c.loop-number-test.false, c.loop-number.auto.number-end))
+
+pub returns-in-Bad-clause-quiet : goal.returns-in-Bad-clause-quiet
+returns-in-Bad-clause-quiet g c = (LinesRead-more _ _ _ _ _ _ _ _ _ _ _ _ _ c.loop-number.invariant c.in-Ok.ensures.takes c.in-Ok.ensures.gives).quiet
+
+pub returns-in-End-clause-quiet : goal.returns-in-End-clause-quiet
+returns-in-End-clause-quiet g c = (LinesRead-more _ _ _ _ _ _ _ _ _ _ _ _ _ c.loop-number.invariant c.in-Ok.ensures.takes c.in-Ok.ensures.gives).quiet
+
+pub returns-in-Err-worker_step_at-clause-quiet : goal.returns-in-Err-worker_step_at-clause-quiet
+returns-in-Err-worker_step_at-clause-quiet g c = (LinesRead-more _ _ _ _ _ _ _ _ _ _ _ _ _ c.loop-number.invariant c.in-Ok.ensures.takes c.in-Ok.ensures.gives).quiet
+
+pub returns-in_default-clause-quiet : goal.returns-in_default-clause-quiet
+returns-in_default-clause-quiet g c = (LinesRead-more _ _ _ _ _ _ _ _ _ _ _ _ _ c.loop-number.invariant c.in-Ok.ensures.takes c.in-Ok.ensures.gives).quiet
+
+pub returns-in-Err-keep_step-clause-quiet : goal.returns-in-Err-keep_step-clause-quiet
+returns-in-Err-keep_step-clause-quiet g c = (LinesRead-more _ _ _ _ _ _ _ _ _ _ _ _ _ c.loop-number.invariant c.in-Ok.ensures.takes c.in-Ok.ensures.gives).quiet
+
+pub returns-clause-quiet : goal.returns-clause-quiet
+returns-clause-quiet g c = c.loop-number.invariant.quiet
+
+pub returns-in-End-clause-none : goal.returns-in-End-clause-none
+returns-in-End-clause-none g c = (LinesRead-more _ _ _ _ _ _ _ _ _ _ _ _ _ c.loop-number.invariant c.in-Ok.ensures.takes c.in-Ok.ensures.gives).silent
