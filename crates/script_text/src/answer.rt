@@ -1,6 +1,6 @@
 //! The text of a reply.
 
-ghost use Rattle.std.specs.Prelude.{◌≡◌, ◌+◌, ◌<◌, ◌/◌, ◌%◌, ◌∷◌, ◌++◌, OnOk, false};
+ghost use Rattle.std.specs.Prelude.{ℕ, ◌≡◌, ◌≢◌, ◌+◌, ◌<◌, ◌/◌, ◌%◌, ◌∷◌, ◌++◌, OnOk, false};
 ghost use Rattle.std.specs.List.{flat_map};
 ghost use Rattle.std.specs.Fmt.{decimal, signed_decimal, digit_glyph};
 ghost use Rattle.script_text.specs.Grammar.{spaced, hex_text, body_text, row_text, with_feed};
@@ -121,38 +121,48 @@ fn keys(out: &mut Vec<u8>, keys: &[u64]) -> Result<(), RefusedGrowth>
     Ok(())
 }
 
+// The number and the name of a refusal that has nothing to say besides.
+fn bare_refusal(refusal: Refusal) -> &'static [u8]
+    requires { (s : ℕ) → refusal ≢ Refusal.Busy s }
+    ensures { result.now ≡ refusal_text refusal }
+{
+    match refusal {
+        Refusal::NotOpen => b"1 NotOpen",
+        Refusal::AlreadyOpen => b"2 AlreadyOpen",
+        Refusal::Failed => b"3 Failed",
+        Refusal::AlreadyThere => b"4 AlreadyThere",
+        Refusal::NotThere => b"5 NotThere",
+        Refusal::Conflict => b"6 Conflict",
+        // which is never asked for
+        Refusal::Busy(_) => b"7 Busy",
+        Refusal::Deadlock => b"8 Deadlock",
+        Refusal::CursorOpen => b"9 CursorOpen",
+        Refusal::NoCursor => b"10 NoCursor",
+        Refusal::TooDeep => b"11 TooDeep",
+        Refusal::NoSavepoint => b"12 NoSavepoint",
+        Refusal::TooLarge => b"13 TooLarge",
+        Refusal::NoRoom => b"14 NoRoom",
+        Refusal::NeedsFreeze => b"15 NeedsFreeze",
+        Refusal::NoMemory => b"16 NoMemory",
+        Refusal::VacuumRunning => b"17 VacuumRunning",
+        Refusal::NoVacuum => b"18 NoVacuum",
+        Refusal::NoSuchPage => b"19 NoSuchPage",
+        Refusal::NoSuchIndex => b"20 NoSuchIndex",
+        Refusal::Stale => b"21 Stale",
+        Refusal::IndexTooNew => b"22 IndexTooNew",
+        Refusal::NoSuchSession => b"23 NoSuchSession",
+        Refusal::BadBounds => b"24 BadBounds",
+        Refusal::IndexBusy => b"25 IndexBusy",
+    }
+}
+
+#[tactic(auto, unfolding(crate::specs::Answers::labelled))]
 fn refusal(out: &mut Vec<u8>, refusal: Refusal) -> Result<(), RefusedGrowth>
     ensures { OnOk result (out.new.items ≡ out.old.items ++ refusal_text refusal) }
 {
     match refusal {
-        Refusal::NotOpen => extend(out, b"1 NotOpen"),
-        Refusal::AlreadyOpen => extend(out, b"2 AlreadyOpen"),
-        Refusal::Failed => extend(out, b"3 Failed"),
-        Refusal::AlreadyThere => extend(out, b"4 AlreadyThere"),
-        Refusal::NotThere => extend(out, b"5 NotThere"),
-        Refusal::Conflict => extend(out, b"6 Conflict"),
-        Refusal::Busy(s) => {
-            extend(out, b"7 Busy ")?;
-            put_unsigned(out, u64::from(s))
-        }
-        Refusal::Deadlock => extend(out, b"8 Deadlock"),
-        Refusal::CursorOpen => extend(out, b"9 CursorOpen"),
-        Refusal::NoCursor => extend(out, b"10 NoCursor"),
-        Refusal::TooDeep => extend(out, b"11 TooDeep"),
-        Refusal::NoSavepoint => extend(out, b"12 NoSavepoint"),
-        Refusal::TooLarge => extend(out, b"13 TooLarge"),
-        Refusal::NoRoom => extend(out, b"14 NoRoom"),
-        Refusal::NeedsFreeze => extend(out, b"15 NeedsFreeze"),
-        Refusal::NoMemory => extend(out, b"16 NoMemory"),
-        Refusal::VacuumRunning => extend(out, b"17 VacuumRunning"),
-        Refusal::NoVacuum => extend(out, b"18 NoVacuum"),
-        Refusal::NoSuchPage => extend(out, b"19 NoSuchPage"),
-        Refusal::NoSuchIndex => extend(out, b"20 NoSuchIndex"),
-        Refusal::Stale => extend(out, b"21 Stale"),
-        Refusal::IndexTooNew => extend(out, b"22 IndexTooNew"),
-        Refusal::NoSuchSession => extend(out, b"23 NoSuchSession"),
-        Refusal::BadBounds => extend(out, b"24 BadBounds"),
-        Refusal::IndexBusy => extend(out, b"25 IndexBusy"),
+        Refusal::Busy(s) => label(out, b"7 Busy", u64::from(s)),
+        _ => extend(out, bare_refusal(refusal)),
     }
 }
 
