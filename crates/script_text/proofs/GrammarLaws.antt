@@ -17,7 +17,7 @@ use Rattle.calls.specs.declared.vacuum.Mode.TheVariants as mode
 use Rattle.script_text.specs.declared.line.Line.{Line}
 use Rattle.script_text.specs.declared.line.Line.TheVariants.{Do, VacuumFinish, Ids, Page, Entries}
 use Rattle.script_text.specs.Grammar.{LineFits, Spells, KeyFits, RowFits, RangeFits, BoundsFit, spelling, spaced, hex_text, body_text, row_text, key_words, row_words, range_words, bounds_words, plan_words}
-use Rattle.script_text.specs.Reading.{Verbs, all_verbs, written_verbs, other_verbs, numbered_steps, lines_of, vacuum_line_of, line_in, line_at, cut, number_of, number_then, column_then, bound_of, bound_then, nibble_of, pair_and, pairs_of, body_of, row_words_of, key_words_of, count_words_of, page_words_of, range_words_of, bounds_words_of, plan_words_of}
+use Rattle.script_text.specs.Reading.{Verbs, all_verbs, written_verbs, other_verbs, numbered_steps, as_verbs, vacuum_line_of, line_in, line_at, cut, number_of, number_then, column_then, bound_of, bound_then, nibble_of, pair_and, pairs_of, body_of, row_words_of, key_words_of, count_words_of, page_words_of, range_words_of, bounds_words_of, plan_words_of}
 use Rattle.script_text.proofs.ByteLemmas.{Free, Free-append, free_text}
 use Rattle.script_text.proofs.NumberLaws.{guarded, bound, mapped, cut_says, cut-free, number_of_says, number_of-decimal, number_then_says, number_then-decimal, decimal_free}
 use Rattle.script_text.proofs.PlanLaws.{plan_words_of_says, plan_words_of-words, plan_words_free, chosen}
@@ -308,7 +308,7 @@ written_spelled = (insert_spelled, (update_spelled, (apply_spelled, tt)))
 other_spelled : AllByRecursion IsSpelled other_verbs
 other_spelled = (get_spelled, (delete_spelled, (next_spelled, (openindex_spelled, (openkeys_spelled, (takepage_spelled, (prune_spelled, (vacuum_spelled, (page_spelled, (entries_spelled, tt))))))))))
 
-numbered_spelled : AllByRecursion IsSpelled (lines_of numbered_steps)
+numbered_spelled : AllByRecursion IsSpelled (as_verbs numbered_steps)
 numbered_spelled = (session_verb (codes "begin") (λ s. Do (step.Begin s)) (λ s h. h) (λ s. refl), (session_verb (codes "beginrc") (λ s. Do (step.BeginReadCommitted s)) (λ s h. h) (λ s. refl), (session_verb (codes "commit") (λ s. Do (step.Commit s)) (λ s h. h) (λ s. refl), (session_verb (codes "abort") (λ s. Do (step.Abort s)) (λ s h. h) (λ s. refl), (session_verb (codes "savepoint") (λ s. Do (step.Savepoint s)) (λ s h. h) (λ s. refl), (session_verb (codes "rollbackto") (λ s. Do (step.RollbackTo s)) (λ s h. h) (λ s. refl), (session_verb (codes "release") (λ s. Do (step.Release s)) (λ s h. h) (λ s. refl), (session_verb (codes "openheap") (λ s. Do (step.OpenHeap s)) (λ s h. h) (λ s. refl), (session_verb (codes "close") (λ s. Do (step.Close s)) (λ s h. h) (λ s. refl), (createindex_spelled, tt))))))))))
 
 All-append : (xs ys : Verbs) → AllByRecursion IsSpelled xs → AllByRecursion IsSpelled ys → AllByRecursion IsSpelled (xs ++ ys)
@@ -316,7 +316,7 @@ All-append [] ys h k = k
 All-append (x ∷ xs) ys h k = (h.0, All-append xs ys h.1 k)
 
 all_spelled : AllByRecursion IsSpelled all_verbs
-all_spelled = All-append written_verbs (other_verbs ++ lines_of numbered_steps) written_spelled (All-append other_verbs (lines_of numbered_steps) other_spelled numbered_spelled)
+all_spelled = All-append written_verbs (other_verbs ++ as_verbs numbered_steps) written_spelled (All-append other_verbs (as_verbs numbered_steps) other_spelled numbered_spelled)
 
 line_in_says : (verbs : Verbs) (word rest : List ℕ) (l : Line) → AllByRecursion IsSpelled verbs → line_in verbs word rest ≡ Some l → LineFits l × (word ++ spaced rest ≡ spelling l)
 line_in_says [] word rest l spelled h = absurd (none-some l h)

@@ -258,15 +258,16 @@ numbered_steps =
     ∷ []
 
 -- what a word asks for that is one of these verbs, with this number
-abbrev pub step_in : NumberedVerbs → List ℕ → ℕ → Option Step
-step_in [] word n = None
-step_in (verb ∷ verbs) word n = if bytes_eq word verb.0 then Some (verb.1 n) else step_in verbs word n
+abbrev pub numbered_step_in : NumberedVerbs → List ℕ → ℕ → Option Step
+numbered_step_in [] word n = None
+numbered_step_in (verb ∷ verbs) word n = if bytes_eq word verb.0 then Some (verb.1 n) else numbered_step_in verbs word n
 
-abbrev pub lines_of : NumberedVerbs → Verbs
-lines_of verbs = map (λ verb. (verb.0, λ rest. option_map (λ n. Do (verb.1 n)) (number_of 255 rest))) verbs
+-- these as the verbs of lines
+abbrev pub as_verbs : NumberedVerbs → Verbs
+as_verbs verbs = map (λ verb. (verb.0, λ rest. option_map (λ n. Do (verb.1 n)) (number_of 255 rest))) verbs
 
 abbrev pub all_verbs : Verbs
-all_verbs = written_verbs ++ (other_verbs ++ lines_of numbered_steps)
+all_verbs = written_verbs ++ (other_verbs ++ as_verbs numbered_steps)
 
 -- what a word asks for that is one of these verbs, with the words behind it
 abbrev pub line_in : Verbs → List ℕ → List ℕ → Option Line

@@ -4,7 +4,7 @@ ghost use Rattle.std.specs.Prelude.{◌≡◌, ◌++◌, IfOk};
 ghost use Rattle.std.specs.Option.{option_map};
 ghost use Rattle.std.specs.Str.{bytes_eq};
 ghost use Rattle.script_text.specs.Grammar.{Spells};
-ghost use Rattle.script_text.specs.Reading.{number_of, row_words_of, key_words_of, count_words_of, page_words_of, range_words_of, bounds_words_of, plan_words_of, vacuum_line_of, line_in, step_in, all_verbs, other_verbs, numbered_steps, lines_of, line_at as line_at_of};
+ghost use Rattle.script_text.specs.Reading.{number_of, row_words_of, key_words_of, count_words_of, page_words_of, range_words_of, bounds_words_of, plan_words_of, vacuum_line_of, line_in, numbered_step_in, all_verbs, other_verbs, numbered_steps, as_verbs, line_at as line_at_of};
 
 use crate::growth::RefusedGrowth;
 use crate::plan::plan;
@@ -174,7 +174,7 @@ fn vacuum_line(words: &[u8]) -> Option<Line>
 
 // The step that this word asks for with one number, that of a session or of a column.
 fn numbered_step(word: &[u8], n: u8) -> Option<Step>
-    ensures { result ≡ step_in numbered_steps word.now n }
+    ensures { result ≡ numbered_step_in numbered_steps word.now n }
 {
     if is(word, b"begin") {
         Some(Step::Begin(n))
@@ -203,7 +203,7 @@ fn numbered_step(word: &[u8], n: u8) -> Option<Step>
 
 // Reads a line that begins with this word and has one number below 256.
 fn numbered_line(word: &[u8], rest: &[u8]) -> Option<Line>
-    ensures { result ≡ line_in (lines_of numbered_steps) word.now rest.now }
+    ensures { result ≡ line_in (as_verbs numbered_steps) word.now rest.now }
 {
     let n = number8(rest)?;
     let step = numbered_step(word, n)?;
@@ -212,7 +212,7 @@ fn numbered_line(word: &[u8], rest: &[u8]) -> Option<Line>
 
 // Reads a line that begins with this word, and whose step has no memory of its own.
 fn other_line(word: &[u8], rest: &[u8]) -> Option<Line>
-    ensures { result ≡ line_in (other_verbs ++ lines_of numbered_steps) word.now rest.now }
+    ensures { result ≡ line_in (other_verbs ++ as_verbs numbered_steps) word.now rest.now }
 {
     if is(word, b"get") {
         key(rest).map(|(s, key)| Line::Do(Step::Get(s, key)))
