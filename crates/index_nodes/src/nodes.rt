@@ -613,7 +613,8 @@ pub fn sweep_from<N: Node>(
 /// So many nodes are read ahead at once.
 const AHEAD: usize = 8;
 
-/// Reads what a sweep of the nodes from this number on will read, at each eighth.
+/// Reads what a sweep of the nodes from this number on will read, at each eighth. Where the first three have nothing to be read, as most
+/// have where rows came in the order of their keys, the others aren't asked.
 #[inline(always)]
 fn read_ahead<N: Node>(nodes: &[N], below: &mut N::Spares, number: usize, dead: &DeadSet)
     ensures { below.new ≡ below.old }
@@ -623,6 +624,9 @@ fn read_ahead<N: Node>(nodes: &[N], below: &mut N::Spares, number: usize, dead: 
     }
     let mut touched = 0u32;
     for node in number..nodes.len().min(number.saturating_add(AHEAD)) {
+        if touched == 0 && node - number > 2 {
+            break;
+        }
         touched = touched.wrapping_add(nodes[node].touch(dead));
     }
     N::take_touched(below, touched);
