@@ -205,6 +205,10 @@ def main() -> None:
     if not words.gate:
         # (a crate with edits in audit/ alone has no line)
         read = words.names or [crate for crate in uses if words.all or crate in old or crate not in crates]
+        if not words.compile:
+            # (the edits of definitions are read over made libraries)
+            for crate in filter(crates.__contains__, read):
+                make_libraries(crate, uses)
         faults = read_edits.read_all(read)
         if faults or words.compile:
             sys.exit(1 if faults else 0)
