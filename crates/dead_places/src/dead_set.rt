@@ -44,7 +44,7 @@ impl DeadSet {
         }
     }
 
-    /// The number of places.
+    /// The number of places. (The list is private to this type, here and below.)
     pub fn len(&self) -> usize
         ensures value { result ≡ length self.now }
         ensures limit { result ≤ MOST_PLACES }

@@ -4,7 +4,7 @@ ghost use Rattle.std.specs.Prelude.{◌≡◌, ◌≤◌, false, ◌<◌, ◌+�
 ghost use Rattle.std.specs.Fn.{FnOnceTakesAtMut};
 ghost use Rattle.std.specs.Arc.{arc_value};
 ghost use Rattle.page_slots.specs.View.{PageView};
-ghost use Rattle.heap_pages.specs.View.{free_space_bytes, Edits, NotesMark, WritesOn};
+ghost use Rattle.heap_pages.specs.View.{Edits, NotesMark, WritesOn};
 ghost use Rattle.heap_pages.specs.Choice.{Promises, HasRoom, FindsFirstPage, IsPlaceFor};
 
 use crate::choice::{first_with_room, free_byte};
@@ -96,13 +96,6 @@ impl Pages {
         self.pages[number as usize].page()
     }
 
-    /// The free-space byte of the page of this number, if it is in use: how many times its room holds 32 bytes, at most 255.
-    pub fn free_byte(&self, number: u32) -> Option<u8>
-        ensures { result ≡ slice_get (free_space_bytes self.now.pages) number }
-    {
-        self.free.byte(number)
-    }
-
     /// Changes the page of this number, which is in use, as `change` does, and answers what that answers. All other pages, and
     /// what is noted of any, stay as they are. It takes no memory but what the change takes. It is inlined, so that a large
     /// answer is copied once less.
@@ -179,7 +172,7 @@ impl Pages {
         self.spare -= 1;
     }
 
-    /// The mark that was last noted of the page of this number, if it is in use.
+    /// The mark that was last noted of the page of this number, if it is in use. (The marks are private to this type.)
     pub fn mark(&self, number: u32) -> Option<Mark>
         ensures { result ≡ slice_get self.now.marks number }
     {

@@ -10,8 +10,8 @@ use Rattle.tuple_header.specs.Version.{Version, size_of, rounded_size_of}
 use Rattle.tuple_header.proofs.Headers.{encoded-faultless, encoded-value, length-encoding}
 use Rattle.page_layout.specs.declared.pointer.Pointer.{Pointer}
 use Rattle.page_layout.specs.declared.pointer.Extent.{Extent}
-use Rattle.page_layout.specs.Layout.{pointer_of, word_of, IsPointed, pointer_in, part_of, upper_in, flags_in, change_in}
-use Rattle.page_sheet.specs.Layout.{slots_in}
+use Rattle.page_layout.specs.Layout.{pointer_of, word_of, IsPointed, pointer_in, part_of, upper_in}
+use Rattle.page_sheet.specs.Layout.{slots_in, SlotsBecome}
 use Rattle.page_layout.specs.Sound.{IsSound, IsExtent, IsPointer, AreApart, HasPlainWord, IsWritten, AreAbove, end_of}
 use Rattle.page_layout.proofs.PointerLemmas.{rounded-up, word-back, word-small, pointer-read, beside}
 use Rattle.page_sheet.proofs.Shown.{shown, part-long, taken-shown}
@@ -56,9 +56,7 @@ written-below a b count from v sound gap room fits written =
 
 pub record IsLowered (a b : List ℕ) (count top : ℕ) : Type 0 where
   pub sound : IsSound b count
-  pub slots : slots_in count b ≡ slots_in count a
-  pub change : change_in b ≡ change_in a
-  pub flags : flags_in b ≡ flags_in a
+  pub slots : SlotsBecome a b count (slots_in count a)
   pub upper : upper_in b ≡ top
   pub parts : (e : Extent) → 24 ≤ e.from → e.from + e.len ≤ 8192 → part_of b e ≡ part_of a e
   pub pointers : (i : ℕ) → pointer_in b i ≡ pointer_in a i
@@ -99,9 +97,11 @@ upper-lowered a b count upper sound gap down aligned written =
         plain = λ j h. plain-outside 14 16 j a b agrees (inr (omega arith)) (sound.plain j h);
         apart = λ i j h k. apart-same a b i j (pointers i) (pointers j) (sound.apart i j h k);
       };
-      slots = slots-kept count a b (λ j k. slot-kept a b j (pointers j) (λ d there. kept j d k there));
-      change = at 0 8 (inl (omega arith));
-      flags = at 10 2 (inl (omega arith));
+      slots = record {
+        are = slots-kept count a b (λ j k. slot-kept a b j (pointers j) (λ d there. kept j d k there));
+        change = at 0 8 (inl (omega arith));
+        flags = at 10 2 (inl (omega arith));
+      };
       upper = is;
       parts = parts;
       pointers = pointers;
@@ -110,9 +110,7 @@ upper-lowered a b count upper sound gap down aligned written =
 -- a pointer to a version that lies below all others
 pub record IsPlaced (a b : List ℕ) (count i : ℕ) (e : Extent) : Type 0 where
   pub sound : IsSound b count
-  pub slots : slots_in count b ≡ set (slots_in count a) i (Slot.Normal (decoded_version (part_of a e)))
-  pub change : change_in b ≡ change_in a
-  pub flags : flags_in b ≡ flags_in a
+  pub slots : SlotsBecome a b count (set (slots_in count a) i (Slot.Normal (decoded_version (part_of a e))))
   pub upper : upper_in b ≡ upper_in a
   pub here : pointer_in b i ≡ Pointer.Normal e
   pub others : (j : ℕ) → j ≢ i → pointer_in b j ≡ pointer_in a j
@@ -186,11 +184,13 @@ pointer-placed a b count i e sound within good above written =
             (same_or_other k i))
             (same_or_other j i);
       };
-      slots = slots-set count i a b (Slot.Normal (decoded_version (part_of a e))) within
-          (shown b i p (sym here) ∙ ap (λ (x : List ℕ). Slot.Normal (decoded_version x)) part)
-          (λ j h other. slot-kept a b j (pointers j other) (λ d is. parts j d h is));
-      change = at 0 8 (omega arith);
-      flags = at 10 2 (omega arith);
+      slots = record {
+        are = slots-set count i a b (Slot.Normal (decoded_version (part_of a e))) within
+            (shown b i p (sym here) ∙ ap (λ (x : List ℕ). Slot.Normal (decoded_version x)) part)
+            (λ j h other. slot-kept a b j (pointers j other) (λ d is. parts j d h is));
+        change = at 0 8 (omega arith);
+        flags = at 10 2 (omega arith);
+      };
       upper = upper;
       here = here;
       others = pointers;
@@ -220,9 +220,7 @@ extent-written a b count e v sound len_is room upper none =
 -- a version that was put below all others, and the pointer to it
 pub record IsAdded (a b : List ℕ) (count i : ℕ) (e : Extent) (v : Version) : Type 0 where
   pub sound : IsSound b count
-  pub slots : slots_in count b ≡ set (slots_in count a) i (Slot.Normal v)
-  pub change : change_in b ≡ change_in a
-  pub flags : flags_in b ≡ flags_in a
+  pub slots : SlotsBecome a b count (set (slots_in count a) i (Slot.Normal v))
   pub upper : upper_in b ≡ e.from
   pub here : pointer_in b i ≡ Pointer.Normal e
   pub others : (j : ℕ) → j < count → j ≢ i → pointer_in b j ≡ pointer_in a j
@@ -249,10 +247,12 @@ added a m n b count i e v sound within gap room len_is fits first second third =
     let version : decoded_version (part_of n e) ≡ v = ap decoded_version part ∙ ap (λ (k : ℕ). decoded_version (take k (drop e.from m))) len_is ∙ written.value in
     record {
       sound = placed.sound;
-      slots = placed.slots ∙ ap (λ (xs : List Slot). set xs i (Slot.Normal (decoded_version (part_of n e)))) (lowered.slots ∙ below.slots)
-          ∙ ap (λ (w : Version). set (slots_in count a) i (Slot.Normal w)) version;
-      change = placed.change ∙ lowered.change ∙ written.change;
-      flags = placed.flags ∙ lowered.flags ∙ written.flags;
+      slots = record {
+        are = placed.slots.are ∙ ap (λ (xs : List Slot). set xs i (Slot.Normal (decoded_version (part_of n e)))) (lowered.slots.are ∙ below.slots)
+            ∙ ap (λ (w : Version). set (slots_in count a) i (Slot.Normal w)) version;
+        change = placed.slots.change ∙ lowered.slots.change ∙ written.change;
+        flags = placed.slots.flags ∙ lowered.slots.flags ∙ written.flags;
+      };
       upper = placed.upper ∙ lowered.upper;
       here = placed.here;
       others = λ j h other. placed.others j other ∙ same j h;
@@ -268,9 +268,7 @@ pointer-bare a b count Pointer.Dead none good = good
 
 pub record IsLifted (a b : List ℕ) (count : ℕ) : Type 0 where
   pub sound : IsSound b count
-  pub slots : slots_in count b ≡ slots_in count a
-  pub change : change_in b ≡ change_in a
-  pub flags : flags_in b ≡ flags_in a
+  pub slots : SlotsBecome a b count (slots_in count a)
   pub upper : upper_in b ≡ 8192
   pub pointers : (i : ℕ) → pointer_in b i ≡ pointer_in a i
 
@@ -296,9 +294,11 @@ upper-lifted a b count sound none written =
         plain = λ j h. plain-outside 14 16 j a b agrees (inr (omega arith)) (sound.plain j h);
         apart = λ i j h k. apart-same a b i j (pointers i) (pointers j) (sound.apart i j h k);
       };
-      slots = slots-kept count a b (λ j k. slot-kept a b j (pointers j) (λ d there. absurd (none j d k there)));
-      change = at 0 8 (inl (omega arith));
-      flags = at 10 2 (inl (omega arith));
+      slots = record {
+        are = slots-kept count a b (λ j k. slot-kept a b j (pointers j) (λ d there. absurd (none j d k there)));
+        change = at 0 8 (inl (omega arith));
+        flags = at 10 2 (inl (omega arith));
+      };
       upper = is;
       pointers = pointers;
     }

@@ -6,8 +6,8 @@ use Rattle.tuple_header.specs.Faults.{first_fault}
 use Rattle.page_layout.specs.declared.pointer.Pointer.{Pointer}
 use Rattle.page_layout.specs.declared.pointer.Extent.{Extent}
 use Rattle.page_sheet.specs.declared.slot.Slot.{Slot}
-use Rattle.page_layout.specs.Layout.{pointer_of, pointer_in, part_of, lower_in, upper_in, flags_in, change_in}
-use Rattle.page_sheet.specs.Layout.{slot_in, slots_in}
+use Rattle.page_layout.specs.Layout.{pointer_of, pointer_in, part_of, lower_in, upper_in}
+use Rattle.page_sheet.specs.Layout.{slot_in, slots_in, SlotsBecome}
 use Rattle.page_layout.specs.Sound.{IsSound, IsPointer, AreApart, HasPlainWord}
 use Rattle.page_sheet.proofs.Shown.{shown, part-long}
 use Rattle.page_layout.proofs.OrderLemmas.{same_or_other, below_or_last}
@@ -17,9 +17,7 @@ use Rattle.page_sheet.proofs.Sounds.{extent-in, part-kept, slot-kept, slots-kept
 
 pub record IsGrown (a b : List ℕ) (count : ℕ) : Type 0 where
   pub sound : IsSound b (count + 1)
-  pub slots : slots_in (count + 1) b ≡ slots_in count a ++ Slot.Unused ∷ []
-  pub change : change_in b ≡ change_in a
-  pub flags : flags_in b ≡ flags_in a
+  pub slots : SlotsBecome a b (count + 1) (slots_in count a ++ Slot.Unused ∷ [])
   pub upper : upper_in b ≡ upper_in a
   pub pointers : (j : ℕ) → j < count → pointer_in b j ≡ pointer_in a j
   pub last : pointer_in b count ≡ Pointer.Unused
@@ -91,11 +89,13 @@ grown a m b count sound few room first second =
             (same_or_other k count))
             (same_or_other j count);
       };
-      slots = map-range_with_len_more (slot_in b) 0 count count (omega arith)
-          ∙ ap (λ (s : Slot). slots_in count b ++ s ∷ []) (shown b count Pointer.Unused (sym last))
-          ∙ ap (λ (xs : List Slot). xs ++ Slot.Unused ∷ []) (slots-kept count a b (λ j h. slot-kept a b j (pointers j h) (λ d is. parts j d h is)));
-      change = at 0 8 (omega arith) (inl (omega arith));
-      flags = at 10 2 (omega arith) (inl (omega arith));
+      slots = record {
+        are = map-range_with_len_more (slot_in b) 0 count count (omega arith)
+            ∙ ap (λ (s : Slot). slots_in count b ++ s ∷ []) (shown b count Pointer.Unused (sym last))
+            ∙ ap (λ (xs : List Slot). xs ++ Slot.Unused ∷ []) (slots-kept count a b (λ j h. slot-kept a b j (pointers j h) (λ d is. parts j d h is)));
+        change = at 0 8 (omega arith) (inl (omega arith));
+        flags = at 10 2 (omega arith) (inl (omega arith));
+      };
       upper = upper;
       pointers = pointers;
       last = last;

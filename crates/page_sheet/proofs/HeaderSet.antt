@@ -12,8 +12,8 @@ use Rattle.page_layout.specs.declared.pointer.Pointer.{Pointer}
 use Rattle.page_layout.specs.declared.pointer.Extent.{Extent}
 use Rattle.page_sheet.specs.declared.slot.Slot.{Slot}
 use Rattle.page_sheet.specs.Slots.{with_header}
-use Rattle.page_layout.specs.Layout.{pointer_in, part_of, upper_in, flags_in, change_in}
-use Rattle.page_sheet.specs.Layout.{slot_in, slots_in}
+use Rattle.page_layout.specs.Layout.{pointer_in, part_of, upper_in}
+use Rattle.page_sheet.specs.Layout.{slot_in, slots_in, SlotsBecome}
 use Rattle.page_layout.specs.Sound.{IsSound, AreApart}
 use Rattle.page_layout.proofs.PointerLemmas.{rounded-up}
 use Rattle.page_sheet.proofs.Shown.{shown, part-long}
@@ -45,9 +45,7 @@ extents-apart a count i j d e sound h k other is_i is_j =
 
 pub record IsReheaded (a b : List ℕ) (count i : ℕ) (h : Header) : Type 0 where
   pub sound : IsSound b count
-  pub slots : slots_in count b ≡ set (slots_in count a) i (with_header (slot_in a i) h)
-  pub change : change_in b ≡ change_in a
-  pub flags : flags_in b ≡ flags_in a
+  pub slots : SlotsBecome a b count (set (slots_in count a) i (with_header (slot_in a i) h))
   pub upper : upper_in b ≡ upper_in a
   pub pointers : (j : ℕ) → j < count → pointer_in b j ≡ pointer_in a j
 
@@ -84,9 +82,11 @@ header-set a b count i e h sound there is fits good written =
     ∙ sym (ap (λ (s : Slot). with_header s h) was) in
     record {
       sound = sound-behind a b count e.from (e.from + e.len) sound agrees (omega arith) faultless;
-      slots = slots-set count i a b (with_header (slot_in a i) h) there becomes (λ j k other. slot-kept a b j (pointers j k) (λ d is_j. others j d k other is_j));
-      change = number-outside e.from (e.from + e.len) 0 8 a b agrees (inl (omega arith));
-      flags = number-outside e.from (e.from + e.len) 10 2 a b agrees (inl (omega arith));
+      slots = record {
+        are = slots-set count i a b (with_header (slot_in a i) h) there becomes (λ j k other. slot-kept a b j (pointers j k) (λ d is_j. others j d k other is_j));
+        change = number-outside e.from (e.from + e.len) 0 8 a b agrees (inl (omega arith));
+        flags = number-outside e.from (e.from + e.len) 10 2 a b agrees (inl (omega arith));
+      };
       upper = number-outside e.from (e.from + e.len) 14 2 a b agrees (inl (omega arith));
       pointers = pointers;
     }

@@ -238,11 +238,11 @@ lying-filled a b count i (Lying.Without first hole) e old new last same none is 
 pub lying-compacted : (old b : List ℕ) (count top : ℕ) → IsCompacted old b count top → IsLying b count Lying.InOrder
 lying-compacted old b count top done =
     let upper = done.upper in
-    let all : taken_to b count count ≡ sum_by bytes_taken (slots_in count old) = taken-all b count ∙ ap (λ (xs : List Slot). sum_by bytes_taken xs) done.slots in
+    let all : taken_to b count count ≡ sum_by bytes_taken (slots_in count old) = taken-all b count ∙ ap (λ (xs : List Slot). sum_by bytes_taken xs) done.slots.are in
     record {
       total = omega arith;
       even = done.sound.aligned;
-      lie = λ j e h k is. ap (λ (xs : List Slot). e.from + sum_by bytes_taken (take (j + 1) xs)) done.slots ∙ done.order j e k is;
+      lie = λ j e h k is. ap (λ (xs : List Slot). e.from + sum_by bytes_taken (take (j + 1) xs)) done.slots.are ∙ done.order j e k is;
     }
 
 pub lying-bare_page : (b : List ℕ) (count : ℕ) → IsSound b count → sum_by bytes_taken (slots_in count b) ≡ 0 → upper_in b ≡ 8192 → IsLying b count Lying.InOrder

@@ -9,8 +9,8 @@ use Rattle.page_layout.specs.declared.pointer.Pointer.{Pointer}
 use Rattle.page_layout.specs.declared.pointer.Extent.{Extent}
 use Rattle.page_sheet.specs.declared.slot.Slot.{Slot}
 use Rattle.page_sheet.specs.Slots.{bytes_taken}
-use Rattle.page_layout.specs.Layout.{pointer_of, word_of, IsPointed, pointer_in, part_of, change_in, flags_in, upper_in}
-use Rattle.page_sheet.specs.Layout.{slot_in, slots_in}
+use Rattle.page_layout.specs.Layout.{pointer_of, word_of, IsPointed, pointer_in, part_of, upper_in}
+use Rattle.page_sheet.specs.Layout.{slot_in, slots_in, SlotsBecome}
 use Rattle.page_layout.specs.Sound.{IsSound, IsExtent, IsPointer, AreApart, HasPlainWord}
 use Rattle.page_sheet.specs.Packing.{LiesOver, LieInOrder, IsPacked, IsMoved}
 use Rattle.page_layout.proofs.PointerLemmas.{rounded-up, word-back, word-small, pointer-read, beside}
@@ -214,9 +214,7 @@ part-size old e within = rw (length-take, length-drop) (omega arith)
 -- Once all are packed and the upper bound is written, the bytes are a page again.
 pub record IsCompacted (old b : List ℕ) (count top : ℕ) : Type 0 where
   pub sound : IsSound b count
-  pub slots : slots_in count b ≡ slots_in count old
-  pub change : change_in b ≡ change_in old
-  pub flags : flags_in b ≡ flags_in old
+  pub slots : SlotsBecome old b count (slots_in count old)
   pub upper : upper_in b + sum_by bytes_taken (slots_in count old) ≡ 8192
   pub order : LieInOrder b (slots_in count old) count
 
@@ -261,9 +259,11 @@ compacted old new b count top sound packed room written =
         plain = λ j h. plain-outside 14 16 j new b agrees (inr (omega arith)) (packed.plain j h);
         apart = λ i j h k. apart-same new b i j (pointers i) (pointers j) (packed.apart i j h k);
       };
-      slots = slots-kept count old b (λ j h. slot-kept new b j (pointers j) (λ d there. parts j d h there) ∙ packed.slots j h);
-      change = at 0 8 (omega arith) (inl (omega arith));
-      flags = at 10 2 (omega arith) (inl (omega arith));
+      slots = record {
+        are = slots-kept count old b (λ j h. slot-kept new b j (pointers j) (λ d there. parts j d h there) ∙ packed.slots j h);
+        change = at 0 8 (omega arith) (inl (omega arith));
+        flags = at 10 2 (omega arith) (inl (omega arith));
+      };
       upper = subst (λ (u : ℕ). u + sum_by bytes_taken (slots_in count old) ≡ 8192) (sym is) sum;
       order = λ j d h there. packed.order j d h (sym (pointers j) ∙ there);
     }

@@ -4,8 +4,8 @@ use Rattle.tuple_header.specs.Layout.{number_at, with_number}
 use Rattle.tuple_header.specs.Faults.{first_fault}
 use Rattle.page_layout.specs.declared.pointer.Pointer.{Pointer}
 use Rattle.page_layout.specs.declared.pointer.Extent.{Extent}
-use Rattle.page_layout.specs.Layout.{pointer_of, word_of, IsPointed, pointer_in, part_of, lower_in, upper_in, flags_in, change_in}
-use Rattle.page_sheet.specs.Layout.{shown_by, slots_in}
+use Rattle.page_layout.specs.Layout.{pointer_of, word_of, IsPointed, pointer_in, part_of, lower_in, upper_in}
+use Rattle.page_sheet.specs.Layout.{shown_by, slots_in, SlotsBecome}
 use Rattle.page_sheet.specs.Slots.{is_unused, bytes_taken}
 use Rattle.page_layout.specs.Sound.{IsSound, IsPointer, AreApart, HasPlainWord, HoldsNoVersion}
 use Rattle.page_sheet.proofs.Shown.{shown}
@@ -66,9 +66,7 @@ bare-shown count Pointer.Dead b bare = refl
 
 pub record IsRepointed (a b : List ℕ) (count i : ℕ) (p : Pointer) : Type 0 where
   pub sound : IsSound b count
-  pub slots : slots_in count b ≡ set (slots_in count a) i (shown_by [] p)
-  pub change : change_in b ≡ change_in a
-  pub flags : flags_in b ≡ flags_in a
+  pub slots : SlotsBecome a b count (set (slots_in count a) i (shown_by [] p))
   pub upper : upper_in b ≡ upper_in a
   pub here : pointer_in b i ≡ p
   pub others : (j : ℕ) → j ≢ i → pointer_in b j ≡ pointer_in a j
@@ -117,10 +115,12 @@ pointer-set a b count i p sound within bare written =
             (same_or_other k i))
             (same_or_other j i);
       };
-      slots = slots-set count i a b (shown_by [] p) within (shown b i p (sym here) ∙ bare-shown count p b bare)
-          (λ j h other. slot-kept a b j (pointers j other) (λ e is. parts j e h is));
-      change = at 0 8 (omega arith);
-      flags = at 10 2 (omega arith);
+      slots = record {
+        are = slots-set count i a b (shown_by [] p) within (shown b i p (sym here) ∙ bare-shown count p b bare)
+            (λ j h other. slot-kept a b j (pointers j other) (λ e is. parts j e h is));
+        change = at 0 8 (omega arith);
+        flags = at 10 2 (omega arith);
+      };
       upper = upper;
       here = here;
       others = pointers;

@@ -11,7 +11,7 @@ ghost use Rattle.page_sheet.specs.declared.sheet.TheConstants.{MOST_BYTES};
 ghost use Rattle.page_layout.specs.declared.sizes.TheConstants.{PAGE_BYTES, PAGE_HEADER_BYTES};
 ghost use Rattle.page_sheet.specs.Slots.{is_unused, is_dead, is_undeleted_by, undeleted_row, redirects_to, with_header, version_of, target_of, head_of, bytes_taken};
 ghost use Rattle.page_layout.specs.Layout.{pointer_in, part_of, slot_count_in, change_in, flags_in, upper_in};
-ghost use Rattle.page_sheet.specs.Layout.{SomeRedirects, shown_by, slot_in, slots_in};
+ghost use Rattle.page_sheet.specs.Layout.{SomeRedirects, shown_by, slot_in, slots_in, SlotsBecome};
 ghost use Rattle.page_sheet.specs.Packing.{LieInOrder};
 ghost use Rattle.page_sheet.specs.Lying.{IsCleared, IsLying};
 ghost use Rattle.page_sheet.specs.Placing.{no_places, places_of, places_without, loses_last, HasGap, IsPutBelow};
@@ -78,11 +78,9 @@ fn put_below(bytes: &mut [u8; PAGE_BYTES], count: usize, index: usize, header: &
     requires room { PAGE_HEADER_BYTES + 4 * count + rounded_size_of row.now ≤ upper_in bytes.old }
     requires faultless { header_fault header.now ≡ None }
     ensures sound { IsSound bytes.new count }
-    ensures slots { slots_in count bytes.new
-        ≡ slice_set (slots_in count bytes.old) index
-        (Slot.Normal (record { header = header.now; row = row.now })) }
-    ensures change { change_in bytes.new ≡ change_in bytes.old }
-    ensures flags { flags_in bytes.new ≡ flags_in bytes.old }
+    ensures slots { SlotsBecome bytes.old bytes.new count
+        (slice_set (slots_in count bytes.old) index
+        (Slot.Normal (record { header = header.now; row = row.now }))) }
     ensures upper { upper_in bytes.new + rounded_size_of row.now ≡ upper_in bytes.old }
     ensures here { pointer_in bytes.new index
         ≡ SpecPointer.Normal (record { from = upper_in bytes.new; len = size_of row.now }) }
@@ -522,11 +520,9 @@ impl Sheet {
         requires there { index < self.old.count }
         requires faultless { header_fault header ≡ None }
         ensures count { self.new.count ≡ self.old.count }
-        ensures slots { slots_in self.new.count self.new.bytes
-            ≡ slice_set (slots_in self.old.count self.old.bytes) index
-            (with_header (slot_in self.old.bytes index) header) }
-        ensures change { change_in self.new.bytes ≡ change_in self.old.bytes }
-        ensures flags { flags_in self.new.bytes ≡ flags_in self.old.bytes }
+        ensures slots { SlotsBecome self.old.bytes self.new.bytes self.new.count
+            (slice_set (slots_in self.old.count self.old.bytes) index
+            (with_header (slot_in self.old.bytes index) header)) }
         ensures places { places_of self.new ≡ places_of self.old }
     {
         if let Pointer::Normal(extent) = self.pointer(index) {
@@ -559,10 +555,8 @@ impl Sheet {
         requires there { index < self.old.count }
         requires bare { HoldsNoVersion self.old.count pointer }
         ensures count { self.new.count ≡ self.old.count }
-        ensures slots { slots_in self.new.count self.new.bytes
-            ≡ slice_set (slots_in self.old.count self.old.bytes) index (shown_by [] pointer) }
-        ensures change { change_in self.new.bytes ≡ change_in self.old.bytes }
-        ensures flags { flags_in self.new.bytes ≡ flags_in self.old.bytes }
+        ensures slots { SlotsBecome self.old.bytes self.new.bytes self.new.count
+            (slice_set (slots_in self.old.count self.old.bytes) index (shown_by [] pointer)) }
         ensures upper { upper_in self.new.bytes ≡ upper_in self.old.bytes }
         ensures others { (i : ℕ) → i < self.old.count → i ≢ index
             → pointer_in self.new.bytes i ≡ pointer_in self.old.bytes i }
@@ -580,10 +574,8 @@ impl Sheet {
             ≡ loses_last (slots_in self.old.count self.old.bytes)
             (slice_set (slots_in self.old.count self.old.bytes) index (shown_by [] pointer)) }
         ensures count { self.new.count ≡ self.old.count }
-        ensures slots { slots_in self.new.count self.new.bytes
-            ≡ slice_set (slots_in self.old.count self.old.bytes) index (shown_by [] pointer) }
-        ensures change { change_in self.new.bytes ≡ change_in self.old.bytes }
-        ensures flags { flags_in self.new.bytes ≡ flags_in self.old.bytes }
+        ensures slots { SlotsBecome self.old.bytes self.new.bytes self.new.count
+            (slice_set (slots_in self.old.count self.old.bytes) index (shown_by [] pointer)) }
         ensures places { places_of self.new
             ≡ places_without (slots_in self.old.count self.old.bytes)
             (slots_in self.new.count self.new.bytes) (index + 1) (places_of self.old) }
@@ -607,10 +599,8 @@ impl Sheet {
         requires few { self.old.count < MOST_SLOTS }
         requires room { PAGE_HEADER_BYTES + 4 * (self.old.count + 1) ≤ upper_in self.old.bytes }
         ensures count { self.new.count ≡ self.old.count + 1 }
-        ensures slots { slots_in self.new.count self.new.bytes
-            ≡ slots_in self.old.count self.old.bytes ++ Slot.Unused ∷ [] }
-        ensures change { change_in self.new.bytes ≡ change_in self.old.bytes }
-        ensures flags { flags_in self.new.bytes ≡ flags_in self.old.bytes }
+        ensures slots { SlotsBecome self.old.bytes self.new.bytes self.new.count
+            (slots_in self.old.count self.old.bytes ++ Slot.Unused ∷ []) }
         ensures upper { upper_in self.new.bytes ≡ upper_in self.old.bytes }
         ensures pointers { (i : ℕ) → i < self.old.count
             → pointer_in self.new.bytes i ≡ pointer_in self.old.bytes i }
@@ -631,10 +621,8 @@ impl Sheet {
         requires room { 4 * self.old.count
             + sum_by bytes_taken (slots_in self.old.count self.old.bytes) ≤ MOST_BYTES }
         ensures count { self.new.count ≡ self.old.count }
-        ensures slots { slots_in self.new.count self.new.bytes
-            ≡ slots_in self.old.count self.old.bytes }
-        ensures change { change_in self.new.bytes ≡ change_in self.old.bytes }
-        ensures flags { flags_in self.new.bytes ≡ flags_in self.old.bytes }
+        ensures slots { SlotsBecome self.old.bytes self.new.bytes self.new.count
+            (slots_in self.old.count self.old.bytes) }
         ensures upper { upper_in self.new.bytes
             + sum_by bytes_taken (slots_in self.old.count self.old.bytes) ≡ PAGE_BYTES }
         ensures order { LieInOrder self.new.bytes (slots_in self.old.count self.old.bytes)
@@ -650,10 +638,8 @@ impl Sheet {
         requires room { 4 * self.old.count
             + sum_by bytes_taken (slots_in self.old.count self.old.bytes) + size ≤ MOST_BYTES }
         ensures count { self.new.count ≡ self.old.count }
-        ensures slots { slots_in self.new.count self.new.bytes
-            ≡ slots_in self.old.count self.old.bytes }
-        ensures change { change_in self.new.bytes ≡ change_in self.old.bytes }
-        ensures flags { flags_in self.new.bytes ≡ flags_in self.old.bytes }
+        ensures slots { SlotsBecome self.old.bytes self.new.bytes self.new.count
+            (slots_in self.old.count self.old.bytes) }
         ensures gap { HasGap self.new.count (upper_in self.new.bytes) size }
         ensures stays { HasGap self.old.count (upper_in self.old.bytes) size
             → self.new ≡ self.old }
@@ -676,11 +662,9 @@ impl Sheet {
             + rounded_size_of row.now ≤ MOST_BYTES }
         requires faultless { header_fault header.now ≡ None }
         ensures count { self.new.count ≡ self.old.count }
-        ensures slots { slots_in self.new.count self.new.bytes
-            ≡ slice_set (slots_in self.old.count self.old.bytes) index
-            (Slot.Normal (record { header = header.now; row = row.now })) }
-        ensures change { change_in self.new.bytes ≡ change_in self.old.bytes }
-        ensures flags { flags_in self.new.bytes ≡ flags_in self.old.bytes }
+        ensures slots { SlotsBecome self.old.bytes self.new.bytes self.new.count
+            (slice_set (slots_in self.old.count self.old.bytes) index
+            (Slot.Normal (record { header = header.now; row = row.now }))) }
         ensures places { IsPutBelow (slots_in self.old.count self.old.bytes) (places_of self.old)
             (places_of self.new) (index + 1) (rounded_size_of row.now) (rounded_size_of row.now) }
     {
@@ -697,11 +681,9 @@ impl Sheet {
             + (rounded_size_of row.now + 4) ≤ MOST_BYTES }
         requires faultless { header_fault header.now ≡ None }
         ensures count { self.new.count ≡ self.old.count + 1 }
-        ensures slots { slots_in self.new.count self.new.bytes
-            ≡ slots_in self.old.count self.old.bytes
-            ++ Slot.Normal (record { header = header.now; row = row.now }) ∷ [] }
-        ensures change { change_in self.new.bytes ≡ change_in self.old.bytes }
-        ensures flags { flags_in self.new.bytes ≡ flags_in self.old.bytes }
+        ensures slots { SlotsBecome self.old.bytes self.new.bytes self.new.count
+            (slots_in self.old.count self.old.bytes
+            ++ Slot.Normal (record { header = header.now; row = row.now }) ∷ []) }
         ensures places { IsPutBelow (slots_in self.old.count self.old.bytes) (places_of self.old)
             (places_of self.new) (self.old.count + 1) (rounded_size_of row.now)
             (rounded_size_of row.now + 4) }
@@ -716,10 +698,8 @@ impl Sheet {
     fn lift_upper(&mut self)
         requires none { sum_by bytes_taken (slots_in self.old.count self.old.bytes) ≡ 0 }
         ensures count { self.new.count ≡ self.old.count }
-        ensures slots { slots_in self.new.count self.new.bytes
-            ≡ slots_in self.old.count self.old.bytes }
-        ensures change { change_in self.new.bytes ≡ change_in self.old.bytes }
-        ensures flags { flags_in self.new.bytes ≡ flags_in self.old.bytes }
+        ensures slots { SlotsBecome self.old.bytes self.new.bytes self.new.count
+            (slots_in self.old.count self.old.bytes) }
         ensures upper { upper_in self.new.bytes ≡ PAGE_BYTES }
         ensures pointers { (i : ℕ) → i < self.old.count
             → pointer_in self.new.bytes i ≡ pointer_in self.old.bytes i }

@@ -79,7 +79,7 @@ impl Book {
 
     /// The page of this number with what a statement of the session sees of it, for [`table_scans::resolve`] to give the rows
     /// outside the latch. It is no step, and isn't noted. Refusals in order: NoSuchSession, NotOpen, Failed, NoSuchPage,
-    /// NoMemory.
+    /// NoMemory. (The engine is private to the book, so that every step is noted.)
     pub fn take_page(&mut self, session: u8, page: u32) -> Result<Ticket, Refusal>
         ensures same { self.new ≡ self.old }
         ensures taken { MatchResult result (TakesTicket self.old.engine.engine.core session page)

@@ -204,7 +204,7 @@ impl PruneHints {
         }
     }
 
-    /// Makes room in memory for the hints on `count` more pages. No hint changes, also where memory is refused.
+    /// Makes room in memory for the hints on `count` more pages. No hint changes, also where memory is refused. (They are private.)
     pub fn make_room(&mut self, count: usize) -> Result<(), AllocError>
         ensures room { OnOk result (count ≤ self.new.spare) }
         ensures refused { OnErr result (self.old.spare < count) }

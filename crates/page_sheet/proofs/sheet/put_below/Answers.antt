@@ -36,12 +36,6 @@ returns-clause-sound c = (whole c).sound
 pub returns-clause-slots : goal.returns-clause-slots
 returns-clause-slots c = (whole c).slots
 
-pub returns-clause-change : goal.returns-clause-change
-returns-clause-change c = (whole c).change
-
-pub returns-clause-flags : goal.returns-clause-flags
-returns-clause-flags c = (whole c).flags
-
 pub returns-clause-upper : goal.returns-clause-upper
 returns-clause-upper c =
     let upper : c.from.result ≡ upper_in c.args.bytes.now = c.from.ensures ∙ c.u16_at.ensures in

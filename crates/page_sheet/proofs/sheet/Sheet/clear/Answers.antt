@@ -10,7 +10,7 @@ returns-then-last-clause-places c =
     let old = c.args.self.now in
     let new = c.lift_upper.new.self in
     let before = slots_in old.count old.bytes in
-    let slots = c.lift_upper.ensures.slots ∙ c.set_pointer.ensures.slots in
+    let slots = c.lift_upper.ensures.slots.are ∙ c.set_pointer.ensures.slots.are in
     let lost : loses_last before (slots_in new.count new.bytes) ≡ true = ap (loses_last before) slots ∙ sym c.requires.last ∙ c.if-last.true in
     let same : (i : ℕ) → i < old.count → i ≢ c.args.index → pointer_in new.bytes i ≡ pointer_in old.bytes i = λ i within other.
     c.lift_upper.ensures.pointers i (subst (λ (n : ℕ). i < n) (sym c.set_pointer.ensures.count) within) ∙ c.set_pointer.ensures.others i within other in
@@ -23,7 +23,7 @@ returns-else-last-clause-places c =
     let old = c.args.self.now in
     let new = c.set_pointer.new.self in
     let before = slots_in old.count old.bytes in
-    let kept : loses_last before (slots_in new.count new.bytes) ≡ false = ap (loses_last before) c.set_pointer.ensures.slots ∙ sym c.requires.last ∙ c.if-last.false in
+    let kept : loses_last before (slots_in new.count new.bytes) ≡ false = ap (loses_last before) c.set_pointer.ensures.slots.are ∙ sym c.requires.last ∙ c.if-last.false in
     places-cleared old new c.args.index (if loses_last before (slots_in new.count new.bytes) then 8192 else upper_in old.bytes) (shown_by [] c.args.pointer) c.requires.there
-    c.set_pointer.ensures.count c.set_pointer.ensures.slots (bare-version old.count c.args.pointer c.requires.bare) c.set_pointer.ensures.others
+    c.set_pointer.ensures.count c.set_pointer.ensures.slots.are (bare-version old.count c.args.pointer c.requires.bare) c.set_pointer.ensures.others
     (rw kept c.set_pointer.ensures.upper)

@@ -25,12 +25,6 @@ invariant_of-self c =
 pub returns-clause-slots : goal.returns-clause-slots
 returns-clause-slots c = rw (← c.self.view_is) (whole c).slots
 
-pub returns-clause-change : goal.returns-clause-change
-returns-clause-change c = rw (← c.self.view_is) (whole c).change
-
-pub returns-clause-flags : goal.returns-clause-flags
-returns-clause-flags c = rw (← c.self.view_is) (whole c).flags
-
 pub returns-clause-upper : goal.returns-clause-upper
 returns-clause-upper c = rw (← c.self.view_is) (whole c).upper
 

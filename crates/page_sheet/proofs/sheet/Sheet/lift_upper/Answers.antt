@@ -18,17 +18,11 @@ invariant_of-self c =
     let nothing = subst (λ (s : SheetView). sum_by bytes_taken (slots_in s.count s.bytes) ≡ 0) (sym c.self.view_is) c.requires.none in (
       (lifted c).sound,
       lying-bare_page c.put_u16.new.bytes c.self.inside.count (lifted c).sound
-          (ap (λ (xs : List Slot). sum_by bytes_taken xs) (lifted c).slots ∙ nothing) (lifted c).upper,
+          (ap (λ (xs : List Slot). sum_by bytes_taken xs) (lifted c).slots.are ∙ nothing) (lifted c).upper,
     )
 
 pub returns-clause-slots : goal.returns-clause-slots
 returns-clause-slots c = rw (← c.self.view_is) (lifted c).slots
-
-pub returns-clause-change : goal.returns-clause-change
-returns-clause-change c = rw (← c.self.view_is) (lifted c).change
-
-pub returns-clause-flags : goal.returns-clause-flags
-returns-clause-flags c = rw (← c.self.view_is) (lifted c).flags
 
 pub returns-clause-upper : goal.returns-clause-upper
 returns-clause-upper c = (lifted c).upper

@@ -3,7 +3,7 @@ use Rattle.std.proofs.lemmas.List.{set_at}
 use Rattle.tuple_header.specs.Version.{Version, size_of, rounded_size_of}
 use Rattle.page_layout.specs.declared.pointer.Pointer.{Pointer}
 use Rattle.page_layout.specs.declared.pointer.Extent.{Extent}
-use Rattle.page_layout.specs.Layout.{pointer_in, upper_in}
+use Rattle.page_layout.specs.Layout.{change_in, flags_in, pointer_in, upper_in}
 use Rattle.page_sheet.specs.Placing.{places_of, IsPutBelow}
 use Rattle.page_layout.proofs.OrderLemmas.{below_or_last}
 use Rattle.page_sheet.specs.Sheet.{SheetView}
@@ -37,9 +37,13 @@ returns-clause-slots c =
     let before = slots_in c.args.self.now.count c.args.self.now.bytes in
     let counted : c.self.inside.count ≡ c.make_way.new.self.count = ap (λ (s : SheetView). s.count) c.self.view_is in
     let long : length before ≡ c.self.inside.count = length-slots_in c.args.self.now.count c.args.self.now.bytes ∙ sym c.make_way.ensures.count ∙ sym counted in
-    let grown : slots_in c.grow.new.self.count c.grow.new.self.bytes ≡ before ++ Slot.Unused ∷ [] = c.grow.ensures.slots ∙ ap (λ (xs : List Slot). xs ++ Slot.Unused ∷ []) c.make_way.ensures.slots in
-    c.put_below.ensures.slots ∙ ap (λ (s : SheetView). set (slots_in s.count s.bytes) c.self.inside.count (Slot.Normal v)) c.self-2.view_is
-    ∙ ap (λ (xs : List Slot). set xs c.self.inside.count (Slot.Normal v)) grown ∙ set_at before Slot.Unused [] (Slot.Normal v) c.self.inside.count long
+    let grown : slots_in c.grow.new.self.count c.grow.new.self.bytes ≡ before ++ Slot.Unused ∷ [] = c.grow.ensures.slots.are ∙ ap (λ (xs : List Slot). xs ++ Slot.Unused ∷ []) c.make_way.ensures.slots.are in
+    record {
+      are = c.put_below.ensures.slots.are ∙ ap (λ (s : SheetView). set (slots_in s.count s.bytes) c.self.inside.count (Slot.Normal v)) c.self-2.view_is
+          ∙ ap (λ (xs : List Slot). set xs c.self.inside.count (Slot.Normal v)) grown ∙ set_at before Slot.Unused [] (Slot.Normal v) c.self.inside.count long;
+      change = c.put_below.ensures.slots.change ∙ ap (λ (s : SheetView). change_in s.bytes) c.self-2.view_is ∙ c.grow.ensures.slots.change ∙ c.make_way.ensures.slots.change;
+      flags = c.put_below.ensures.slots.flags ∙ ap (λ (s : SheetView). flags_in s.bytes) c.self-2.view_is ∙ c.grow.ensures.slots.flags ∙ c.make_way.ensures.slots.flags;
+    }
 
 pub returns-clause-places : goal.returns-clause-places
 returns-clause-places c =

@@ -28,12 +28,6 @@ invariant_of-self c =
 pub returns-in-Normal-clause-slots : goal.returns-in-Normal-clause-slots
 returns-in-Normal-clause-slots c = rw (← c.self.view_is) (reheaded c).slots
 
-pub returns-in-Normal-clause-change : goal.returns-in-Normal-clause-change
-returns-in-Normal-clause-change c = rw (← c.self.view_is) (reheaded c).change
-
-pub returns-in-Normal-clause-flags : goal.returns-in-Normal-clause-flags
-returns-in-Normal-clause-flags c = rw (← c.self.view_is) (reheaded c).flags
-
 pub returns-in-Normal-clause-places : goal.returns-in-Normal-clause-places
 returns-in-Normal-clause-places c =
     let done = reheaded c in
@@ -42,8 +36,10 @@ returns-in-Normal-clause-places c =
 pub returns-in_default : goal.returns-in_default
 returns-in_default c = record {
   count = refl;
-  change = refl;
-  flags = refl;
   places = refl;
-  slots = header-none c.args.self.now.bytes c.args.self.now.count c.args.index c.pointer.result c.args.header c.requires.there c.pointer.ensures.value c.in_default.not-Normal;
+  slots = record {
+    are = header-none c.args.self.now.bytes c.args.self.now.count c.args.index c.pointer.result c.args.header c.requires.there c.pointer.ensures.value c.in_default.not-Normal;
+    change = refl;
+    flags = refl;
+  };
 }

@@ -59,8 +59,8 @@ added c =
     let long = length-slots_in c.self.inside.sheet.count c.self.inside.sheet.bytes in
     let first = c.self.invariant.first in
     elim c.if-index-len.branch [
-      | then-index-len w ↦ rw w.self-inside-is (with_added-at slots slot c.self.inside.free first (omega (arith, w.if-index-len.true)) ∙ sym w.add.ensures.slots)
-      | else-index-len w ↦ rw w.self-inside-is (with_added-behind slots slot c.self.inside.free first (omega (arith, w.if-index-len.false)) ∙ sym w.push.ensures.slots)
+      | then-index-len w ↦ rw w.self-inside-is (with_added-at slots slot c.self.inside.free first (omega (arith, w.if-index-len.true)) ∙ sym w.add.ensures.slots.are)
+      | else-index-len w ↦ rw w.self-inside-is (with_added-behind slots slot c.self.inside.free first (omega (arith, w.if-index-len.false)) ∙ sym w.push.ensures.slots.are)
     ]
 
 pub first_unused_from-self-inside-requires : goal.first_unused_from-self-inside-requires
@@ -71,8 +71,8 @@ first_unused_from-self-inside-requires c =
     let first = c.self.invariant.first in
     let next = subst (λ (i : ℕ). i + 1 ≤ position_or_len is_unused (with_added slots slot)) (sym first) (first-after_added slots slot refl) in
     elim c.if-index-len.branch [
-      | then-index-len w ↦ rw (w.self-inside-is, w.add.ensures.slots, ← with_added-at slots slot c.self.inside.free first (omega (arith, w.if-index-len.true))) next
-      | else-index-len w ↦ rw (w.self-inside-is, w.push.ensures.slots, ← with_added-behind slots slot c.self.inside.free first (omega (arith, w.if-index-len.false))) next
+      | then-index-len w ↦ rw (w.self-inside-is, w.add.ensures.slots.are, ← with_added-at slots slot c.self.inside.free first (omega (arith, w.if-index-len.true))) next
+      | else-index-len w ↦ rw (w.self-inside-is, w.push.ensures.slots.are, ← with_added-behind slots slot c.self.inside.free first (omega (arith, w.if-index-len.false))) next
     ]
 
 pub invariant_of-self : goal.invariant_of-self

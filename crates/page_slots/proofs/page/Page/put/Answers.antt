@@ -89,7 +89,7 @@ first_unused_from-self-inside-requires c =
       | in-Unused w ↦ omega (arith, w.from-is, w.min-from.ensures)
       | in_default w ↦ absurd (true≢false (sym unused ∙ bare-used c.self.inside.sheet.count c.args.pointer f.bare w.in_default.not-Unused))
     ] in
-    rw c.clear.ensures.slots (first-after_set slots index slot c.match-pointer.from before first)
+    rw c.clear.ensures.slots.are (first-after_set slots index slot c.match-pointer.from before first)
 
 -- What is tallied then.
 kept : (c : After-first_unused_from-self-inside)
@@ -101,8 +101,8 @@ kept c f =
     let index = c.from-index.result - 1 in
     let slot = shown_by [] c.args.pointer in
     let next = c.first_unused_from-self-inside.result in
-    let first : next ≡ position_or_len is_unused (set slots index slot) = c.first_unused_from-self-inside.ensures.index ∙ ap (position_or_len is_unused) c.clear.ensures.slots in
-    subst (λ (s : List Slot). AreTallied s next (c.self.inside.taken_bytes - c.version_size-taken.result)) (sym c.clear.ensures.slots)
+    let first : next ≡ position_or_len is_unused (set slots index slot) = c.first_unused_from-self-inside.ensures.index ∙ ap (position_or_len is_unused) c.clear.ensures.slots.are in
+    subst (λ (s : List Slot). AreTallied s next (c.self.inside.taken_bytes - c.version_size-taken.result)) (sym c.clear.ensures.slots.are)
     (subst (λ (t : ℕ). AreTallied (set slots index slot) next (c.self.inside.taken_bytes - t)) f.is
     (kept_bare slots c.self.inside.free c.self.inside.taken_bytes next index slot f.at.inside (bare-takes_none count c.args.pointer f.bare) first c.self.invariant))
 

@@ -32,7 +32,7 @@ set-is : (c : After-set_header) → slots_in c.set_header.new.self.count c.set_h
 set-is c =
     let slots = slots_in c.self.inside.sheet.count c.self.inside.sheet.bytes in
     let index = c.from-index.result - 1 in
-    c.set_header.ensures.slots ∙ ap (λ (s : Slot). set slots index (with_header s c.args.header)) (sym (at c).slot)
+    c.set_header.ensures.slots.are ∙ ap (λ (s : Slot). set slots index (with_header s c.args.header)) (sym (at c).slot)
     ∙ ap (λ (m : ℕ). set slots (m - 1) (with_header (get_or slots (m - 1) Unused) c.args.header)) c.from-index.ensures
 
 hints-are : (c : After-set_header) → differs_in_hints_alone (the_slot c.args.self.now.slots c.args.number) c.args.header ≡ c.match-header.hints_alone
@@ -49,7 +49,7 @@ kept c =
     let slots = slots_in c.self.inside.sheet.count c.self.inside.sheet.bytes in
     let index = c.from-index.result - 1 in
     subst (λ (s : List Slot). AreTallied s c.self.inside.free c.self.inside.taken_bytes)
-    (sym (c.set_header.ensures.slots ∙ ap (λ (s : Slot). set slots index (with_header s c.args.header)) (sym (at c).slot)))
+    (sym (c.set_header.ensures.slots.are ∙ ap (λ (s : Slot). set slots index (with_header s c.args.header)) (sym (at c).slot)))
     (kept_header slots c.self.inside.free c.self.inside.taken_bytes index c.args.header (at c).inside c.self.invariant)
 
 pub invariant_of-self : goal.invariant_of-self
@@ -63,7 +63,7 @@ returns-then-not-hints_alone-clause-slots c = rw (← c.self.view_is) (ap (λ (p
 
 pub returns-then-not-hints_alone-clause-change : goal.returns-then-not-hints_alone-clause-change
 returns-then-not-hints_alone-clause-change c =
-    rw (hints-are (goal.at.returns-then-not-hints_alone-clause-change c).After-set_header, c.if-not-hints_alone.true) (rw (← c.self.view_is) (ap (λ (p : PageView). p.change) c.raise.ensures ∙ ap next_change c.set_header.ensures.change))
+    rw (hints-are (goal.at.returns-then-not-hints_alone-clause-change c).After-set_header, c.if-not-hints_alone.true) (rw (← c.self.view_is) (ap (λ (p : PageView). p.change) c.raise.ensures ∙ ap next_change c.set_header.ensures.slots.change))
 
 pub returns-then-not-hints_alone-clause-places : goal.returns-then-not-hints_alone-clause-places
 returns-then-not-hints_alone-clause-places c = rw (← c.self.view_is) (ap (λ (p : PageView). p.places) c.raise.ensures ∙ c.set_header.ensures.places)
@@ -72,4 +72,4 @@ pub returns-else-not-hints_alone-clause-slots : goal.returns-else-not-hints_alon
 returns-else-not-hints_alone-clause-slots c = rw (← c.self.view_is) (set-is (goal.at.returns-else-not-hints_alone-clause-slots c).After-set_header)
 
 pub returns-else-not-hints_alone-clause-change : goal.returns-else-not-hints_alone-clause-change
-returns-else-not-hints_alone-clause-change c = rw (hints-are (goal.at.returns-else-not-hints_alone-clause-change c).After-set_header, c.if-not-hints_alone.false) (rw (← c.self.view_is) c.set_header.ensures.change)
+returns-else-not-hints_alone-clause-change c = rw (hints-are (goal.at.returns-else-not-hints_alone-clause-change c).After-set_header, c.if-not-hints_alone.false) (rw (← c.self.view_is) c.set_header.ensures.slots.change)
