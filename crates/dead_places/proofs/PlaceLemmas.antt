@@ -1,5 +1,5 @@
 -- The order of places is total; what a search finds in an ascending list of them, and what an edit there does.
-use Rattle.std.proofs.Common.{◌≡◌, ◌∙◌, ℕ, zero, suc, ◌+◌, ◌-◌, ◌<◌, ◌≤◌, ◌⊎◌, true, inl, inr, ⊎_elim, List, [], ◌∷◌, ◌++◌, length, get_or, Some, slice_get, sym, ap, refl, subst, arith, Contains}
+use Rattle.std.proofs.Common.{◌≡◌, ◌∙◌, ℕ, zero, suc, ◌+◌, ◌-◌, ◌<◌, ◌≤◌, ◌⊎◌, true, inl, inr, ⊎_elim, List, [], ◌∷◌, ◌++◌, length, get_or, Some, slice_get, Result, Ok, Err, IfOk, IfErr, IsTrue, is_ok, ◌↔◌, sym, ap, refl, subst, arith, Contains}
 use Rattle.std.specs.Cmp.{IsTotalOrder}
 use Rattle.std.specs.Ordering.{nat_cmp, ordering_reverse, ordering_then, is_lt}
 use Rattle.std.specs.declared.cmp.Ordering.{Ordering}
@@ -159,3 +159,8 @@ not_there xs x i room (k, within, is) =
       | inl before ↦ not_before_itself x (room.before k x before at)
       | inr behind ↦ not_before_itself x (room.after k x behind at)
     ]
+
+-- what a search answers tells whether the place is there
+pub search_tells : (xs : List Tid) (x : Tid) (r : Result ℕ ℕ) → IfOk r (λ i. slice_get xs i ≡ Some x) → IfErr r (IsRoomFor xs x) → IsTrue (is_ok r) ↔ Contains xs x
+search_tells xs x (Ok i) found absent = (λ yes. (i, slice_get_within xs i x found, get_or_from_slice_get xs i x x found), λ there. refl)
+search_tells xs x (Err i) found absent = (λ yes. absurd (cc yes), λ there. absurd (not_there xs x i absent there))

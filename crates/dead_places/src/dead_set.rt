@@ -7,6 +7,7 @@ ghost use Rattle.arrayvec.specs.ArrayVec.{array_vec_len};
 ghost use Rattle.xid_circle.specs.declared.Tid.{Tid as Place};
 ghost use Rattle.dead_places.specs.Places.{PlacePrecedes, AreAscending, AddsPlace, IsRoomFor};
 
+use crate::marks::{MARKS, note, place_mark};
 use crate::order::compare_places;
 use arrayvec::ArrayVec;
 use std::cmp::Ordering;
@@ -20,18 +21,22 @@ pub const MOST_PLACES: usize = 4096;
 #[derive(Debug, Drop)]
 pub struct DeadSet {
     tids: ArrayVec<Tid, MOST_PLACES>,
+    // For each mark 0 where no place has it, else a hint: how many places there were once one of this mark was added. Where they come in
+    // their order, that is its number, counted from 1.
+    marks: [u16; MARKS],
 }
 
 impl Model for DeadSet {
     ghost use Rattle.std.specs.Prelude.{List};
     ghost use Rattle.xid_circle.specs.declared.Tid.{Tid as Seen};
     ghost use Rattle.dead_places.specs.Places.{AreAscending};
+    ghost use Rattle.dead_places.specs.Marks.{HaveMarks};
 
     ghost Value = { List Seen };
 
     ghost view = { λ s. s.tids.items };
 
-    ghost invariant = { λ s. AreAscending s.tids.items };
+    ghost invariant = { λ s. AreAscending s.tids.items × HaveMarks s.tids.items s.marks };
 }
 
 impl DeadSet {
@@ -41,6 +46,7 @@ impl DeadSet {
     {
         DeadSet {
             tids: ArrayVec::new(),
+            marks: [0; MARKS],
         }
     }
 
@@ -95,11 +101,16 @@ impl DeadSet {
         place_at(self.tids.as_slice(), self.tids.len().saturating_sub(1))
     }
 
-    /// Whether this place is among them.
+    /// Whether this place is among them. Where no other place has its mark and they came in their order, that takes two looks.
+    #[inline(always)]
     pub fn contains(&self, tid: Tid) -> bool
         ensures { IsTrue result ↔ Contains self.now tid }
     {
-        look_for(self.tids.as_slice(), &tid, None).0
+        let hint = self.marks[place_mark(tid)];
+        if hint == 0 {
+            return false;
+        }
+        is_among(self.tids.as_slice(), tid, hint)
     }
 
     /// Adds a place. One that is there already stays there once. It takes constant time where the place is above all others. (The list is
@@ -110,6 +121,7 @@ impl DeadSet {
         ensures last { All (λ t. PlacePrecedes t tid) self.old → self.new ≡ self.old ++ tid ∷ [] }
     {
         put(&mut self.tids, tid);
+        note(&mut self.marks, tid, self.tids.len() as u16);
     }
 
     /// Takes all places out.
@@ -117,6 +129,7 @@ impl DeadSet {
         ensures { self.new ≡ [] }
     {
         self.tids.clear();
+        self.marks = [0; MARKS];
     }
 
     /// The places in their order.
@@ -135,54 +148,48 @@ fn place_at(tids: &[Tid], number: usize) -> Option<Tid>
 }
 
 /// The number of this place, or the one that it would have, by halving.
-fn halve(tids: &[Tid], sought: &Tid) -> Result<usize, usize>
-    requires { AreAscending tids.now }
-    ensures found { IfOk result (λ i. slice_get tids.now i ≡ Some sought.now) }
-    ensures absent { IfErr result (IsRoomFor tids.now sought.now) }
-{
-    search(tids, sought, tids.len() / 2, usize::MAX)
-}
-
-/// The number of this place, or the one that it would have. It looks first at this number, and then beside what it saw, four times as far
-/// each time, but never farther than halving would.
-fn search(tids: &[Tid], sought: &Tid, near: usize, far: usize) -> Result<usize, usize>
+fn search(tids: &[Tid], sought: &Tid) -> Result<usize, usize>
     requires { AreAscending tids.now }
     ensures found { IfOk result (λ i. slice_get tids.now i ≡ Some sought.now) }
     ensures absent { IfErr result (IsRoomFor tids.now sought.now) }
 {
     let mut low = 0;
     let mut high = tids.len();
-    let mut number = near.min(high.saturating_sub(1));
-    let mut reach = far;
     while low < high {
-        match compare_places(&tids[number], sought) {
-            Ordering::Equal => return Ok(number),
-            Ordering::Less => {
-                low = number + 1;
-                number = low + ((high - low) / 2).min(reach);
-            }
-            Ordering::Greater => {
-                high = number;
-                number = high.saturating_sub(((high - low) / 2).min(reach) + 1);
-            }
+        let middle = low + (high - low) / 2;
+        match compare_places(&tids[middle], sought) {
+            Ordering::Equal => return Ok(middle),
+            Ordering::Less => low = middle + 1,
+            Ordering::Greater => high = middle,
         }
-        reach = reach.wrapping_mul(4).wrapping_add(3);
     }
     Err(low)
 }
 
-/// Whether the place is one of these, and at which number one behind it would best be looked for. Where a number is given it is looked for
-/// there first, and then beside it.
-pub fn look_for(tids: &[Tid], tid: &Tid, near: Option<usize>) -> (bool, usize)
+/// Whether the place is one of these, by halving.
+#[inline(never)]
+fn is_found(tids: &[Tid], tid: Tid) -> bool
     requires { AreAscending tids.now }
-    ensures { IsTrue result.0 ↔ Contains tids.now tid.now }
+    ensures { IsTrue result ↔ Contains tids.now tid }
 {
-    // four times as far each time, beginning with 0 or with all
-    let far = if near.is_some() { 0 } else { usize::MAX };
-    match search(tids, tid, near.unwrap_or(tids.len() / 2), far) {
-        Ok(number) => (true, number.saturating_add(1)),
-        Err(number) => (false, number),
-    }
+    search(tids, &tid).is_ok()
+}
+
+/// Whether the place is the one of this number.
+#[inline(always)]
+fn stands_at(tids: &[Tid], number: usize, tid: Tid) -> bool
+    ensures { OnTrue result (Contains tids.now tid) }
+{
+    number < tids.len() && tids[number] == tid
+}
+
+/// Whether the place is one of these. It is looked for where the hint says, and then by halving.
+#[inline(always)]
+fn is_among(tids: &[Tid], tid: Tid, hint: u16) -> bool
+    requires { AreAscending tids.now }
+    ensures { IsTrue result ↔ Contains tids.now tid }
+{
+    stands_at(tids, hint.wrapping_sub(1) as usize, tid) || is_found(tids, tid)
 }
 
 /// Whether the place is above all these.
@@ -205,7 +212,7 @@ fn number_for(tids: &[Tid], tid: &Tid) -> Option<usize>
     if is_above(tids, tid) {
         return Some(tids.len());
     }
-    match halve(tids, tid) {
+    match search(tids, tid) {
         Ok(_) => None,
         Err(number) => Some(number),
     }
