@@ -1,5 +1,5 @@
 -- Places by their numbers, and what lies in a gap.
-use Rattle.std.proofs.Common.{◌≡◌, ◌∙◌, ℕ, ◌+◌, ◌-◌, ◌*◌, ◌/◌, ◌%◌, ◌<◌, ◌≤◌, not, inl, inr, ℤ, List, [], ◌∷◌, length, get_or, take, true, Bool, Some, slice_get, sym, ap, subst, arith, Contains}
+use Rattle.std.proofs.Common.{◌≡◌, ◌∙◌, ℕ, ◌+◌, ◌-◌, ◌*◌, ◌/◌, ◌%◌, ◌<◌, ◌≤◌, ◌^◌, not, inl, inr, ℤ, List, [], ◌∷◌, length, get_or, take, drop, true, Bool, Some, Option, IfSome, slice_get, sym, ap, subst, arith, Contains}
 use Rattle.std.specs.List.{All}
 use Rattle.std.specs.Cmp.{nat_cmp_is}
 use Rattle.std.specs.Ordering.{nat_cmp, ordering_then, is_lt}
@@ -7,6 +7,7 @@ use Rattle.std.specs.declared.cmp.Ordering.{Ordering}
 use Rattle.std.specs.declared.cmp.Ordering.TheVariants.{Less, Equal}
 use Rattle.std.proofs.lemmas.Bool.{cases_lt}
 use Rattle.std.proofs.lemmas.Cmp.{ranked}
+use Rattle.std.proofs.lemmas.List.{length-take, length-drop, get_or-take, get_or-drop}
 use Rattle.std.proofs.lemmas.List.Elements.{All-cons, All-head, All-tail, All-weaker, All-more}
 use Rattle.std.proofs.lemmas.Option.{slice_get-get_or}
 use Rattle.xid_circle.specs.declared.Tid.{Tid}
@@ -16,7 +17,7 @@ use Rattle.index_entries.specs.declared.entry.Entry.{Entry}
 use Rattle.entry_columns.specs.declared.gap.Gap.{Gap}
 use Rattle.entry_columns.specs.declared.short_tid.ShortTid.{ShortTid}
 use Rattle.entry_columns.specs.Columns.{long, entry_with, entries_with}
-use Rattle.entry_columns.specs.Gaps.{IsInside, AreOutside}
+use Rattle.entry_columns.specs.Gaps.{IsInside, AreOutside, AreOutsideFrom}
 
 -- Numbers have the order of places.
 
@@ -142,3 +143,22 @@ to_greatest xs last p up at there =
       | inl earlier ↦ behind_of last p (ascending-at xs q.0 (length xs - 1) (long p) last up earlier q.2 at)
       | inr other ↦ let same = number_is last p (same_number xs (length xs - 1) q.0 last (long p) (omega (arith, other, q.1)) at q.2) in omega (arith, same)
     ]
+
+-- Eight places more are outside.
+
+pub outside_more : (ps : List ShortTid) (from place many least more ahead : ℕ) → place + many ≤ length ps → more < ahead → AreOutsideFrom ps from place least more
+    → All (λ (p : ShortTid). p.number < 2 ^ 32) (take (place + many - place) (drop place ps)) → AreAhead least ahead (take (place + many - place) (drop place ps))
+    → AreOutsideFrom ps from (place + many) least more
+outside_more ps from place many least more ahead end past so_far small far = λ i first last. elim (cases_lt i place) [
+  | inl before ↦ so_far i first before
+  | inr after ↦
+      let none : ShortTid = record { number = 0 } in
+      let part = take (place + many - place) (drop place ps) in
+      let k = i - place in
+      let within : k < length part = omega (arith, after, last, end, length-take (place + many - place) (drop place ps), length-drop place ps) in
+      let same : get_or part k none ≡ get_or ps i none =
+      get_or-take (place + many - place) (drop place ps) k none (omega (arith, after, last)) ∙ get_or-drop place ps k none ∙ ap (λ j. get_or ps j none) (omega (arith, after)) in
+      let at : slice_get ps i ≡ Some (get_or part k none) = slice_get-get_or ps i none (omega (arith, last, end)) ∙ ap Some (sym same) in
+      subst (λ (o : Option ShortTid). IfSome o (λ (p : ShortTid). (p.number < 2 ^ 32) × (least ≤ p.number → least + more < p.number))) (sym at)
+      (small k none within, λ least_first. let far_too = far k none within least_first in omega (arith, far_too, past))
+]

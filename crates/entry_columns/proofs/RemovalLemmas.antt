@@ -1,5 +1,5 @@
 -- A removal goes over the entries, one after another: those so far that stay stand in front.
-use Rattle.std.proofs.Common.{◌≡◌, ◌↔◌, ◌∙◌, ℕ, zero, suc, ◌+◌, ◌<◌, ◌≤◌, ℤ, List, [], ◌∷◌, ◌++◌, length, get_or, take, drop, set, cond, not, Bool, true, false, IsTrue, Option, IfSome, slice_get, pos, sym, ap, refl, subst, arith, Contains}
+use Rattle.std.proofs.Common.{◌≡◌, ◌↔◌, ◌∙◌, ℕ, zero, suc, ◌+◌, ◌-◌, ◌<◌, ◌≤◌, ◌^◌, Some, ℤ, List, [], ◌∷◌, ◌++◌, length, get_or, take, drop, set, cond, not, Bool, true, false, IsTrue, Option, IfSome, slice_get, pos, sym, ap, refl, subst, arith, Contains}
 use Rattle.std.specs.List.{filter, remove}
 use Rattle.std.proofs.lemmas.List.{append_assoc, append-nil, length-set, take_all, take_more, take_more_set, drop-set-lt, drop_more, drop_all}
 use Rattle.std.proofs.lemmas.Option.{get_or_from_slice_get, slice_get-get_or}
@@ -9,6 +9,7 @@ use Rattle.index_entries.specs.Lists.{stays}
 use Rattle.index_entries.proofs.SetLemmas.{dead-is}
 use Rattle.entry_columns.specs.declared.short_tid.ShortTid.{ShortTid}
 use Rattle.entry_columns.specs.Columns.{long, entry_with, entries_with}
+use Rattle.entry_columns.specs.Gaps.{AreNumberedWithin, AreOutsideFrom}
 use Rattle.entry_columns.proofs.ColumnLemmas.{counts, entries_with-at, entries_with-set}
 
 -- One entry.
@@ -96,6 +97,40 @@ pub none_yet : {L : Type 0} (value : L → ℤ) (key : L → ℕ) (ls : List L) 
 none_yet value key ls ps xs place from p dead b d alike is within at says alive so_far =
     let fate = subst (λ ys. b ≡ not (stays dead (get_or ys place d))) is (fate_at value key ls ps place d p dead b (omega (arith, within, (counts value key ls ps xs alike is).0)) alike at says) in
     kept_there (stays dead) xs place d within (stays_from b (stays dead (get_or xs place d)) fate alive) ∙ so_far
+
+-- a place outside of all numbers of dead places is none of these
+not_dead : (ps : List ShortTid) (i from to least more : ℕ) (p : ShortTid) (dead : List Tid) → AreNumberedWithin dead least more → AreOutsideFrom ps from to least more
+    → from ≤ i → i < to → slice_get ps i ≡ Some p → ¬ Contains dead (long p)
+not_dead ps i from to least more p dead within outside first last at there =
+    let here = subst (λ (o : Option ShortTid). IfSome o (λ (q : ShortTid). (q.number < 2 ^ 32) × (least ≤ q.number → least + more < q.number))) at (outside i first last) in
+    let inside = within p here.0 there in
+    absurd (let past = here.1 inside.0 in omega (arith, past, inside.1))
+
+-- so the entries there stay
+none_among : {L : Type 0} (value : L → ℤ) (key : L → ℕ) (ls : List L) (ps : List ShortTid) (xs : List Entry) (from many least more : ℕ) (dead : List Tid)
+    → length ls ≡ length ps → entries_with value key ls ps ≡ xs → from + many ≤ length ps → AreNumberedWithin dead least more → AreOutsideFrom ps from (from + many) least more
+    → take (from + many) xs ++ filter (stays dead) (drop (from + many) xs) ≡ take from xs ++ filter (stays dead) (drop from xs)
+none_among value key ls ps xs from zero least more dead alike is end within outside = ap (λ n. take n xs ++ filter (stays dead) (drop n xs)) (omega arith)
+none_among value key ls ps xs from (suc many) least more dead alike is end within outside =
+    let place = from + many in
+    let none : ShortTid = record { number = 0 } in
+    let entry : Entry = record { value = pos 0; key = 0; tid = record { page = 0; slot = 0 } } in
+    let p = get_or ps place none in
+    let at : slice_get ps place ≡ Some p = slice_get-get_or ps place none (omega (arith, end)) in
+    let here = get_or_from_slice_get ps place p p at in
+    let long_too = counts value key ls ps xs alike is in
+    let alive = not_dead ps place from (from + suc many) least more p dead within outside (omega arith) (omega arith) at in
+    ap (λ n. take n xs ++ filter (stays dead) (drop n xs)) (omega arith)
+    ∙ none_yet value key ls ps xs place from p dead false entry alike is (omega (arith, end, long_too.1)) (sym here) ((λ no. absurd (cc no)), (λ there. absurd (alive there))) refl
+    (none_among value key ls ps xs from many least more dead alike is (omega (arith, end)) within (λ i first last. outside i first (omega (arith, last))))
+
+pub none_between : {L : Type 0} (value : L → ℤ) (key : L → ℕ) (ls : List L) (ps : List ShortTid) (xs : List Entry) (from to least more : ℕ) (dead : List Tid)
+    → length ls ≡ length ps → entries_with value key ls ps ≡ xs → from ≤ to → to ≤ length ps → AreNumberedWithin dead least more → AreOutsideFrom ps from to least more
+    → take to xs ++ filter (stays dead) (drop to xs) ≡ take from xs ++ filter (stays dead) (drop from xs)
+none_between value key ls ps xs from to least more dead alike is order end within outside =
+    let whole : from + (to - from) ≡ to = omega (arith, order) in
+    ap (λ n. take n xs ++ filter (stays dead) (drop n xs)) (sym whole)
+    ∙ none_among value key ls ps xs from (to - from) least more dead alike is (omega (arith, order, end)) within (subst (λ n. AreOutsideFrom ps from n least more) (sym whole) outside)
 
 -- there is one
 pub dead_there : {L : Type 0} (value : L → ℤ) (key : L → ℕ) (ls : List L) (ps : List ShortTid) (xs : List Entry) (place : ℕ) (p : ShortTid) (dead : List Tid) (d : Entry)

@@ -1,6 +1,6 @@
 //! Columns of entries.
 
-ghost use Rattle.std.specs.Prelude.{◌≡◌, ◌<◌, ◌≤◌, ◌+◌, ◌*◌, ◌++◌, [], ◌↔◌, length, take, drop, IfOk, IfSome, IsTrue, Some, false, slice_get, vec_len, vec_capacity, Contains};
+ghost use Rattle.std.specs.Prelude.{◌≡◌, ◌<◌, ◌≤◌, ◌+◌, ◌-◌, ◌*◌, ◌^◌, ◌++◌, min, [], ◌↔◌, length, take, drop, IfOk, IfSome, IsTrue, Some, false, slice_get, vec_len, vec_capacity, Contains};
 ghost use Rattle.std.specs.List.{All, HoldsAt, insert, remove, filter};
 ghost use Rattle.std.specs.Ordering.{is_lt};
 ghost use Rattle.index_entries.specs.Order.{comparison};
@@ -8,13 +8,13 @@ ghost use Rattle.index_entries.specs.Lists.{stays};
 ghost use Rattle.dead_places.specs.Places.{AreAscending};
 ghost use Rattle.entry_columns.specs.Fits.{Fits};
 ghost use Rattle.entry_columns.specs.Columns.{entries_with, long};
-ghost use Rattle.entry_columns.specs.Gaps.{AreOutside, AreNumberedWithin};
+ghost use Rattle.entry_columns.specs.Gaps.{AreOutside, AreNumberedWithin, AreOutsideFrom};
 ghost use Rattle.entry_columns.specs.declared.short_tid.ShortTid.{ShortTid as Short};
 
 use crate::gap::{Gap, between};
 use crate::label::Label;
 use crate::short_tid::{PAGES, ShortTid};
-use dead_places::look_for;
+use dead_places::DeadSet;
 use index_entries::{Entry, HALF, MOST_PARTS, compare};
 use std::alloc::{AllocError, Global};
 use std::marker::Model;
@@ -151,9 +151,8 @@ impl<L: Label> EntryColumns<L> {
     }
 
     /// The first place, from this one on, of an entry that leads to a dead place; the end, where none does.
-    fn next_dead(&self, from: usize, dead: &[Tid]) -> usize
-        requires in_range { from ≤ length self.now.entries }
-        requires ascending { AreAscending dead.now }
+    fn next_dead(&self, from: usize, dead: &DeadSet) -> usize
+        requires { from ≤ length self.now.entries }
         ensures in_range { result ≤ length self.now.entries }
         ensures dead { IfSome (slice_get self.now.entries result) (λ e. Contains dead.now e.tid) }
         ensures kept { take result self.now.entries
@@ -162,15 +161,14 @@ impl<L: Label> EntryColumns<L> {
             ++ filter (stays dead.now) (drop from self.now.entries) }
     {
         let span = span_of(dead);
-        let mut near = None;
-        for place in from..self.places.len() {
-            let (gone, next) = is_dead(dead, span, near, self.places[place]);
-            near = next;
-            if gone {
+        let mut place = next_within(&self.places, from, span);
+        while place < self.places.len() {
+            if dead.contains(self.places[place].long()) {
                 return place;
             }
+            place = next_within(&self.places, place + 1, span);
         }
-        self.places.len()
+        place
     }
 
     /// Places to which no entry leads: those behind these, up to the first that one leads to.
@@ -183,21 +181,16 @@ impl<L: Label> EntryColumns<L> {
         between(from, from.saturating_add(ahead))
     }
 
-    /// Reads places, one in each line of memory.
+    /// Reads labels and places, one in each line of memory.
     #[inline(always)]
     pub fn touch(&self) -> u32 {
-        let mut touched = 0u32;
-        for line in 0..self.places.len() / 16 {
-            touched = touched.wrapping_add(self.places[line * 16].number());
-        }
-        touched
+        touched_labels(&self.labels).wrapping_add(touched_places(&self.places))
     }
 
     /// Removes the entries to dead places from this place on, and moves those behind them up. Says whether there were any.
     #[inline(never)]
-    pub fn remove_dead(&mut self, from: usize, dead: &[Tid]) -> bool
-        requires in_range { from ≤ length self.old.entries }
-        requires ascending { AreAscending dead.now }
+    pub fn remove_dead(&mut self, from: usize, dead: &DeadSet) -> bool
+        requires { from ≤ length self.old.entries }
         ensures entries { self.new.entries
             ≡ take from self.old.entries
             ++ filter (stays dead.now) (drop from self.old.entries) }
@@ -230,9 +223,8 @@ impl<L: Label> EntryColumns<L> {
     }
 
     /// Removes the entries to dead places from this place on, one after another.
-    fn remove_more(&mut self, from: usize, dead: &[Tid])
-        requires in_range { from ≤ length self.old.entries }
-        requires ascending { AreAscending dead.now }
+    fn remove_more(&mut self, from: usize, dead: &DeadSet)
+        requires { from ≤ length self.old.entries }
         ensures entries { self.new.entries
             ≡ take from self.old.entries
             ++ filter (stays dead.now) (drop from self.old.entries) }
@@ -240,13 +232,10 @@ impl<L: Label> EntryColumns<L> {
         ensures room { self.old.room ≤ self.new.room }
     {
         let span = span_of(dead);
-        let mut near = None;
         let mut kept = from;
         for place in from..self.places.len() {
             let tid = self.places[place];
-            let (gone, next) = is_dead(dead, span, near, tid);
-            near = next;
-            if !gone {
+            if !is_dead(dead, span, tid) {
                 self.labels[kept] = self.labels[place];
                 self.places[kept] = tid;
                 kept += 1;
@@ -318,7 +307,8 @@ fn number_behind(tids: &[Tid]) -> u32 {
 
 /// How far the first of these numbers is ahead of this one, at least. Those before it count as far ahead, so several places take one test.
 fn least_ahead(places: &[ShortTid], from: u32) -> u32
-    ensures { All (λ p. from ≤ p.number → from + result ≤ p.number) places.now }
+    ensures numbers { All (λ p. p.number < 2 ^ 32) places.now }
+    ensures ahead { All (λ p. from ≤ p.number → from + result ≤ p.number) places.now }
 {
     let mut ahead = u32::MAX;
     for place in 0..places.len() {
@@ -328,21 +318,52 @@ fn least_ahead(places: &[ShortTid], from: u32) -> u32
     ahead
 }
 
+/// The first of these places, from this one on, that may be one of those; the end, where none may.
+fn next_within(places: &[ShortTid], from: usize, span: Span) -> usize
+    requires { from ≤ length places.now }
+    ensures from { from ≤ result }
+    ensures end { result ≤ length places.now }
+    ensures outside { AreOutsideFrom places.now from result span.least span.more }
+{
+    let mut place = past_eights(places, from, span);
+    while place < places.len() && !is_within(span, places[place]) {
+        place += 1;
+    }
+    place
+}
+
+/// Passes over eight places at once, from this one on, as long as none of them may be one of those.
+fn past_eights(places: &[ShortTid], from: usize, span: Span) -> usize
+    requires { from ≤ length places.now }
+    ensures from { from ≤ result }
+    ensures end { result ≤ length places.now }
+    ensures outside { AreOutsideFrom places.now from result span.least span.more }
+{
+    let mut place = from;
+    while places.len() - place >= 8 {
+        if least_ahead(&places[place..place + 8], span.least) <= span.more {
+            break;
+        }
+        place += 8;
+    }
+    place
+}
+
 /// Numbers from one on, up to so many behind it.
 #[derive(Clone, Copy, Debug)]
 struct Span {
-    least: u64,
-    more: u64,
+    least: u32,
+    more: u32,
 }
 
 /// The numbers from that of the first of these places to that of the last.
 #[inline(always)]
-fn span_of(dead: &[Tid]) -> Span
-    requires { AreAscending dead.now }
+fn span_of(dead: &DeadSet) -> Span
     ensures { AreNumberedWithin dead.now result.least result.more }
 {
-    let least = least_number(dead);
-    let greatest = greatest_number(dead);
+    dead.fact_ascending();
+    let least = least_number(dead.as_slice());
+    let greatest = greatest_number(dead.as_slice());
     Span {
         least,
         more: greatest.wrapping_sub(least),
@@ -351,9 +372,9 @@ fn span_of(dead: &[Tid]) -> Span
 
 /// The number of the first of these places.
 #[inline(always)]
-fn least_number(dead: &[Tid]) -> u64
+fn least_number(dead: &[Tid]) -> u32
     requires { AreAscending dead.now }
-    ensures { (p : Short) → Contains dead.now (long p) → result ≤ p.number }
+    ensures { (p : Short) → p.number < 2 ^ 32 → Contains dead.now (long p) → result ≤ p.number }
 {
     match dead.first() {
         Some(first) => number_of(first),
@@ -363,9 +384,9 @@ fn least_number(dead: &[Tid]) -> u64
 
 /// The number of the last of these places.
 #[inline(always)]
-fn greatest_number(dead: &[Tid]) -> u64
+fn greatest_number(dead: &[Tid]) -> u32
     requires { AreAscending dead.now }
-    ensures { (p : Short) → Contains dead.now (long p) → p.number ≤ result }
+    ensures { (p : Short) → p.number < 2 ^ 32 → Contains dead.now (long p) → p.number ≤ result }
 {
     match dead.last() {
         Some(last) => number_of(last),
@@ -373,26 +394,58 @@ fn greatest_number(dead: &[Tid]) -> u64
     }
 }
 
-/// The number of this place, be it on one of the pages that are told apart or not.
+/// The number of this place; the greatest of all, where it is on none of the pages that are told apart.
 #[inline(always)]
-fn number_of(tid: &Tid) -> u64
-    ensures value { result ≡ tid.now.page * 65536 + tid.now.slot }
+fn number_of(tid: &Tid) -> u32
+    ensures value { result ≡ min (tid.now.page * 65536 + tid.now.slot) (2 ^ 32 - 1) }
     ensures slot { tid.now.slot < 65536 }
 {
     let slot = tid.slot;
-    u64::from(tid.page) * 65_536 + u64::from(slot)
+    let number = u64::from(tid.page) * 65_536 + u64::from(slot);
+    u32::try_from(number).unwrap_or(u32::MAX)
 }
 
-/// Whether this place is dead, and at which number one behind it would best be looked for. Most are told by one test.
+/// Whether the number of this place is one of these.
 #[inline(always)]
-fn is_dead(dead: &[Tid], span: Span, near: Option<usize>, place: ShortTid) -> (bool, Option<usize>)
-    requires ascending { AreAscending dead.now }
-    requires within { AreNumberedWithin dead.now span.least span.more }
-    ensures { IsTrue result.0 ↔ Contains dead.now (long place) }
+fn is_within(span: Span, place: ShortTid) -> bool
+    ensures number { place.number < 2 ^ 32 }
+    ensures outside { result ≡ false → span.least ≤ place.number
+        → span.least + span.more < place.number }
 {
-    if u64::from(place.number()).wrapping_sub(span.least) > span.more {
-        return (false, near);
+    place.number().wrapping_sub(span.least) <= span.more
+}
+
+/// Whether this place is dead. Most are told by their numbers.
+#[inline(always)]
+fn is_dead(dead: &DeadSet, span: Span, place: ShortTid) -> bool
+    requires { AreNumberedWithin dead.now span.least span.more }
+    ensures { IsTrue result ↔ Contains dead.now (long place) }
+{
+    is_within(span, place) && dead.contains(place.long())
+}
+
+/// Reads one of these labels of each line of memory.
+#[inline(always)]
+fn touched_labels<L: Label>(labels: &[L]) -> u32 {
+    let mut touched = match labels.last() {
+        Some(last) => last.key(),
+        None => 0,
+    };
+    for line in 0..labels.len() / 8 {
+        touched = touched.wrapping_add(labels[line * 8].key());
     }
-    let (gone, next) = look_for(dead, &place.long(), near);
-    (gone, Some(next))
+    (touched % 65_536) as u32
+}
+
+/// Reads one of these places of each line of memory.
+#[inline(always)]
+fn touched_places(places: &[ShortTid]) -> u32 {
+    let mut touched = match places.last() {
+        Some(last) => last.number(),
+        None => 0,
+    };
+    for line in 0..places.len() / 16 {
+        touched = touched.wrapping_add(places[line * 16].number());
+    }
+    touched
 }

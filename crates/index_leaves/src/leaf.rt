@@ -193,11 +193,10 @@ impl<L: Label> Node for Leaf<L> {
         }
         let last = self.last;
         dead.fact_ascending();
-        let dead = dead.as_slice();
-        if holds(self.gap, dead) {
+        if holds(self.gap, dead.as_slice()) {
             return Some(none_removed(last, count));
         }
-        self.gap = self.entries.gap_behind(dead);
+        self.gap = self.entries.gap_behind(dead.as_slice());
         if !self.entries.remove_dead(position, dead) {
             return Some(none_removed(last, count));
         }

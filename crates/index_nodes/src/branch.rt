@@ -10,6 +10,7 @@ use dead_places::DeadSet;
 use index_entries::{Entry, HALF, Half, MOST_PARTS, Node, Swept};
 use std::alloc::{AllocError, Global};
 use std::marker::Model;
+use std::mem;
 
 /// At most 128 nodes. There is always room for all of them in memory.
 #[derive(Debug, Drop)]
@@ -197,21 +198,24 @@ impl<N: Node> Node for Branch<N> {
     ghost fewer = { λ spares k left. (omega (arith, left.0), N.fewer spares.below k left.1) };
 }
 
-/// Moves all of 128 nodes but the first 64. There is room for them in memory.
+/// Moves all of 128 nodes but the first 64 to another list. There is room for them in memory. Where keys come in order no node is added to
+/// the lower half any more. So it gets the list that was empty, whose second half is never written then, and the upper half keeps the other.
 fn move_half<N: Node>(lower: &mut Vec<N>, upper: &mut Vec<N>)
     requires full { length lower.old.items ≡ MOST_PARTS }
     requires none { upper.old.items ≡ [] }
     requires room { MOST_PARTS ≤ vec_capacity upper.old }
     ensures nodes { lower.new.items ++ upper.new.items ≡ lower.old.items }
     ensures half { length lower.new.items ≡ HALF }
-    ensures capacity { vec_capacity lower.old ≤ vec_capacity lower.new }
-    ensures capacity_too { vec_capacity upper.old ≤ vec_capacity upper.new }
+    ensures capacity { MOST_PARTS ≤ vec_capacity lower.new }
+    ensures capacity_too { vec_capacity lower.old ≤ vec_capacity upper.new }
 {
-    for _ in HALF..MOST_PARTS {
-        if let Some(node) = lower.pop() {
-            upper.push_reserved(node);
+    mem::swap(lower, upper);
+    // so the first is taken first
+    upper.reverse();
+    for _ in 0..HALF {
+        if let Some(node) = upper.pop() {
+            lower.push_reserved(node);
         }
     }
-    // they came the last first
     upper.reverse();
 }

@@ -11,7 +11,7 @@ pub returns : goal.returns
 returns g c =
     let gap = c.between.result in
     let ps = c.self.inside.places.items in
-    let far : AreAhead c.number_behind-from.result c.least_ahead-ahead.result ps = subst (AreAhead c.number_behind-from.result c.least_ahead-ahead.result) c.deref.ensures.value c.least_ahead-ahead.ensures in
+    let far : AreAhead c.number_behind-from.result c.least_ahead-ahead.result ps = subst (AreAhead c.number_behind-from.result c.least_ahead-ahead.result) c.deref.ensures.value c.least_ahead-ahead.ensures.ahead in
     let ahead : All (λ (p : ShortTid). gap.from.number ≤ p.number → gap.to.number ≤ p.number) ps = λ k d within from.
     let far_too = far k d within (omega (arith, from, c.between.ensures.from)) in
     omega (arith, far_too, c.between.ensures.to, c.saturating_add.ensures) in

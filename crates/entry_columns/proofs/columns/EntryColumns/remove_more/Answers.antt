@@ -8,7 +8,7 @@ use Rattle.index_entries.specs.Lists.{stays}
 use Rattle.entry_columns.proofs.ColumnLemmas.{counts, entries_with-front}
 use Rattle.entry_columns.proofs.RemovalLemmas.{IsRemoving, removing_one, keeping_one, at_end}
 use Rattle.entry_columns.proofs.columns.EntryColumns.remove_more.Goals as goal
-use Rattle.entry_columns.proofs.columns.EntryColumns.remove_more.Goals.{then-not-gone, else-not-gone}
+use Rattle.entry_columns.proofs.columns.EntryColumns.remove_more.Goals.{then-not-is_dead, else-not-is_dead}
 
 pub loop-place-init : goal.loop-place-init
 loop-place-init g c =
@@ -32,8 +32,8 @@ index_mut-requires g c =
     let many = counts g.L.Label.value_of g.L.Label.key_of c.self.inside.labels.items c.self.inside.places.items c.args.self.now.entries c.self.invariant.alike (ap (λ (v : ColumnsView). v.entries) c.self.view_is) in
     omega (arith, so_far.order, so_far.labels, many.1, c.loop-place-test.true, c.len-place-end.ensures)
 
-pub index_mut-requires-then-not-gone : goal.index_mut-requires-then-not-gone
-index_mut-requires-then-not-gone g c =
+pub index_mut-requires-then-not-is_dead : goal.index_mut-requires-then-not-is_dead
+index_mut-requires-then-not-is_dead g c =
     let so_far = c.loop-place.invariant in
     let many = counts g.L.Label.value_of g.L.Label.key_of c.self.inside.labels.items c.self.inside.places.items c.args.self.now.entries c.self.invariant.alike (ap (λ (v : ColumnsView). v.entries) c.self.view_is) in
     omega (arith, so_far.order, so_far.places, many.1, c.loop-place-test.true, c.len-place-end.ensures)
@@ -46,14 +46,14 @@ loop-place-preserved g c =
     let Removing : ℕ → Inside g.row.L.Denot → Type 0 = λ kept inside.
     IsRemoving g.L.Label.value_of g.L.Label.key_of c.args.dead.now c.args.self.now.entries c.args.self.now.room c.args.from kept (c.loop-place.place + 1) inside.labels.items inside.places.items (vec_capacity inside.labels)
     (vec_capacity inside.places) in
-    elim c.if-not-gone.branch [
-      | then-not-gone w ↦ subst (λ kept. Removing kept c.if-not-gone.self-inside) (sym w.kept-is) (subst (λ inside. Removing (c.loop-place.kept + 1) inside) (sym w.self-inside-is)
+    elim c.if-not-is_dead.branch [
+      | then-not-is_dead w ↦ subst (λ kept. Removing kept c.if-not-is_dead.self-inside) (sym w.kept-is) (subst (λ inside. Removing (c.loop-place.kept + 1) inside) (sym w.self-inside-is)
           (keeping_one g.L.Label.value_of g.L.Label.key_of c.args.dead.now c.args.self.now.entries c.args.self.now.room c.args.from c.loop-place.kept c.loop-place.place c.loop-place.self-inside.labels.items
-          c.loop-place.self-inside.places.items _ _ c.loop-place.invariant c.index-tid.result.now c.is_dead-gone.result.0 none within c.index-tid.ensures c.is_dead-gone.ensures
-          w.index.result.now _ _ _ _ w.if-not-gone.true w.index.ensures refl refl (omega arith) (omega arith)))
-      | else-not-gone w ↦ subst (λ kept. Removing kept c.if-not-gone.self-inside) (sym w.kept-is) (subst (λ inside. Removing c.loop-place.kept inside) (sym w.self-inside-is)
+          c.loop-place.self-inside.places.items _ _ c.loop-place.invariant c.index-tid.result.now c.is_dead.result none within c.index-tid.ensures c.is_dead.ensures
+          w.index.result.now _ _ _ _ w.if-not-is_dead.true w.index.ensures refl refl (omega arith) (omega arith)))
+      | else-not-is_dead w ↦ subst (λ kept. Removing kept c.if-not-is_dead.self-inside) (sym w.kept-is) (subst (λ inside. Removing c.loop-place.kept inside) (sym w.self-inside-is)
           (removing_one g.L.Label.value_of g.L.Label.key_of c.args.dead.now c.args.self.now.entries c.args.self.now.room c.args.from c.loop-place.kept c.loop-place.place c.loop-place.self-inside.labels.items
-          c.loop-place.self-inside.places.items _ _ c.loop-place.invariant c.index-tid.result.now c.is_dead-gone.result.0 none within c.index-tid.ensures c.is_dead-gone.ensures w.if-not-gone.false))
+          c.loop-place.self-inside.places.items _ _ c.loop-place.invariant c.index-tid.result.now c.is_dead.result none within c.index-tid.ensures c.is_dead.ensures w.if-not-is_dead.false))
     ]
 
 pub returns-clause-entries : goal.returns-clause-entries
