@@ -1,5 +1,5 @@
 -- The entries of a leaf and the places to which none of them leads: what stays, and who goes.
-use Rattle.std.proofs.Common.{◌≡◌, ◌∙◌, ℕ, ◌≤◌, List, [], ◌∷◌, length, take, drop, ◌++◌, cond, true, sym, ap, refl, Bool, Contains}
+use Rattle.std.proofs.Common.{◌≡◌, ◌∙◌, ℕ, List, [], ◌∷◌, take, drop, ◌++◌, cond, true, sym, ap, refl, Contains}
 use Rattle.std.specs.List.{insert, filter}
 use Rattle.std.proofs.lemmas.List.{take-append-drop}
 use Rattle.std.proofs.lemmas.List.Elements.{All-cons, All-head, All-tail, All-same, All-append, All-take, All-drop, All-filter, All-weaker}

@@ -193,10 +193,11 @@ impl<L: Label> Node for Leaf<L> {
         }
         let last = self.last;
         dead.fact_ascending();
-        if holds(self.gap, dead.as_slice()) {
+        let places = dead.as_slice();
+        if holds(self.gap, places) {
             return Some(none_removed(last, count));
         }
-        self.gap = self.entries.gap_behind(dead.as_slice());
+        self.gap = self.entries.gap_behind(places);
         if !self.entries.remove_dead(position, dead) {
             return Some(none_removed(last, count));
         }

@@ -19,7 +19,7 @@ returns-then-holds-clause-swept g c =
     let swept = c.none_removed.result in
     let within : c.args.position < length xs = omega (arith, c.len-count.ensures.value, c.if-position-count.false) in
     let last : slice_get xs (length xs - 1) ≡ Some swept.last = c.self.invariant.last_apart (omega (arith, within)) ∙ ap Some (sym c.none_removed.ensures.last) in
-    let inside = subst (λ (ts : List Tid). (t : Tid) → Contains ts t → IsInside gap t) c.as_slice-dead.ensures (OnTrue_at c.if-holds.true c.holds.ensures) in
+    let inside = subst (λ (ts : List Tid). (t : Tid) → Contains ts t → IsInside gap t) c.as_slice-places.ensures (OnTrue_at c.if-holds.true c.holds.ensures) in
     let none : swept.removed + length xs ≡ length xs = omega (arith, c.none_removed.ensures.removed) in
     subst (λ (ys : List Entry). IsSwept ys ys c.args.position c.args.dead.now swept) (ap (λ (v : ColumnsView). v.entries) c.self.view_is)
     (swept_leaf xs xs c.args.position c.args.dead.now swept within (none_goes gap c.args.dead.now xs c.args.position c.self.invariant.outside inside) last none c.none_removed.ensures.more)
@@ -28,39 +28,35 @@ pub returns-then-not-remove_dead-clause-swept : goal.returns-then-not-remove_dea
 returns-then-not-remove_dead-clause-swept g c =
     let xs = c.self.inside.entries.entries in
     let ys = c.remove_dead.new.self.entries in
-    let near = c.as_slice-dead.result.now in
     let from = c.args.position in
     let swept = c.none_removed-then-not-remove_dead.result in
     let within : from < length xs = omega (arith, c.len-count.ensures.value, c.if-position-count.false) in
     let last : slice_get xs (length xs - 1) ≡ Some swept.last = c.self.invariant.last_apart (omega (arith, within)) ∙ ap Some (sym c.none_removed-then-not-remove_dead.ensures.last) in
     let same = ap (λ (v : ColumnsView). length v.entries) (c.remove_dead.ensures.none c.if-not-remove_dead.true) in
     let gone : swept.removed + length ys ≡ length xs = omega (arith, c.none_removed-then-not-remove_dead.ensures.removed, same) in
-    let made = subst (λ (ts : List Tid). ys ≡ take from xs ++ filter (stays ts) (drop from xs)) c.as_slice-dead.ensures c.remove_dead.ensures.entries in
     subst (λ (zs : List Entry). IsSwept zs ys from c.args.dead.now swept) (ap (λ (v : ColumnsView). v.entries) c.self.view_is)
-    (swept_leaf xs ys from c.args.dead.now swept within made last gone c.none_removed-then-not-remove_dead.ensures.more)
+    (swept_leaf xs ys from c.args.dead.now swept within c.remove_dead.ensures.entries last gone c.none_removed-then-not-remove_dead.ensures.more)
 
 pub invariant_of-self-2 : goal.invariant_of-self-2
 invariant_of-self-2 g c =
     let xs = c.self.inside.entries.entries in
     let ys = c.take_back.new.entries.entries in
-    let made : ys ≡ take c.args.position xs ++ filter (stays c.as_slice-dead.result.now) (drop c.args.position xs) = c.take_back.ensures.entries ∙ c.remove_dead.ensures.entries in
+    let made : ys ≡ take c.args.position xs ++ filter (stays c.args.dead.now) (drop c.args.position xs) = c.take_back.ensures.entries ∙ c.remove_dead.ensures.entries in
     record {
       apart = c.first_or-self-inside.ensures;
       last_apart = c.last_or-self-inside.ensures;
-      outside = outside_left c.gap_behind-self-inside.result c.as_slice-dead.result.now xs ys c.args.position c.gap_behind-self-inside.ensures made;
+      outside = outside_left c.gap_behind-self-inside.result c.args.dead.now xs ys c.args.position c.gap_behind-self-inside.ensures made;
     }
 
 pub returns-clause-swept : goal.returns-clause-swept
 returns-clause-swept g c =
     let xs = c.self.inside.entries.entries in
     let ys = c.take_back.new.entries.entries in
-    let near = c.as_slice-dead.result.now in
     let from = c.args.position in
     let swept : Swept ℕ = record { last = c.self.inside.last; at = c.saturating_sub.result; removed = c.len-count.result - c.len.result; more = false } in
     let within : from < length xs = omega (arith, c.len-count.ensures.value, c.if-position-count.false) in
     let last = c.self.invariant.last_apart (omega (arith, within)) in
     let gone : c.len-count.result - c.len.result + length ys ≡ length xs = omega (arith, c.len-count.ensures.value, c.len.ensures.value, c.remove_dead.ensures.shorter, ap length c.take_back.ensures.entries) in
-    let made : ys ≡ take from xs ++ filter (stays near) (drop from xs) = c.take_back.ensures.entries ∙ c.remove_dead.ensures.entries in
-    let made_too = subst (λ (ts : List Tid). ys ≡ take from xs ++ filter (stays ts) (drop from xs)) c.as_slice-dead.ensures made in
+    let made : ys ≡ take from xs ++ filter (stays c.args.dead.now) (drop from xs) = c.take_back.ensures.entries ∙ c.remove_dead.ensures.entries in
     subst (λ (zs : List Entry). IsSwept zs ys from c.args.dead.now swept) (ap (λ (v : ColumnsView). v.entries) c.self.view_is)
-    (swept_leaf xs ys from c.args.dead.now swept within made_too last gone refl)
+    (swept_leaf xs ys from c.args.dead.now swept within made last gone refl)
