@@ -122,11 +122,6 @@ MayCommit w s = (m : OpenSession) × IsReady w s m
 abbrev pub WouldCommit : World → ℕ → Transaction → Type 0
 WouldCommit w s t = (m : OpenSession) × IsReady w s m × (t ≡ joined m.levels)
 
--- a step that all tests let pass may end for want of memory, which leaves all but the session's wait as it is
-abbrev pub OrMemory : Refusal → Type 0 → Type 0 → Type 0
-OrMemory refusal.NoMemory taken reason = taken
-OrMemory why taken reason = reason
-
 -- Cursors.
 
 abbrev pub MayOpen : World → ℕ → Type 0

@@ -5,7 +5,7 @@ ghost use Rattle.history.specs.World.{world_sessions, by_snapshot, by_statement}
 ghost use Rattle.history.specs.Moves.{put, free_to_scan, new_session, begun, change, rolled_back_to, aborted, committed_by, stepped, with_write};
 ghost use Rattle.plain_history.specs.Plain.{isolation_of, world_of};
 ghost use Rattle.calls.specs.Bars.{BarsOpen, BarsReady};
-ghost use Rattle.plain_history.specs.Answers.{after_refusal, OrMemory, MayBegin, RefusesBegin, RefusesSave, RefusesRollBack, RefusesRelease, PlainReads, MaySave, MayRollBack, MayRelease, MayCommit, WouldCommit};
+ghost use Rattle.plain_history.specs.Answers.{after_refusal, MayBegin, RefusesBegin, RefusesSave, RefusesRollBack, RefusesRelease, PlainReads, MaySave, MayRollBack, MayRelease, MayCommit, WouldCommit};
 
 use crate::plain::{PlainHistory, PlainIsolation, PlainSession};
 use crate::refusal::Refused;
@@ -193,36 +193,25 @@ impl PlainHistory {
     }
 
     /// What the session wrote joins the history, and the session is idle. Where memory is refused all is as it was.
-    pub fn take_in(&mut self, s: u8) -> Result<(), Refusal>
+    pub fn take_in(&mut self, s: u8) -> Result<(), AllocError>
         requires { MayCommit (world_of self.old) s }
         ensures ok { OnOk result (world_of self.new ≡ committed_by (world_of self.old) s) }
         ensures err { OnErr result (world_of self.new ≡ world_of self.old) }
     {
-        match self.transaction(s) {
-            Ok(transaction) => match self.append(transaction) {
-                Ok(()) => {
-                    self.end(s);
-                    Ok(())
-                }
-                Err(_) => Err(Refusal::NoMemory),
-            },
-            Err(why) => Err(why),
-        }
+        let transaction = self.transaction(s)?;
+        self.append(transaction)?;
+        self.end(s);
+        Ok(())
     }
 
     /// The transaction that the session would commit.
-    fn transaction(&self, s: u8) -> Result<PlainLevel, Refusal>
-        ensures ok { IfOk result (λ t. WouldCommit (world_of self.now) s t) }
-        ensures err { IfErr result
-            (λ why. OrMemory why (MayCommit (world_of self.now) s)
-            (BarsReady (world_sessions (world_of self.now)) s why)) }
+    fn transaction(&self, s: u8) -> Result<PlainLevel, AllocError>
+        requires { MayCommit (world_of self.now) s }
+        ensures { IfOk result (λ t. WouldCommit (world_of self.now) s t) }
     {
-        match self.ready_session(s) {
-            Ok(session) => match session.all_writes(self.alloc) {
-                Ok(writes) => Ok(writes),
-                Err(_) => Err(Refusal::NoMemory),
-            },
-            Err(why) => Err(why),
+        match &self.sessions[s as usize] {
+            Some(session) => session.all_writes(self.alloc),
+            None => Ok(PlainLevel::new(self.alloc)),
         }
     }
 }
