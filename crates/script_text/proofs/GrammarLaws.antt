@@ -305,18 +305,18 @@ session_verb verb make fits text = number_verb verb 255 make (omega arith) (λ s
 written_spelled : AllByRecursion IsSpelled written_verbs
 written_spelled = (insert_spelled, (update_spelled, (apply_spelled, tt)))
 
-other_spelled : AllByRecursion IsSpelled other_verbs
-other_spelled = (get_spelled, (delete_spelled, (next_spelled, (openindex_spelled, (openkeys_spelled, (takepage_spelled, (prune_spelled, (vacuum_spelled, (page_spelled, (entries_spelled, tt))))))))))
-
 numbered_spelled : AllByRecursion IsSpelled (as_verbs numbered_steps)
 numbered_spelled = (session_verb (codes "begin") (λ s. Do (step.Begin s)) (λ s h. h) (λ s. refl), (session_verb (codes "beginrc") (λ s. Do (step.BeginReadCommitted s)) (λ s h. h) (λ s. refl), (session_verb (codes "commit") (λ s. Do (step.Commit s)) (λ s h. h) (λ s. refl), (session_verb (codes "abort") (λ s. Do (step.Abort s)) (λ s h. h) (λ s. refl), (session_verb (codes "savepoint") (λ s. Do (step.Savepoint s)) (λ s h. h) (λ s. refl), (session_verb (codes "rollbackto") (λ s. Do (step.RollbackTo s)) (λ s h. h) (λ s. refl), (session_verb (codes "release") (λ s. Do (step.Release s)) (λ s h. h) (λ s. refl), (session_verb (codes "openheap") (λ s. Do (step.OpenHeap s)) (λ s h. h) (λ s. refl), (session_verb (codes "close") (λ s. Do (step.Close s)) (λ s h. h) (λ s. refl), (createindex_spelled, tt))))))))))
+
+other_spelled : AllByRecursion IsSpelled other_verbs
+other_spelled = (get_spelled, (delete_spelled, (next_spelled, (openindex_spelled, (openkeys_spelled, (takepage_spelled, (prune_spelled, (vacuum_spelled, (page_spelled, (entries_spelled, tt))))))))))
 
 All-append : (xs ys : Verbs) → AllByRecursion IsSpelled xs → AllByRecursion IsSpelled ys → AllByRecursion IsSpelled (xs ++ ys)
 All-append [] ys h k = k
 All-append (x ∷ xs) ys h k = (h.0, All-append xs ys h.1 k)
 
 all_spelled : AllByRecursion IsSpelled all_verbs
-all_spelled = All-append written_verbs (other_verbs ++ as_verbs numbered_steps) written_spelled (All-append other_verbs (as_verbs numbered_steps) other_spelled numbered_spelled)
+all_spelled = All-append written_verbs (as_verbs numbered_steps ++ other_verbs) written_spelled (All-append (as_verbs numbered_steps) other_verbs numbered_spelled other_spelled)
 
 line_in_says : (verbs : Verbs) (word rest : List ℕ) (l : Line) → AllByRecursion IsSpelled verbs → line_in verbs word rest ≡ Some l → LineFits l × (word ++ spaced rest ≡ spelling l)
 line_in_says [] word rest l spelled h = absurd (none-some l h)

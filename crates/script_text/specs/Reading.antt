@@ -224,21 +224,6 @@ written_verbs =
     ∷ (codes "apply", λ rest. option_map (λ p. Do (step.ApplyPlan p.0 p.1)) (plan_words_of rest))
     ∷ []
 
--- those with more than a number below 256, or with other words
-abbrev pub other_verbs : Verbs
-other_verbs =
-    (codes "get", λ rest. option_map (λ p. Do (step.Get p.0 p.1)) (key_words_of rest))
-    ∷ (codes "delete", λ rest. option_map (λ p. Do (step.Delete p.0 p.1)) (key_words_of rest))
-    ∷ (codes "next", λ rest. option_map (λ p. Do (step.Next p.0 p.1)) (count_words_of rest))
-    ∷ (codes "openindex", λ rest. option_map (λ p. Do (step.OpenIndex p.0 p.1 p.2 p.3)) (range_words_of rest))
-    ∷ (codes "openkeys", λ rest. option_map (λ p. Do (step.OpenKeys p.0 p.1 p.2)) (bounds_words_of rest))
-    ∷ (codes "takepage", λ rest. option_map (λ p. Do (step.TakePage p.0 p.1)) (page_words_of rest))
-    ∷ (codes "prune", λ rest. option_map (λ p. Do (step.Prune p)) (number_of 4294967295 rest))
-    ∷ (codes "vacuum", vacuum_line_of)
-    ∷ (codes "page", λ rest. option_map (λ p. Page p) (number_of 4294967295 rest))
-    ∷ (codes "entries", λ rest. option_map (λ i. Entries i) (number_of 255 rest))
-    ∷ []
-
 -- verbs of steps with one number below 256, that of a session or of a column
 abbrev pub NumberedVerbs : Type 0
 NumberedVerbs = List (List ℕ × (ℕ → Step))
@@ -257,17 +242,27 @@ numbered_steps =
     ∷ (codes "createindex", λ c. step.CreateIndex c)
     ∷ []
 
--- what a word asks for that is one of these verbs, with this number
-abbrev pub numbered_step_in : NumberedVerbs → List ℕ → ℕ → Option Step
-numbered_step_in [] word n = None
-numbered_step_in (verb ∷ verbs) word n = if bytes_eq word verb.0 then Some (verb.1 n) else numbered_step_in verbs word n
-
 -- these as the verbs of lines
 abbrev pub as_verbs : NumberedVerbs → Verbs
 as_verbs verbs = map (λ verb. (verb.0, λ rest. option_map (λ n. Do (verb.1 n)) (number_of 255 rest))) verbs
 
+-- those with more than a number below 256, or with other words
+abbrev pub other_verbs : Verbs
+other_verbs =
+    (codes "get", λ rest. option_map (λ p. Do (step.Get p.0 p.1)) (key_words_of rest))
+    ∷ (codes "delete", λ rest. option_map (λ p. Do (step.Delete p.0 p.1)) (key_words_of rest))
+    ∷ (codes "next", λ rest. option_map (λ p. Do (step.Next p.0 p.1)) (count_words_of rest))
+    ∷ (codes "openindex", λ rest. option_map (λ p. Do (step.OpenIndex p.0 p.1 p.2 p.3)) (range_words_of rest))
+    ∷ (codes "openkeys", λ rest. option_map (λ p. Do (step.OpenKeys p.0 p.1 p.2)) (bounds_words_of rest))
+    ∷ (codes "takepage", λ rest. option_map (λ p. Do (step.TakePage p.0 p.1)) (page_words_of rest))
+    ∷ (codes "prune", λ rest. option_map (λ p. Do (step.Prune p)) (number_of 4294967295 rest))
+    ∷ (codes "vacuum", vacuum_line_of)
+    ∷ (codes "page", λ rest. option_map (λ p. Page p) (number_of 4294967295 rest))
+    ∷ (codes "entries", λ rest. option_map (λ i. Entries i) (number_of 255 rest))
+    ∷ []
+
 abbrev pub all_verbs : Verbs
-all_verbs = written_verbs ++ (other_verbs ++ as_verbs numbered_steps)
+all_verbs = written_verbs ++ (as_verbs numbered_steps ++ other_verbs)
 
 -- what a word asks for that is one of these verbs, with the words behind it
 abbrev pub line_in : Verbs → List ℕ → List ℕ → Option Line

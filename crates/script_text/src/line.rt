@@ -4,7 +4,7 @@ ghost use Rattle.std.specs.Prelude.{◌≡◌, ◌++◌, IfOk};
 ghost use Rattle.std.specs.Option.{option_map};
 ghost use Rattle.std.specs.Str.{bytes_eq};
 ghost use Rattle.script_text.specs.Grammar.{Spells};
-ghost use Rattle.script_text.specs.Reading.{number_of, row_words_of, key_words_of, count_words_of, page_words_of, range_words_of, bounds_words_of, plan_words_of, vacuum_line_of, line_in, numbered_step_in, all_verbs, other_verbs, numbered_steps, as_verbs, line_at as line_at_of};
+ghost use Rattle.script_text.specs.Reading.{number_of, row_words_of, key_words_of, count_words_of, page_words_of, range_words_of, bounds_words_of, plan_words_of, vacuum_line_of, line_in, all_verbs, other_verbs, numbered_steps, as_verbs, line_at as line_at_of};
 
 use crate::growth::RefusedGrowth;
 use crate::plan::plan;
@@ -172,47 +172,9 @@ fn vacuum_line(words: &[u8]) -> Option<Line>
     }
 }
 
-// The step that this word asks for with one number, that of a session or of a column.
-fn numbered_step(word: &[u8], n: u8) -> Option<Step>
-    ensures { result ≡ numbered_step_in numbered_steps word.now n }
-{
-    if is(word, b"begin") {
-        Some(Step::Begin(n))
-    } else if is(word, b"beginrc") {
-        Some(Step::BeginReadCommitted(n))
-    } else if is(word, b"commit") {
-        Some(Step::Commit(n))
-    } else if is(word, b"abort") {
-        Some(Step::Abort(n))
-    } else if is(word, b"savepoint") {
-        Some(Step::Savepoint(n))
-    } else if is(word, b"rollbackto") {
-        Some(Step::RollbackTo(n))
-    } else if is(word, b"release") {
-        Some(Step::Release(n))
-    } else if is(word, b"openheap") {
-        Some(Step::OpenHeap(n))
-    } else if is(word, b"close") {
-        Some(Step::Close(n))
-    } else if is(word, b"createindex") {
-        Some(Step::CreateIndex(n))
-    } else {
-        None
-    }
-}
-
-// Reads a line that begins with this word and has one number below 256.
-fn numbered_line(word: &[u8], rest: &[u8]) -> Option<Line>
-    ensures { result ≡ line_in (as_verbs numbered_steps) word.now rest.now }
-{
-    let n = number8(rest)?;
-    let step = numbered_step(word, n)?;
-    Some(Line::Do(step))
-}
-
-// Reads a line that begins with this word, and whose step has no memory of its own.
+// Reads a line that begins with this word, and has more than a number below 256, or other words.
 fn other_line(word: &[u8], rest: &[u8]) -> Option<Line>
-    ensures { result ≡ line_in (other_verbs ++ as_verbs numbered_steps) word.now rest.now }
+    ensures { result ≡ line_in other_verbs word.now rest.now }
 {
     if is(word, b"get") {
         key(rest).map(|(s, key)| Line::Do(Step::Get(s, key)))
@@ -235,7 +197,37 @@ fn other_line(word: &[u8], rest: &[u8]) -> Option<Line>
     } else if is(word, b"entries") {
         number8(rest).map(|i| Line::Entries(i))
     } else {
-        numbered_line(word, rest)
+        None
+    }
+}
+
+// Reads a line that begins with this word, and whose step has no memory of its own. Most of those end or begin a transaction, so their
+// words are asked for first.
+fn unwritten_line(word: &[u8], rest: &[u8]) -> Option<Line>
+    ensures { result ≡ line_in (as_verbs numbered_steps ++ other_verbs) word.now rest.now }
+{
+    if is(word, b"begin") {
+        number8(rest).map(|s| Line::Do(Step::Begin(s)))
+    } else if is(word, b"beginrc") {
+        number8(rest).map(|s| Line::Do(Step::BeginReadCommitted(s)))
+    } else if is(word, b"commit") {
+        number8(rest).map(|s| Line::Do(Step::Commit(s)))
+    } else if is(word, b"abort") {
+        number8(rest).map(|s| Line::Do(Step::Abort(s)))
+    } else if is(word, b"savepoint") {
+        number8(rest).map(|s| Line::Do(Step::Savepoint(s)))
+    } else if is(word, b"rollbackto") {
+        number8(rest).map(|s| Line::Do(Step::RollbackTo(s)))
+    } else if is(word, b"release") {
+        number8(rest).map(|s| Line::Do(Step::Release(s)))
+    } else if is(word, b"openheap") {
+        number8(rest).map(|s| Line::Do(Step::OpenHeap(s)))
+    } else if is(word, b"close") {
+        number8(rest).map(|s| Line::Do(Step::Close(s)))
+    } else if is(word, b"createindex") {
+        number8(rest).map(|c| Line::Do(Step::CreateIndex(c)))
+    } else {
+        other_line(word, rest)
     }
 }
 
@@ -250,7 +242,7 @@ fn line_for(alloc: Global, word: &[u8], rest: &[u8]) -> Result<Option<Line>, Ref
     } else if is(word, b"apply") {
         Ok(page_and_plan(alloc, rest)?.map(|(p, plan)| Line::Do(Step::ApplyPlan(p, plan))))
     } else {
-        Ok(other_line(word, rest))
+        Ok(unwritten_line(word, rest))
     }
 }
 
