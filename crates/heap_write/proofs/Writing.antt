@@ -12,7 +12,6 @@ use Rattle.std.proofs.lemmas.Option.{slice_get_within}
 use Rattle.tuple_writes.specs.Writes.{with_root, with_updated, replaced_change, PutsXmax, AddsToPage}
 use Rattle.space_maps.specs.declared.mark.Mark.TheVariants.{Nothing}
 use Rattle.heap_pages.specs.View.{PagesView}
-use Rattle.heap_pages.specs.declared.pages.Placement.TheVariants as to
 use Rattle.table_indexes.specs.Indexes.{SameEntries, Enters}
 use Rattle.table_indexes.proofs.IndexLemmas.{same-entries}
 use Rattle.table_indexes.proofs.Columns.{entries-then, enters-grown, values-grown}
@@ -102,8 +101,8 @@ values-on h h1 place row same entries keeps old at = values-grown h.indexes h1.i
 
 -- what was chosen for a new version is the number of the target
 goes-chosen : (h h1 : HeapView) (size : ℕ) (target : Target) → IsChosen h size (Some target) → SamePages h.pages h1.pages → GoesTo h size (target_number h1.pages.pages target)
-goes-chosen h h1 size (Page n) chosen same = record { place = to.Page n; chosen = chosen; number = refl }
-goes-chosen h h1 size (New page) chosen same = record { place = to.NewPage; chosen = chosen; number = ap (λ pages. Some (length pages)) (sym same.pages) }
+goes-chosen h h1 size (Page n) chosen same = GoesTo.to_page chosen
+goes-chosen h h1 size (New page) chosen same = GoesTo.to_new chosen (ap (λ (ps : List PageView). length ps) same.pages)
 
 pub inserts : (h h1 h' : HeapView) (own own' : Own) (row : Row) (x : ℕ) (target : Target) → ¬ NeedsFreeze h.statuses own
     → IsChosen h (rounded_size_of row) (Some target) → SamePages h.pages h1.pages → SameEntries h.indexes h1.indexes
@@ -135,11 +134,11 @@ pub goes-elsewhere : (h : HeapView) (place : Tid) (size : ℕ) (target : Target)
 goes-elsewhere h place size (Page n) there full chosen = (
   λ same. let room = (page-place h.pages.pages h.max_pages size n chosen).1 in
       let here : size ≤ room_of (page_on h place.page).slots = subst (λ m. size ≤ room_of (page_on h m).slots) same room in let no : 1 ≤ 0 = omega (arith, here, full) in omega (arith, no),
-  record { place = to.Page n; chosen = chosen; number = refl },
+  GoesTo.to_page chosen,
 )
 goes-elsewhere h place size (New page) there full chosen = (
   λ same. let within = there-within h place there in let no : 1 ≤ 0 = omega (arith, same, within) in omega (arith, no),
-  record { place = to.NewPage; chosen = chosen; number = refl },
+  GoesTo.to_new chosen refl,
 )
 
 -- the update of a version whose page has no room for the row

@@ -1,7 +1,7 @@
 -- What a write does to a table. (README.HOT: an update that stays on the page, and changes no indexed column, makes a heap-only
 -- version and no index entry; any other makes a root of its own, with an entry in each index. PostgreSQL, heap_insert, heap_update and
 -- heap_delete in src/backend/access/heap/heapam.c.)
-use Rattle.std.specs.Prelude.{◌≡◌, ◌≢◌, ℕ, ◌<◌, ◌≤◌, Bool, true, false, List, length, slice_set, slice_get, Option, Some, None}
+use Rattle.std.specs.Prelude.{◌≡◌, ◌≢◌, ℕ, ◌<◌, ◌≤◌, Bool, true, false, List, length, slice_set, slice_get, Some}
 use Rattle.xid_circle.specs.Numbers.{Id, Count}
 use Rattle.xid_circle.specs.declared.Tid.{Tid}
 use Rattle.tuple_header.specs.declared.version.Row.{Row}
@@ -16,8 +16,7 @@ use Rattle.prune.specs.Pruning.{PrunesSlot}
 use Rattle.prune.specs.Laws.{IsPrunedPage}
 use Rattle.tuple_writes.specs.Writes.{with_root, with_replaced, with_updated, replaced_change}
 use Rattle.heap_pages.specs.Choice.{IsPlaceFor, HasRoom, NoPage}
-use Rattle.heap_pages.specs.declared.pages.Placement.{Placement}
-use Rattle.heap_pages.specs.declared.pages.Placement.TheVariants.{Page, NewPage, Nowhere}
+use Rattle.heap_pages.specs.declared.pages.Placement.TheVariants.{Page, NewPage}
 use Rattle.table_indexes.specs.Indexes.{SameValues, SameEntries, Enters}
 use Rattle.heap_write.specs.Heap.{HeapView, page_on, Keeps, PutsPage}
 use Rattle.tuple_header.specs.declared.version.TheConstants.{MOST_SLOTS}
@@ -30,16 +29,10 @@ pub record TableIsFull (h : HeapView) (size : ℕ) : Type 0 where
   pub all_used : h.max_pages ≤ length h.pages.pages
   pub no_room : NoPage h.pages.pages (HasRoom size)
 
-abbrev pub number_of : ℕ → Placement → Option ℕ
-number_of count (Page n) = Some n
-number_of count NewPage = Some count
-number_of count Nowhere = None
-
--- a new version of this size goes to the page of this number
-pub record GoesTo (h : HeapView) (size n : ℕ) : Type 0 where
-  pub place : Placement
-  pub chosen : IsPlaceFor h.pages.pages h.max_pages size place
-  pub number : number_of (length h.pages.pages) place ≡ Some n
+-- a new version of this size goes to the page of this number: to one that is in use, or to a new one after all others
+pub data GoesTo (h : HeapView) (size n : ℕ) : Type 0 where
+  to_page : IsPlaceFor h.pages.pages h.max_pages size (Page n) → GoesTo h size n
+  to_new : IsPlaceFor h.pages.pages h.max_pages size NewPage → n ≡ length h.pages.pages → GoesTo h size n
 
 -- Changes of a page and the indexes.
 
