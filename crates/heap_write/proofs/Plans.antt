@@ -90,20 +90,20 @@ applied-prunes h h' n horizon actions within plan is =
       after = applied actions page;
       at = slice_get-get_or h.pages.pages n unused_page within;
       is = is;
-      pruned = record { actions = actions; plan = plan; is = refl };
+      does = record { actions = actions; plan = plan; is = refl };
     }
 
 -- Its slots are what pruning makes of them, what goes from it is cut, and its flag stays.
 
 module _ (h h' : HeapView) (n horizon : ℕ) (p : Prunes h h' n horizon) where
   pub pruned-page : IsPruned h.statuses horizon p.before.slots p.after.slots
-  pruned-page = plan-pruned h.statuses horizon p.before p.after p.pruned
+  pruned-page = plan-pruned h.statuses horizon p.before p.after p.does
 
   pub pruned-cut : RemovesVersions h.statuses horizon p.before.slots p.after.slots
   pruned-cut = pruned-removes h.statuses horizon p.before.slots p.after.slots pruned-page
 
   pub pruned-flag : p.after.flag ≡ p.before.flag
-  pruned-flag = ap (λ (q : PageView). q.flag) p.pruned.is ∙ applied-flag p.pruned.actions p.before
+  pruned-flag = ap (λ (q : PageView). q.flag) p.does.is ∙ applied-flag p.does.actions p.before
 
 applied-page : (h h' : HeapView) (n : ℕ) (actions : List (ℕ × Action)) → n < length h.pages.pages → h' ≡ with_applied h n actions → page_on h' n ≡ applied actions (page_on h n)
 applied-page h h' n actions within is = ap (λ (v : HeapView). page_on v n) is ∙ page-set h.pages.pages n (applied actions (page_on h n)) within

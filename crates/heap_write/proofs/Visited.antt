@@ -32,7 +32,7 @@ applied-freezes h n cutoff actions was after put at is freezes =
       after = after;
       at = slice_get-get_or (set pages n done) n unused_page within' ∙ ap Some (page-set pages n done within ∙ ap (applied actions) (page-at pages n was at));
       is = ap (λ (p : PagesView). record h { pages = p }) is ∙ ap (λ (ps : List PageView). record h { pages = record h.pages { pages = ps } }) (sym (set-set pages n done after));
-      freezes = freezes;
+      does = freezes;
     }
 
 -- nobody has deleted a version there, and none was rolled back

@@ -19,18 +19,14 @@ use Rattle.index_entries.specs.declared.entry.Entry.{Entry}
 use Rattle.root_index.specs.declared.progress.Progress.{Progress}
 use Rattle.root_index.specs.Pieces.{RemovesPiece}
 use Rattle.table_indexes.specs.Indexes.{entries_at, since_at, since_after, entries_in, IsInUse}
-use Rattle.heap_write.specs.Heap.{HeapView}
+use Rattle.heap_write.specs.Heap.{HeapView, ChangesOnePage}
 use Rattle.heap_write.specs.Writes.{Prunes}
 
 -- Pages.
 
 -- one page is frozen at a cutoff, and nothing else changes
-pub record FreezesAt (h h' : HeapView) (p cutoff : ℕ) : Type 0 where
-  pub before : PageView
-  pub after : PageView
-  pub at : slice_get h.pages.pages p ≡ Some before
-  pub is : h' ≡ record h { pages = record h.pages { pages = slice_set h.pages.pages p after } }
-  pub freezes : FreezesPage h.statuses cutoff p before after
+abbrev pub FreezesAt : HeapView → HeapView → (p cutoff : ℕ) → Type 0
+FreezesAt h h' p cutoff = ChangesOnePage h h' p (λ before after. FreezesPage h.statuses cutoff p before after)
 
 -- the exact mark of one page at a horizon is noted in the map, and in the page's flag; nothing else changes
 pub record Notes (h h' : HeapView) (p horizon : ℕ) : Type 0 where
@@ -80,15 +76,14 @@ pub record FreesSlots (slots after : List Slot) (numbers : List ℕ) : Type 0 wh
       → slot_at after n ≡ slot_at slots n
 
 -- Collected slots of a page become unused. Each is dead, so each raises the change number.
-pub record FreesAt (h h' : HeapView) (p : ℕ) (numbers : List ℕ) : Type 0 where
-  pub before : PageView
-  pub after : PageView
-  pub at : slice_get h.pages.pages p ≡ Some before
-  pub is : h' ≡ record h { pages = record h.pages { pages = slice_set h.pages.pages p after } }
+pub record FreesOnPage (before after : PageView) (numbers : List ℕ) : Type 0 where
   pub slots : FreesSlots before.slots after.slots numbers
   pub change : ((n : ℕ) → Contains numbers n → slot_at before.slots n ≡ Some Dead)
       → after.change ≡ raised (length numbers) before.change
   pub flag : after.flag ≡ before.flag
+
+abbrev pub FreesAt : HeapView → HeapView → (p : ℕ) → List ℕ → Type 0
+FreesAt h h' p numbers = ChangesOnePage h h' p (λ before after. FreesOnPage before after numbers)
 
 -- Ids.
 

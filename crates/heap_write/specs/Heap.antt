@@ -1,5 +1,5 @@
 -- A table: its pages, what became of each id, and its indexes.
-use Rattle.std.specs.Prelude.{◌≡◌, ℕ, ◌<◌, ℤ, pos, false, List, [], ◌∷◌, ◌++◌, length, slice_set, slice_index_or}
+use Rattle.std.specs.Prelude.{◌≡◌, ℕ, ◌<◌, ℤ, pos, false, List, [], ◌∷◌, ◌++◌, length, Some, slice_get, slice_set, slice_index_or}
 use Rattle.tuple_header.specs.declared.version.Row.{Row}
 use Rattle.page_sheet.specs.Placing.{no_places}
 use Rattle.page_slots.specs.View.{PageView}
@@ -42,6 +42,14 @@ pub record Keeps (h h' : HeapView) : Type 0 where
   pub statuses : SameIds h.statuses h'.statuses
   pub entries : SameEntries h.indexes h'.indexes
   pub max_pages : h'.max_pages ≡ h.max_pages
+
+-- the page of the number becomes another, as is said of both, and nothing else changes
+pub record ChangesOnePage (h h' : HeapView) (n : ℕ) (So : PageView → PageView → Type 0) : Type 0 where
+  pub before : PageView
+  pub after : PageView
+  pub at : slice_get h.pages.pages n ≡ Some before
+  pub is : h' ≡ record h { pages = record h.pages { pages = slice_set h.pages.pages n after } }
+  pub does : So before after
 
 -- this becomes the page of the number, in the place of one that is in use or after all others, and nothing is noted of it any more; no
 -- other page changes, nor what is noted of one (the manual's "Visibility Map")

@@ -1,7 +1,7 @@
 -- What a write does to a table. (README.HOT: an update that stays on the page, and changes no indexed column, makes a heap-only
 -- version and no index entry; any other makes a root of its own, with an entry in each index. PostgreSQL, heap_insert, heap_update and
 -- heap_delete in src/backend/access/heap/heapam.c.)
-use Rattle.std.specs.Prelude.{◌≡◌, ◌≢◌, ℕ, ◌<◌, ◌≤◌, Bool, true, false, List, length, slice_set, slice_get, Some}
+use Rattle.std.specs.Prelude.{◌≡◌, ◌≢◌, ℕ, ◌<◌, ◌≤◌, Bool, true, false, List, length, Some}
 use Rattle.xid_circle.specs.Numbers.{Id, Count}
 use Rattle.xid_circle.specs.declared.Tid.{Tid}
 use Rattle.tuple_header.specs.declared.version.Row.{Row}
@@ -18,7 +18,7 @@ use Rattle.tuple_writes.specs.Writes.{with_root, with_replaced, with_updated, re
 use Rattle.heap_pages.specs.Choice.{IsPlaceFor, HasRoom, NoPage}
 use Rattle.heap_pages.specs.declared.pages.Placement.TheVariants.{Page, NewPage}
 use Rattle.table_indexes.specs.Indexes.{SameValues, SameEntries, Enters}
-use Rattle.heap_write.specs.Heap.{HeapView, page_on, Keeps, PutsPage}
+use Rattle.heap_write.specs.Heap.{HeapView, page_on, Keeps, ChangesOnePage, PutsPage}
 use Rattle.tuple_header.specs.declared.version.TheConstants.{MOST_SLOTS}
 use Rattle.write_ids.specs.Ids.{NeedsFreeze, TakesIds}
 
@@ -72,20 +72,14 @@ pub record ColdUpdates (h h' : HeapView) (place : Tid) (x : ℕ) (row : Row) (n 
   pub away : SetsXmax middle h' place x (record { page = n; slot = free_number (page_on h n).slots })
 
 -- one page is pruned at a horizon, and nothing else changes
-pub record Prunes (h h' : HeapView) (number horizon : ℕ) : Type 0 where
-  pub before : PageView
-  pub after : PageView
-  pub at : slice_get h.pages.pages number ≡ Some before
-  pub is : h' ≡ record h { pages = record h.pages { pages = slice_set h.pages.pages number after } }
-  pub pruned : IsPrunedPage h.statuses horizon before after
+abbrev pub Prunes : HeapView → HeapView → (number horizon : ℕ) → Type 0
+Prunes h h' number horizon = ChangesOnePage h h' number (λ before after. IsPrunedPage h.statuses horizon before after)
 
 -- What a plan names is done to one page, where it checks at the horizon, and nothing else changes: nothing is noted anew, and no entry
 -- goes or comes.
-pub record Applies (h h' : HeapView) (number horizon change : ℕ) (actions : List (ℕ × Action)) : Type 0 where
-  pub before : PageView
-  pub at : slice_get h.pages.pages number ≡ Some before
-  pub checks : Checks h.statuses horizon before change actions
-  pub is : h' ≡ record h { pages = record h.pages { pages = slice_set h.pages.pages number (applied actions before) } }
+abbrev pub Applies : HeapView → HeapView → (number horizon change : ℕ) → List (ℕ × Action) → Type 0
+Applies h h' number horizon change actions =
+    ChangesOnePage h h' number (λ before after. Checks h.statuses horizon before change actions × (after ≡ applied actions before))
 
 -- Writes.
 

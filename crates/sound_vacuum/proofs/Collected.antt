@@ -130,7 +130,7 @@ applied-keep : (h h' : HeapView) (number horizon change : ℕ) (actions : List (
 applied-keep h h' number horizon change actions a = same-keep h h' (same-entries h.indexes h'.indexes (ap (λ (g : HeapView). g.indexes) a.is))
     (put-dead (slots_of h) (slots_of h') number (applied actions a.before).slots (applies-puts h h' number horizon change actions a)
     (subst (λ slots. DeadStay slots (applied actions a.before).slots) (sym (applies-on h h' number horizon change actions a))
-    (checked-dead h.statuses horizon a.before change actions a.checks)))
+    (checked-dead h.statuses horizon a.before change actions a.does.0)))
 
 readied-keep : (h h' : HeapView) (place : Tid) (horizon size : ℕ) → PrunesIfFull h h' place horizon size → KeepsDeadSlots h h'
 readied-keep h h' place horizon size (PrunesIfFull.has_room room is) =
@@ -264,7 +264,7 @@ pub freed-others : (h h' : HeapView) (p : ℕ) (numbers : List ℕ) → FreesAt 
 freed-others h h' p numbers f = (
   λ q off. ⊎_elim
       (λ here. ap (λ slots. slot_at slots q.slot) (ap (slots_on (slots_of h')) here ∙ changes.puts.put)
-      ∙ f.slots.others q.slot (λ named dead. off here named)
+      ∙ f.does.slots.others q.slot (λ named dead. off here named)
       ∙ ap (λ slots. slot_at slots q.slot) (sym changes.before ∙ ap (slots_on (slots_of h)) (sym here)))
       (λ elsewhere. ap (λ slots. slot_at slots q.slot) (changes.puts.others q.page elsewhere))
       (cases_eq q.page p),

@@ -537,4 +537,4 @@ pub applying-goes_on : (h h' : HeapView) (v : VacuumView) (horizon number at cha
     → Applies h h' number at change actions → KeepsVacuum h horizon v → KeepsVacuum h' horizon (disturbed false v)
 applying-goes_on h h' v horizon number at change actions can can' a keeps =
     page-goes_on h h' v horizon number a.before (applied actions a.before) can can' (StepsBetween.applies number at change actions a) (applies-becomes h h' number at change actions a)
-    (λ settled. checked-idle h.statuses at a.before change actions a.checks (settled-alive h.statuses horizon at a.before.slots settled)) keeps
+    (λ settled. checked-idle h.statuses at a.before change actions a.does.0 (settled-alive h.statuses horizon at a.before.slots settled)) keeps

@@ -71,7 +71,7 @@ applied-stays h h' number horizon change actions s a =
     let on = applies-on h h' number horizon change actions a in
     let sound = subst (SoundPage h.statuses) on (s.heap number) in
     thinned-stays h h' number horizon a.before (applied actions a.before) s (applies-becomes h h' number horizon change actions a)
-    (subst (λ slots. IsThinned h.statuses horizon slots (applied actions a.before).slots) (sym on) (checked-thins h.statuses horizon a.before change actions sound a.checks))
+    (subst (λ slots. IsThinned h.statuses horizon slots (applied actions a.before).slots) (sym on) (checked-thins h.statuses horizon a.before change actions sound a.does.0))
 
 -- The slots and the entries are as they were.
 

@@ -331,7 +331,10 @@ prunes-stand h h' n horizon p = becomes-stand h h' n horizon p.before p.after (p
 -- A plan is applied to a page.
 
 pub applies-becomes : (h h' : HeapView) (n horizon change : ℕ) (actions : List (ℕ × Action)) (a : Applies h h' n horizon change actions) → BecomesPage h h' n a.before (applied actions a.before)
-applies-becomes h h' n horizon change actions a = record { at = a.at; is = a.is }
+applies-becomes h h' n horizon change actions a = record {
+  at = a.at;
+  is = a.is ∙ ap (λ (page : PageView). record h { pages = record h.pages { pages = slice_set h.pages.pages n page } }) a.does.1;
+}
 
 pub applies-on : (h h' : HeapView) (n horizon change : ℕ) (actions : List (ℕ × Action)) (a : Applies h h' n horizon change actions) → slots_on (slots_of h) n ≡ a.before.slots
 applies-on h h' n horizon change actions a = becomes-on h h' n a.before (applied actions a.before) (applies-becomes h h' n horizon change actions a)
@@ -343,7 +346,7 @@ applies-puts h h' n horizon change actions a = becomes-puts h h' n a.before (app
 pub applies-stand : (h h' : HeapView) (n horizon change : ℕ) (actions : List (ℕ × Action)) → Applies h h' n horizon change actions
     → RemovesOn (version_in (slots_of h)) (version_in (slots_of h')) n (IsCut h.statuses horizon (slots_on (slots_of h) n))
 applies-stand h h' n horizon change actions a = becomes-stand h h' n horizon a.before (applied actions a.before) (applies-becomes h h' n horizon change actions a)
-    (checks-removes h.statuses horizon a.before change actions a.checks)
+    (checks-removes h.statuses horizon a.before change actions a.does.0)
 
 pub readies-stand : (h h' : HeapView) (place : Tid) (horizon size : ℕ) → PrunesIfFull h h' place horizon size
     → RemovesOn (version_in (slots_of h)) (version_in (slots_of h')) place.page (IsCut h.statuses horizon (slots_on (slots_of h) place.page))

@@ -315,9 +315,9 @@ module _ (h h' : HeapView) (v v' : VacuumView) (horizon p : ℕ) (c : CanCount h
   freed-here : count_on others p 1 (slots_on (slots_of h') p) ≤ count_on v.store p 1 (slots_on (slots_of h) p)
   freed-here = subst (λ s. count_on others p 1 s ≤ count_on v.store p 1 (slots_on (slots_of h) p)) (sym freed-set.is)
       (subst (λ s. count_on others p 1 f.frees.after.slots ≤ count_on v.store p 1 s) (sym freed-set.was)
-      (count-less v.store others p f.frees.before.slots f.frees.after.slots f.frees.slots.count (λ k b a at_b at_a. counts-less v.store others p (suc k) b a
-      (λ e. counts-unused others p (suc k) a (same_Some a Unused (sym at_a ∙ f.frees.slots.others (suc k) (λ named dead. let g : Some Unused ≡ Some Dead = sym (at_b ∙ ap Some e) ∙ dead in cc) ∙ at_b ∙ ap Some e)))
-      (λ there. counts-unused others p (suc k) a (same_Some a Unused (sym at_a ∙ f.frees.slots.freed (suc k) (freed-there (suc k) there) (was-dead (suc k) there)))))))
+      (count-less v.store others p f.frees.before.slots f.frees.after.slots f.frees.does.slots.count (λ k b a at_b at_a. counts-less v.store others p (suc k) b a
+      (λ e. counts-unused others p (suc k) a (same_Some a Unused (sym at_a ∙ f.frees.does.slots.others (suc k) (λ named dead. let g : Some Unused ≡ Some Dead = sym (at_b ∙ ap Some e) ∙ dead in cc) ∙ at_b ∙ ap Some e)))
+      (λ there. counts-unused others p (suc k) a (same_Some a Unused (sym at_a ∙ f.frees.does.slots.freed (suc k) (freed-there (suc k) there) (was-dead (suc k) there)))))))
 
   freed-elsewhere : (q : ℕ) → q ≢ p → count_on others q 1 (slots_on (slots_of h') q) ≤ count_on v.store q 1 (slots_on (slots_of h) q)
   freed-elsewhere q off = subst (λ s. count_on others q 1 s ≤ count_on v.store q 1 (slots_on (slots_of h) q)) (sym (freed-set.others q off))

@@ -49,7 +49,7 @@ returns c =
     sym (ap (λ ps. page_in ps n) put ∙ get_or-set_same pages n e.1 unused_page (slice_get_within pages n e.0 e.2)) ∙ page-at c.edit-found.new.self.pages n m.0 m.1 in
     subst (λ (v : HeapView). FreezesAndNotes v after n c.args.cutoff.0 horizon found.dead.items) c.self.view_is (record {
       frozen = frozen;
-      freezes = record { before = e.0; after = e.1; at = e.2; is = ap (λ (p : PagesView). record h { pages = p }) e.4; freezes = freezes };
+      freezes = record { before = e.0; after = e.1; at = e.2; is = ap (λ (p : PagesView). record h { pages = p }) e.4; does = freezes };
       notes = record {
         page = m.0;
         at = m.1;
