@@ -224,7 +224,7 @@ hints-root w pages pages' updated x row n hints hints' root expects are = record
       let e = expects.here turn (ap (λ k. (hint_on hints' k).turn) (sym here) ∙ known) in
       subst (NothingDiesBefore w turn) (sym (is m here)) (dies-root w turn x n (page_in pages.pages n).slots updated row e.0 (are.each n turn e.1)))
       (λ other.
-      subst (λ (p : PageView). NothingDiesBefore w turn p.slots) (sym (put-other pages pages' n m root.page other root.puts))
+      subst (λ (p : PageView). NothingDiesBefore w turn p.slots) (sym (put-other pages pages' n m root.put.page other root.put.puts))
       (are.each m turn (sym (ap (λ (h : PageHint). h.turn) (expects.others m other)) ∙ known)))
       (cases_eq m n);
   doubts = λ m. ⊎_elim
@@ -232,13 +232,13 @@ hints-root w pages pages' updated x row n hints hints' root expects are = record
       (subst (λ k. AreDoubts w (with_root (page_in pages.pages n).slots updated x n row) (hint_on hints' k).doubts) (sym here)
       (doubts-root w x n (page_in pages.pages n).slots updated row (hint_on hints n).doubts (hint_on hints' n).doubts expects.doubts (are.doubts n))))
       (λ other.
-      subst (λ (p : PageView). AreDoubts w p.slots (hint_on hints' m).doubts) (sym (put-other pages pages' n m root.page other root.puts))
+      subst (λ (p : PageView). AreDoubts w p.slots (hint_on hints' m).doubts) (sym (put-other pages pages' n m root.put.page other root.put.puts))
       (subst (λ (h : PageHint). AreDoubts w (page_in pages.pages m).slots h.doubts) (sym (expects.others m other)) (are.doubts m)))
       (cases_eq m n);
 }
   where
     is : (m : ℕ) → m ≡ n → (page_in pages'.pages m).slots ≡ with_root (page_in pages.pages n).slots updated x n row
-    is m here = ap (λ k. (page_in pages'.pages k).slots) here ∙ (ap (λ (p : PageView). p.slots) (put-here pages pages' n root.page root.puts) ∙ root.slots)
+    is m here = ap (λ k. (page_in pages'.pages k).slots) here ∙ (ap (λ (p : PageView). p.slots) (put-here pages pages' n root.put.page root.put.puts) ∙ root.put.slots)
 
 -- x changes the page that was there
 hints-changed : (w : Window) (x : ℕ) (place : Tid) (pages pages' : List PageView) (before after : PageView) (hints hints' : List PageHint) → slice_get pages place.page ≡ Some before → pages' ≡ set pages place.page after

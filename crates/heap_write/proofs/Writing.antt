@@ -62,24 +62,28 @@ pub root-grown : (h h1 h' : HeapView) (updated : Bool) (x : ℕ) (row : Row) (n 
 root-grown h h1 h' updated x row n grown root =
     let E : ℕ → Type 0 = λ slot. Enters h.indexes h'.indexes row (record { page = n; slot = slot }) in
     record {
-      page = root.page;
-      puts = grown.puts h'.pages root.page root.puts;
-      slots = root.slots ∙ ap (λ slots. with_root slots updated x n row) grown.slots;
-      change = root.change ∙ ap next_change grown.change;
-      flag = root.flag;
+      put = record {
+        page = root.put.page;
+        puts = grown.puts h'.pages root.put.page root.put.puts;
+        slots = root.put.slots ∙ ap (λ slots. with_root slots updated x n row) grown.slots;
+        change = root.put.change ∙ ap next_change grown.change;
+        flag = root.put.flag;
+      };
       within = subst (λ slots. free_number slots ≤ 291) grown.slots root.within;
       entries = subst (λ slots. E (free_number slots)) grown.slots (enters-grown h.indexes h1.indexes h'.indexes row _ grown.entries root.entries);
     }
 
 pub here-grown : (h h1 h' : HeapView) (place : Tid) (x : ℕ) (row : Row) → Grown h h1 place.page → HotUpdates h1 h' place x row → HotUpdates h h' place x row
 here-grown h h1 h' place x row grown here = record {
-  page = here.page;
-  puts = grown.puts h'.pages here.page here.puts;
-  slots = here.slots ∙ ap (λ slots. with_updated slots place.slot x place.page row) grown.slots;
-  change = here.change
-      ∙ ap (λ slots. replaced_change slots place.slot x place.page (free_number slots) true (next_change (page_on h1 place.page).change)) grown.slots
-      ∙ ap (λ change. replaced_change (page_on h place.page).slots place.slot x place.page (free_number (page_on h place.page).slots) true (next_change change)) grown.change;
-  flag = here.flag;
+  put = record {
+    page = here.put.page;
+    puts = grown.puts h'.pages here.put.page here.put.puts;
+    slots = here.put.slots ∙ ap (λ slots. with_updated slots place.slot x place.page row) grown.slots;
+    change = here.put.change
+        ∙ ap (λ slots. replaced_change slots place.slot x place.page (free_number slots) true (next_change (page_on h1 place.page).change)) grown.slots
+        ∙ ap (λ change. replaced_change (page_on h place.page).slots place.slot x place.page (free_number (page_on h place.page).slots) true (next_change change)) grown.change;
+    flag = here.put.flag;
+  };
   within = subst (λ slots. free_number slots ≤ 291) grown.slots here.within;
   entries = entries-then h.indexes h1.indexes h'.indexes grown.entries here.entries;
 }
@@ -170,11 +174,13 @@ moves h h1 middle h' place successor x row target before after same_pages same_i
       middle = middle;
       root = root-grown h h1 middle true x row successor.page grown root;
       away = record {
-        page = after;
-        puts = in_use (slice_get_within middle.pages.pages place.page before at) pages marks;
-        slots = moved.slots;
-        change = moved.change;
-        flag = moved.flag;
+        put = record {
+          page = after;
+          puts = in_use (slice_get_within middle.pages.pages place.page before at) pages marks;
+          slots = moved.slots;
+          change = moved.change;
+          flag = moved.flag;
+        };
         entries = same-entries middle.indexes h'.indexes indexes;
       };
     })
@@ -192,13 +198,13 @@ stays-there h h1 middle place x row n before same_pages there root at =
     let is : page_on middle place.page ≡ before = page-at middle.pages.pages place.page before at in
     elim (cases_eq place.page n) [
       | inl here ↦
-          let now : page_on middle place.page ≡ root.page = ap (λ m. page_in middle.pages.pages m) here
-          ∙ puts-same h1.pages middle.pages n root.page (subst (λ m. m < length h1.pages.pages) here within) root.puts in
-          let added = subst (λ slots. IsNormalAt slots place.slot) (sym root.slots)
+          let now : page_on middle place.page ≡ root.put.page = ap (λ m. page_in middle.pages.pages m) here
+          ∙ puts-same h1.pages middle.pages n root.put.page (subst (λ m. m < length h1.pages.pages) here within) root.put.puts in
+          let added = subst (λ slots. IsNormalAt slots place.slot) (sym root.put.slots)
           (normal-added (page_on h1 n).slots place.slot _ (subst (λ m. IsNormalAt (page_on h1 m).slots place.slot) here there_1)) in
           subst (λ (p : PageView). IsNormalAt p.slots place.slot) (sym now ∙ is) added
       | inr other ↦
-          let kept = puts-other h1.pages middle.pages n place.page root.page within other root.puts in
+          let kept = puts-other h1.pages middle.pages n place.page root.put.page within other root.put.puts in
           subst (λ (p : PageView). IsNormalAt p.slots place.slot) (sym kept ∙ is) there_1
     ]
 
@@ -212,11 +218,13 @@ pub replaces-here : (h h' : HeapView) (place : Tid) (x : ℕ) (row : Row) (befor
 replaces-here h h' place x row before after at adds within pages marks entries =
     let same : before ≡ page_on h place.page = sym (page-at h.pages.pages place.page before at) in
     record {
-      page = after;
-      puts = in_use (slice_get_within h.pages.pages place.page before at) pages marks;
-      slots = subst (λ (p : PageView). after.slots ≡ with_updated p.slots place.slot x place.page row) same adds.slots;
-      change = subst (λ (p : PageView). after.change ≡ replaced_change p.slots place.slot x place.page (free_number p.slots) true (next_change p.change)) same adds.change;
-      flag = adds.flag;
+      put = record {
+        page = after;
+        puts = in_use (slice_get_within h.pages.pages place.page before at) pages marks;
+        slots = subst (λ (p : PageView). after.slots ≡ with_updated p.slots place.slot x place.page row) same adds.slots;
+        change = subst (λ (p : PageView). after.change ≡ replaced_change p.slots place.slot x place.page (free_number p.slots) true (next_change p.change)) same adds.change;
+        flag = adds.flag;
+      };
       within = subst (λ (p : PageView). free_number p.slots ≤ 291) same within;
       entries = entries;
     }
@@ -233,11 +241,13 @@ deletes h h' own own' place x before after free takes there at away pages marks 
       takes_ids = takes;
       there = there;
       away = record {
-        page = after;
-        puts = in_use (slice_get_within h.pages.pages place.page before at) pages marks;
-        slots = moved.slots;
-        change = moved.change;
-        flag = moved.flag;
+        put = record {
+          page = after;
+          puts = in_use (slice_get_within h.pages.pages place.page before at) pages marks;
+          slots = moved.slots;
+          change = moved.change;
+          flag = moved.flag;
+        };
         entries = entries;
       };
       max_pages = max_pages;

@@ -9,7 +9,7 @@ use Rattle.heap_pages.specs.declared.pages.Placement.{Placement}
 use Rattle.heap_pages.specs.declared.pages.Placement.TheVariants as place
 use Rattle.heap_write.specs.declared.target.Target.{Target}
 use Rattle.heap_write.specs.declared.target.Target.TheVariants.{Page, New}
-use Rattle.heap_write.specs.Heap.{unused_page, PutsPage}
+use Rattle.heap_write.specs.Heap.{unused_page, PutsSlots}
 use Rattle.heap_pages.specs.declared.pages.TheConstants.{MOST_PAGES}
 use Rattle.tuple_header.specs.declared.version.TheConstants.{MOST_SLOTS}
 
@@ -49,9 +49,5 @@ place_of_target (Some (New page)) = place.NewPage
 
 -- x made a version of the row as a root on the page of this number
 pub record PutsVersion (pages pages' : PagesView) (updated : Bool) (x : ℕ) (row : Row) (n : ℕ) : Type 0 where
-  pub page : PageView
-  pub puts : PutsPage pages pages' n page
-  pub slots : page.slots ≡ with_root (page_in pages.pages n).slots updated x n row
-  pub change : page.change ≡ next_change (page_in pages.pages n).change
-  pub flag : page.flag ≡ false
+  pub put : PutsSlots pages pages' n (with_root (page_in pages.pages n).slots updated x n row) (next_change (page_in pages.pages n).change)
   pub within : free_number (page_in pages.pages n).slots ≤ MOST_SLOTS

@@ -58,3 +58,11 @@ pub data PutsPage (pages pages' : PagesView) (n : ℕ) (page : PageView) : Type 
       → PutsPage pages pages' n page
   after_all : n ≡ length pages.pages → pages'.pages ≡ pages.pages ++ page ∷ [] → pages'.marks ≡ pages.marks ++ Nothing ∷ []
       → PutsPage pages pages' n page
+
+-- a page with these slots and this change number is put there, and is not flagged
+pub record PutsSlots (pages pages' : PagesView) (n : ℕ) (now : List Slot) (number : ℕ) : Type 0 where
+  pub page : PageView
+  pub puts : PutsPage pages pages' n page
+  pub slots : page.slots ≡ now
+  pub change : page.change ≡ number
+  pub flag : page.flag ≡ false

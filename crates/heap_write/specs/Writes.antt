@@ -6,7 +6,6 @@ use Rattle.xid_circle.specs.Numbers.{Id, Count}
 use Rattle.xid_circle.specs.declared.Tid.{Tid}
 use Rattle.tuple_header.specs.declared.version.Row.{Row}
 use Rattle.tuple_header.specs.Version.{rounded_size_of}
-use Rattle.page_slots.specs.View.{PageView}
 use Rattle.page_sheet.specs.Slots.{room_of, free_number, next_change, row_at, IsNormalAt}
 use Rattle.snapshot.specs.Own.{Own}
 use Rattle.prune_actions.specs.declared.Action.{Action}
@@ -18,7 +17,7 @@ use Rattle.tuple_writes.specs.Writes.{with_root, with_replaced, with_updated, re
 use Rattle.heap_pages.specs.Choice.{IsPlaceFor, HasRoom, NoPage}
 use Rattle.heap_pages.specs.declared.pages.Placement.TheVariants.{Page, NewPage}
 use Rattle.table_indexes.specs.Indexes.{SameValues, SameEntries, Enters}
-use Rattle.heap_write.specs.Heap.{HeapView, page_on, Keeps, ChangesOnePage, PutsPage}
+use Rattle.heap_write.specs.Heap.{HeapView, page_on, Keeps, ChangesOnePage, PutsSlots}
 use Rattle.tuple_header.specs.declared.version.TheConstants.{MOST_SLOTS}
 use Rattle.write_ids.specs.Ids.{NeedsFreeze, TakesIds}
 
@@ -38,30 +37,20 @@ pub data GoesTo (h : HeapView) (size n : ℕ) : Type 0 where
 
 -- x makes a version of the row as a root on page n, with an entry for it in each index
 pub record PutsRoot (h h' : HeapView) (updated : Bool) (x : ℕ) (row : Row) (n : ℕ) : Type 0 where
-  pub page : PageView
-  pub puts : PutsPage h.pages h'.pages n page
-  pub slots : page.slots ≡ with_root (page_on h n).slots updated x n row
-  pub change : page.change ≡ next_change (page_on h n).change
-  pub flag : page.flag ≡ false
+  pub put : PutsSlots h.pages h'.pages n (with_root (page_on h n).slots updated x n row) (next_change (page_on h n).change)
   pub within : free_number (page_on h n).slots ≤ MOST_SLOTS
   pub entries : Enters h.indexes h'.indexes row (record { page = n; slot = free_number (page_on h n).slots })
 
 -- x takes the version at a place away, and its successor is at another, or at its own where it has none; no entry changes
 pub record SetsXmax (h h' : HeapView) (place : Tid) (x : ℕ) (successor : Tid) : Type 0 where
-  pub page : PageView
-  pub puts : PutsPage h.pages h'.pages place.page page
-  pub slots : page.slots ≡ with_replaced (page_on h place.page).slots place.slot x successor.page successor.slot false
-  pub change : page.change ≡ replaced_change (page_on h place.page).slots place.slot x successor.page successor.slot false (page_on h place.page).change
-  pub flag : page.flag ≡ false
+  pub put : PutsSlots h.pages h'.pages place.page (with_replaced (page_on h place.page).slots place.slot x successor.page successor.slot false)
+      (replaced_change (page_on h place.page).slots place.slot x successor.page successor.slot false (page_on h place.page).change)
   pub entries : SameEntries h.indexes h'.indexes
 
 -- x replaces the version at a place by a heap-only one of this row on the same page; no entry changes
 pub record HotUpdates (h h' : HeapView) (place : Tid) (x : ℕ) (row : Row) : Type 0 where
-  pub page : PageView
-  pub puts : PutsPage h.pages h'.pages place.page page
-  pub slots : page.slots ≡ with_updated (page_on h place.page).slots place.slot x place.page row
-  pub change : page.change ≡ replaced_change (page_on h place.page).slots place.slot x place.page (free_number (page_on h place.page).slots) true (next_change (page_on h place.page).change)
-  pub flag : page.flag ≡ false
+  pub put : PutsSlots h.pages h'.pages place.page (with_updated (page_on h place.page).slots place.slot x place.page row)
+      (replaced_change (page_on h place.page).slots place.slot x place.page (free_number (page_on h place.page).slots) true (next_change (page_on h place.page).change))
   pub within : free_number (page_on h place.page).slots ≤ MOST_SLOTS
   pub entries : SameEntries h.indexes h'.indexes
 

@@ -67,16 +67,16 @@ module _ (w : Window) (horizon : ℕ) where
       (subst (λ ms. MapsAreTrue w horizon (p.pages ++ page ∷ []) ms) (sym marks) (added-maps w horizon p.pages p.marks page unflagged t))
 
   root-true : (h h' : HeapView) (updated : Bool) (x : ℕ) (row : Row) (n : ℕ) → PutsRoot h h' updated x row n → AreTrue h → AreTrue h'
-  root-true h h' updated x row n r t = puts-true h.pages h'.pages n r.page r.flag r.puts t
+  root-true h h' updated x row n r t = puts-true h.pages h'.pages n r.put.page r.put.flag r.put.puts t
 
   away-true : (h h' : HeapView) (place : Tid) (x : ℕ) (successor : Tid) → SetsXmax h h' place x successor → AreTrue h → AreTrue h'
-  away-true h h' place x successor a t = puts-true h.pages h'.pages place.page a.page a.flag a.puts t
+  away-true h h' place x successor a t = puts-true h.pages h'.pages place.page a.put.page a.put.flag a.put.puts t
 
   cold-true : (h h' : HeapView) (place : Tid) (x : ℕ) (row : Row) (n : ℕ) → ColdUpdates h h' place x row n → AreTrue h → AreTrue h'
   cold-true h h' place x row n r t = away-true r.middle h' place x (free_place h n) r.away (root-true h r.middle true x row n r.root t)
 
   replaces-true : (h h' : HeapView) (place : Tid) (x : ℕ) (row : Row) → Replaces h h' place x row → AreTrue h → AreTrue h'
-  replaces-true h h' place x row (Replaces.on_page room (UpdatesOnPage.heap_only values a)) t = puts-true h.pages h'.pages place.page a.page a.flag a.puts t
+  replaces-true h h' place x row (Replaces.on_page room (UpdatesOnPage.heap_only values a)) t = puts-true h.pages h'.pages place.page a.put.page a.put.flag a.put.puts t
   replaces-true h h' place x row (Replaces.on_page room (UpdatesOnPage.as_root changed r)) t = cold-true h h' place x row place.page r t
   replaces-true h h' place x row (Replaces.elsewhere room n off goes r) t = cold-true h h' place x row n r t
 

@@ -132,7 +132,7 @@ root_version h updated x row n = record { header = root_header updated x n (free
 
 pub root-puts : (h h' : HeapView) (updated : Bool) (x : ℕ) (row : Row) (n : ℕ) → PutsRoot h h' updated x row n
     → Puts (slots_of h) (slots_of h') n (with_root (page_on h n).slots updated x n row)
-root-puts h h' updated x row n r = subst (Puts (slots_of h) (slots_of h') n) r.slots (puts-from h h' n r.page r.puts)
+root-puts h h' updated x row n r = subst (Puts (slots_of h) (slots_of h') n) r.put.slots (puts-from h h' n r.put.page r.put.puts)
 
 pub root-stands : (h h' : HeapView) (updated : Bool) (x : ℕ) (row : Row) (n : ℕ) → PutsRoot h h' updated x row n
     → AddsAt (version_in (slots_of h)) (version_in (slots_of h')) (free_place h n) (root_version h updated x row n)
@@ -142,7 +142,7 @@ root-stands h h' updated x row n r = adds-on h (slots_of h') n (root_version h u
 
 pub away-puts : (h h' : HeapView) (place : Tid) (x : ℕ) (successor : Tid) → SetsXmax h h' place x successor
     → Puts (slots_of h) (slots_of h') place.page (with_replaced (page_on h place.page).slots place.slot x successor.page successor.slot false)
-away-puts h h' place x successor a = subst (Puts (slots_of h) (slots_of h') place.page) a.slots (puts-from h h' place.page a.page a.puts)
+away-puts h h' place x successor a = subst (Puts (slots_of h) (slots_of h') place.page) a.put.slots (puts-from h h' place.page a.put.page a.put.puts)
 
 pub away-stands : (h h' : HeapView) (place : Tid) (x : ℕ) (successor : Tid) (t : Version) → SetsXmax h h' place x successor → version_in (slots_of h) place ≡ Some t
     → AltersAt (version_in (slots_of h)) (version_in (slots_of h')) place t (taken_version t x successor false)
@@ -193,7 +193,7 @@ pub record Replaced (store store' : Tid → Option Version) (place : Tid) (t : V
 
 pub here-puts : (h h' : HeapView) (place : Tid) (x : ℕ) (row : Row) → HotUpdates h h' place x row
     → Puts (slots_of h) (slots_of h') place.page (with_updated (page_on h place.page).slots place.slot x place.page row)
-here-puts h h' place x row a = subst (Puts (slots_of h) (slots_of h') place.page) a.slots (puts-from h h' place.page a.page a.puts)
+here-puts h h' place x row a = subst (Puts (slots_of h) (slots_of h') place.page) a.put.slots (puts-from h h' place.page a.put.page a.put.puts)
 
 pub here-stands : (h h' : HeapView) (place : Tid) (x : ℕ) (row : Row) (t : Version) → HotUpdates h h' place x row → version_in (slots_of h) place ≡ Some t
     → Replaced (version_in (slots_of h)) (version_in (slots_of h')) place t x row

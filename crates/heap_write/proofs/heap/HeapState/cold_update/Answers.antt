@@ -16,7 +16,7 @@ write-requires-clause-within c =
     let root = c.put_root-successor.ensures.root in
     let within = subst (λ (h : HeapView). n < length h.pages.pages) (sym c.self.view_is) (there-within c.args.self.now c.args.place c.requires.may.there) in
     subst (λ (h : HeapView). n < length h.pages.pages) (sym c.self-2.view_is)
-    (puts-within c.self.inside.pages c.put_root-successor.new.self.pages c.put_root-successor.result.page n root.page within root.puts)
+    (puts-within c.self.inside.pages c.put_root-successor.new.self.pages c.put_root-successor.result.page n root.put.page within root.put.puts)
 
 pub write-requires-clause-ready : goal.write-requires-clause-ready
 write-requires-clause-ready c =
