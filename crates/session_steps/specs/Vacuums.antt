@@ -16,14 +16,10 @@ pub record IsSetUp (st : State) : Type 0 where
   pub limit : 0 < st.settings.dead_limit
   pub indexes : HasIndexes st.heap.indexes
 
--- the cutoff of a vacuum that begins now
-abbrev pub cutoff_of : State → ℕ
-cutoff_of st = cutoff_at st.heap.statuses.first (next_id st.heap.statuses) (horizon_of st)
-    st.settings.freeze_min_age
-
--- a vacuum that begins now
+-- a vacuum that begins now, with the cutoff of this moment
 abbrev pub vacuum_begun : Mode → State → VacuumView
-vacuum_begun mode st = new_vacuum mode (horizon_of st) (cutoff_of st)
+vacuum_begun mode st = new_vacuum mode (horizon_of st)
+    (cutoff_at st.heap.statuses.first (next_id st.heap.statuses) (horizon_of st) st.settings.freeze_min_age)
     (length st.heap.pages.pages) (all_entries st.heap.indexes) st.settings.dead_limit
 
 -- a vacuum does its next step, at the present horizon, and nothing but the heap changes
