@@ -31,7 +31,7 @@ use Rattle.table_scans.specs.declared.progress.CursorScan.{CursorScan}
 use Rattle.table_scans.specs.declared.progress.CursorScan.TheVariants.{Rows}
 use Rattle.table_scans.specs.declared.progress.Scan.TheVariants.{Index, Heap}
 use Rattle.index_lookup.specs.declared.index_scan.IndexRange.{IndexRange}
-use Rattle.session_steps.specs.State.{State, session_at, put_session, with_cursor, with_kept, isolation_seen, seen, position_of, reader_of, engine_sessions}
+use Rattle.session_steps.specs.State.{State, session_at, put_session, with_cursor, isolation_seen, seen, position_of, reader_of, engine_sessions}
 use Rattle.history.specs.Moves.{without_cursor, opened}
 use Rattle.sessions.specs.Session.{keeping, kept_by, IsByStatement, is_too_new}
 use Rattle.session_steps.specs.Agrees.{Agrees, Sound, SessionKeeps, Follows, KeepsAllTargets}
@@ -125,7 +125,7 @@ module _ (st st' : State) (s : ℕ) (e : Session) (cursor : CursorScan) (at : se
 -- A cursor is opened or closed: by statement the session keeps a snapshot for it, or none any more.
 
 abbrev pub with_both : Option CursorScan → Option Snap → Session → Session
-with_both cursor kept e = with_kept kept (with_cursor cursor e)
+with_both cursor kept e = record e { isolation = keeping kept e.isolation; cursor = cursor }
 
 -- by statement it keeps one only where it has a cursor
 for-both : (i : SessionIsolation) (cursor : Option CursorScan) (kept : Option Snap) → (IsSome kept → IsSome cursor) → IsByStatement (keeping kept i) → IsSome (kept_by (keeping kept i)) → IsSome cursor

@@ -25,8 +25,8 @@ use Rattle.sessions.specs.declared.session.SessionIsolation.TheVariants.{BySnaps
 use Rattle.table_scans.specs.declared.progress.CursorScan.{CursorScan}
 use Rattle.table_scans.specs.declared.progress.CursorScan.TheVariants.{Rows, Keys}
 use Rattle.table_scans.specs.declared.progress.Scan.TheVariants.{Index, Heap}
-use Rattle.session_steps.specs.State.{State, session_at, engine_index, put_session, with_cursor, with_kept, refused_state, horizon_of}
-use Rattle.sessions.specs.Session.{IsByStatement, is_too_new, owns_of}
+use Rattle.session_steps.specs.State.{State, session_at, engine_index, put_session, with_cursor, refused_state, horizon_of}
+use Rattle.sessions.specs.Session.{IsByStatement, is_too_new, keeping, owns_of}
 use Rattle.session_steps.specs.Agrees.{FollowsByNotes}
 use Rattle.session_steps.specs.Changes.{Opens, Closes, SavepointsBecome, RollsBack}
 use Rattle.session_steps.specs.Takes.{HandsOut, HandsOutByKeys}
@@ -89,7 +89,7 @@ MovesCursor old new s cursor = new ≡ put_session old s (option_map (with_curso
 
 -- it has this cursor now, or none, and by statement it keeps this snapshot, or none; nothing else changes
 abbrev pub HasCursor : State → State → ℕ → Option CursorScan → Option Snap → Type 0
-HasCursor old new s cursor kept = new ≡ put_session old s (option_map (λ e. with_kept kept (with_cursor cursor e)) (session_at old s))
+HasCursor old new s cursor kept = new ≡ put_session old s (option_map (λ (e : Session). record e { isolation = keeping kept e.isolation; cursor = cursor }) (session_at old s))
 
 -- a cursor is opened: by statement the session keeps the snapshot that is taken now
 abbrev pub OpensCursor : State → State → ℕ → CursorScan → Type 0

@@ -1,7 +1,7 @@
 -- An engine as its callers see it, and what its readers see of it.
 use Rattle.std.specs.Prelude.{ℕ, Bool, true, false, List, Option, Some, None, slice_get, slice_set}
 use Rattle.std.specs.Option.{option_map, option_flatten}
-use Rattle.snapshot.specs.Snap.{Snap, Sees, earliest}
+use Rattle.snapshot.specs.Snap.{Sees, earliest}
 use Rattle.commit_status.specs.Window.{Window, next_id}
 use Rattle.visibility.specs.Visible.{state_of}
 use Rattle.page_sheet.specs.declared.slot.Slot.{Slot}
@@ -25,7 +25,7 @@ use Rattle.index_lookup.specs.declared.index_scan.IndexPosition.{IndexPosition}
 use Rattle.table_scans.specs.declared.progress.CursorScan.{CursorScan}
 use Rattle.table_scans.specs.declared.progress.CursorScan.TheVariants.{Rows, Keys}
 use Rattle.table_scans.specs.declared.progress.Scan.TheVariants.{Index, Heap}
-use Rattle.sessions.specs.Session.{keeping, held_back}
+use Rattle.sessions.specs.Session.{held_back}
 
 pub record State : Type 0 where
   pub settings : Settings
@@ -90,9 +90,6 @@ put_session st s e = record st { sessions = slice_set st.sessions s e }
 
 abbrev pub with_cursor : Option CursorScan → Session → Session
 with_cursor cursor e = record e { cursor = cursor }
-
-abbrev pub with_kept : Option Snap → Session → Session
-with_kept kept e = record e { isolation = keeping kept e.isolation }
 
 -- the session has failed, if it is open
 abbrev pub with_failed : State → ℕ → State
