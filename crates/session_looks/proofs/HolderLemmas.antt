@@ -1,5 +1,5 @@
 -- Who holds the horizon back; where nobody does, it is the next id. And who has an id.
-use Rattle.std.proofs.Common.{◌≡◌, ◌⊎◌, ℕ, ◌+◌, ◌<◌, ◌≤◌, List, [], ◌∷◌, take, length, None, arith, inl, inr, ⊎_elim, refl, sym, ◌∙◌, subst, slice_get}
+use Rattle.std.proofs.Common.{◌≡◌, ◌⊎◌, ℕ, ◌+◌, ◌<◌, ◌≤◌, List, [], ◌∷◌, take, length, Some, None, arith, inl, inr, ⊎_elim, refl, sym, ◌∙◌, subst, slice_get}
 use Rattle.std.specs.Prelude.{Contains, ◌↔◌}
 use Rattle.std.proofs.lemmas.Bool.{cases_lt}
 use Rattle.std.proofs.lemmas.Option.{none-some}
@@ -7,8 +7,8 @@ use Rattle.xid_circle.proofs.Members.{Contains-first, Contains-rest, Contains-no
 use Rattle.commit_status.specs.Window.{next_id}
 use Rattle.snapshot.specs.Snap.{earlier, earliest}
 use Rattle.snapshot.proofs.Earliest.{earlier-cases}
-use Rattle.session_steps.specs.Keeps.{IsOwned}
-use Rattle.session_steps.specs.State.{State, horizon_of}
+use Rattle.sessions.specs.declared.session.Session.{Session}
+use Rattle.session_steps.specs.State.{State, session_at, horizon_of}
 use Rattle.sessions.specs.Session.{held_back}
 use Rattle.session_steps.proofs.Horizons.{held-cases}
 use Rattle.session_steps.proofs.OwnIdsLemmas.{open-within}
@@ -45,7 +45,7 @@ first-none (y ∷ ys) x is c = none-some y (sym is)
 pub none-has : (st : State) (x : ℕ) → length st.sessions ≡ 64 → ((s : ℕ) → s < 64 → ¬ HasId st x s) → (s : ℕ) → ¬ HasId st x s
 none-has st x count below s has = below s (let within = open-within st.sessions s has.0 has.1 in omega (arith, within, count)) has
 
-pub some-has : (st : State) (x : ℕ) → ((s : ℕ) → ¬ HasId st x s) → ¬ IsOwned st.sessions x
+pub some-has : (st : State) (x : ℕ) → ((s : ℕ) → ¬ HasId st x s) → ¬ ((s : ℕ) × (e : Session) × (session_at st s ≡ Some e) × Contains e.own.ids x)
 some-has st x none owned = none owned.0 (owned.1, owned.2, owned.3)
 
 pub has-more : (st : State) (x n : ℕ) → ((s : ℕ) → s < n → ¬ HasId st x s) → ¬ HasId st x n → (s : ℕ) → s < n + 1 → ¬ HasId st x s

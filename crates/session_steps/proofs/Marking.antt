@@ -10,7 +10,7 @@ use Rattle.root_index.specs.View.{IndexView}
 use Rattle.session_steps.specs.State.{State, engine_index, reader_of}
 use Rattle.sessions.specs.Session.{holds_back, held_back}
 use Rattle.sessions.specs.Places.{HoldsOpen, open_at}
-use Rattle.session_steps.specs.Keeps.{IsOwned, EngineKeeps}
+use Rattle.session_steps.specs.Keeps.{EngineKeeps}
 use Rattle.session_steps.specs.Making.{LacksIndexOn, SomeoneHasId}
 use Rattle.sessions.specs.Marks.{MarksSession, MarksPlace, MarksAll}
 
@@ -66,7 +66,7 @@ keeps-marked number xs ys w marks keeps = record {
     had : (e now : Session) (x : ℕ) → MarksSession number e now → Contains now.own.ids x → Contains e.own.ids x
     had e now x m mine = subst (λ ids. Contains ids x) (ap (λ (f : Session). f.own.ids) m.is) mine
 
-    owned : (x : ℕ) → IsOwned xs x → IsOwned ys x
+    owned : (x : ℕ) → (s : ℕ) × (e : Session) × (open_at xs s ≡ Some e) × Contains e.own.ids x → (s : ℕ) × (e : Session) × (open_at ys s ≡ Some e) × Contains e.own.ids x
     owned x by =
         let now = marked-on number xs ys marks by.0 by.1 by.2 in
         (by.0, now.0, now.1, subst (λ ids. Contains ids x) (sym (ap (λ (f : Session). f.own.ids) now.2.is)) by.3)

@@ -17,7 +17,7 @@ use Rattle.write_ids.specs.Ids.{GivesUnder}
 use Rattle.write_ids.proofs.GivenIds.{given-active_old, given-active, given-active_cases, given-new, given-distinct}
 use Rattle.history.proofs.Places.{slice_get-set_same, slice_get-set_other}
 use Rattle.sessions.specs.declared.session.Session.{Session}
-use Rattle.session_steps.specs.Keeps.{IsOwned, OwnIdsKeep}
+use Rattle.session_steps.specs.Keeps.{OwnIdsKeep}
 use Rattle.sessions.specs.Places.{open_at}
 use Rattle.sessions.proofs.PlaceLemmas.{place-within}
 
@@ -64,7 +64,7 @@ OwnedIn xs s now x =
     ((e : Session) × (now ≡ Some e) × Contains e.own.ids x) ⊎ ((o : ℕ) × (e : Session) × (o ≢ s) × (open_at xs o ≡ Some e) × Contains e.own.ids x)
 
 -- an id of an open session is that one's in this place, or one's in another
-own-cases : (xs : List (Option Session)) (s x : ℕ) (o : Option Session) → open_at xs s ≡ o → IsOwned xs x → OwnedIn xs s o x
+own-cases : (xs : List (Option Session)) (s x : ℕ) (o : Option Session) → open_at xs s ≡ o → (p : ℕ) × (e : Session) × (open_at xs p ≡ Some e) × Contains e.own.ids x → OwnedIn xs s o x
 own-cases xs s x o at owned = elim (cases_eq owned.0 s) [
   | inl same ↦ inl (owned.1, sym at ∙ (ap (open_at xs) (sym same) ∙ owned.2), owned.3)
   | inr ne ↦ inr (owned.0, owned.1, ne, owned.2, owned.3)
