@@ -130,7 +130,7 @@ module _ (cache : Option (List (ℕ × Status))) (old new : State) where
   answer-keeps s reply own exact = change-keeps own (exact-change old new s reply exact)
 
   pub making-keeps : (c : ℕ) → HasOrMakes old new c → KeepsCache cache old.heap.statuses → KeepsCache cache new.heap.statuses
-  making-keeps c (HasOrMakes.has there is) = same-keeps (ap (λ (st : State). st.heap.statuses) is)
+  making-keeps c (HasOrMakes.has within there is) = same-keeps (ap (λ (st : State). st.heap.statuses) is)
   making-keeps c (HasOrMakes.makes lacks nobody makes) = same-keeps (ap (λ (h : HeapView). h.statuses) makes.heap.is)
 
 -- Old ids are forgotten.

@@ -1,10 +1,11 @@
 -- An index by a column is made, or it is refused: the engine follows the history.
-use Rattle.std.proofs.Common.{◌≡◌, ◌≢◌, ℕ, suc, List, ◌∷◌, Option, Some, None, Bool, true, false, refl, sym, ap, ◌∙◌, subst, ◌⊎◌, inl, inr, arith}
+use Rattle.std.proofs.Common.{◌≡◌, ◌≢◌, ℕ, suc, ◌<◌, List, ◌∷◌, Option, Some, None, Bool, true, false, refl, sym, ap, ◌∙◌, subst, ◌⊎◌, inl, inr, arith}
 use Rattle.std.specs.Prelude.{◌↔◌, ◌==◌, IsSome, Contains, is_some, if◌then◌else◌}
 use Rattle.std.specs.Option.{option_map}
 use Rattle.std.proofs.lemmas.Bool.{cases_eq}
 use Rattle.xid_circle.proofs.Members.{Contains-none}
 use Rattle.commit_status.specs.declared.status.Status.{Status}
+use Rattle.tuple_header.specs.declared.version.TheConstants.{COLUMNS}
 use Rattle.commit_status.specs.Window.{Window, IsActive, place, status_of, next_id}
 use Rattle.snapshot.specs.Snap.{Snap, earliest}
 use Rattle.visibility.proofs.Makers.{is-inserter, active-from}
@@ -31,12 +32,12 @@ use Rattle.refinement.proofs.FollowsIndexes as indexes
 use Rattle.sessions.specs.declared.session.Session.{Session}
 use Rattle.sessions.specs.declared.session.SessionIsolation.{SessionIsolation}
 use Rattle.sessions.specs.declared.session.SessionIsolation.TheVariants.{BySnapshot, ByStatement}
-use Rattle.session_steps.specs.State.{State, session_at, seen, seen_in, reader_of, isolation_seen, horizon_of}
+use Rattle.session_steps.specs.State.{State, engine_index, session_at, seen, seen_in, reader_of, isolation_seen, horizon_of}
 use Rattle.sessions.specs.Session.{kept_by, reads_by_snapshot, is_too_new, held_back}
 use Rattle.sessions.specs.Places.{open_at}
 use Rattle.sound_entries.specs.Since.{MayScanSince}
 use Rattle.session_steps.specs.Agrees.{Agrees, Sound, SessionKeeps, SessionScans, KeepsAllTargets, NameIds, WrittenAgrees}
-use Rattle.session_steps.specs.Making.{HasIndexOn, LacksIndexOn, SomeoneHasId, MakesIndexOn, HasOrMakes, RefusesIndexOn}
+use Rattle.session_steps.specs.Making.{LacksIndexOn, SomeoneHasId, MakesIndexOn, HasOrMakes, RefusesIndexOn}
 use Rattle.sessions.specs.Marks.{MarksSession}
 use Rattle.session_steps.proofs.Owns.{reader-at, reader-is}
 use Rattle.session_steps.proofs.WrittenLemmas.{someone-written, nobody-written}
@@ -199,18 +200,18 @@ module _ (st st' : State) (w : World) (c : ℕ) (lacks : LacksIndexOn st c) (non
 
 -- Or it is there.
 
-follows-there : (st : State) (w : World) (c : ℕ) → HasIndexOn st c → Agrees st w → Allows w (step.CreateIndex c) reply.Done × Agrees st (with_index_on w c) × KeepsAllTargets st st
-follows-there st w c there agrees =
-    let has : w.has_index (suc c) ≡ true = (agrees.indexes (suc c)).0 (there-used (index_at st.heap.indexes (suc c)) there.1) in
-    let f = indexes.Follows-create_index (seen st) c there.0 w (λ lacks. absurd (let e : true ≡ false = sym has ∙ lacks in cc)) agrees.found in
+follows-there : (st : State) (w : World) (c : ℕ) → c < COLUMNS → IsSome (engine_index st (suc c)) → Agrees st w → Allows w (step.CreateIndex c) reply.Done × Agrees st (with_index_on w c) × KeepsAllTargets st st
+follows-there st w c within there agrees =
+    let has : w.has_index (suc c) ≡ true = (agrees.indexes (suc c)).0 (there-used (index_at st.heap.indexes (suc c)) there) in
+    let f = indexes.Follows-create_index (seen st) c within w (λ lacks. absurd (let e : true ≡ false = sym has ∙ lacks in cc)) agrees.found in
     let is : with_index_on w c ≡ w = ap (λ b. if b then w else with_made_index w (suc c)) has in
     (f.0, subst (Agrees st) (sym is) agrees, led-same st w agrees)
 
 -- where it is not there, no vacuum runs
 pub follows-has_or_makes : (st st' : State) (w : World) (c : ℕ) → HasOrMakes st st' c → (LacksIndexOn st c → w.has_vacuum ≡ false) → Agrees st w
     → Allows w (step.CreateIndex c) reply.Done × Agrees st' (with_index_on w c) × KeepsAllTargets st st'
-follows-has_or_makes st st' w c (HasOrMakes.has there is) idle agrees =
-    subst (λ new. Allows w (step.CreateIndex c) reply.Done × Agrees new (with_index_on w c) × KeepsAllTargets st new) (sym is) (follows-there st w c there agrees)
+follows-has_or_makes st st' w c (HasOrMakes.has within there is) idle agrees =
+    subst (λ new. Allows w (step.CreateIndex c) reply.Done × Agrees new (with_index_on w c) × KeepsAllTargets st new) (sym is) (follows-there st w c within there agrees)
 follows-has_or_makes st st' w c (HasOrMakes.makes lacks none makes) idle agrees = follows-made st st' w c lacks none makes agrees (idle lacks)
 
 -- It is not made.

@@ -10,10 +10,7 @@ use Rattle.session_steps.specs.State.{State, session_at, engine_index}
 use Rattle.sessions.specs.Marks.{MarksAll}
 use Rattle.tuple_header.specs.declared.version.TheConstants.{COLUMNS}
 
--- the index by the column is there, or it is not and may be made
-abbrev pub HasIndexOn : State → (column : ℕ) → Type 0
-HasIndexOn st c = (c < COLUMNS) × IsSome (engine_index st (suc c))
-
+-- the index by the column is not there, and may be made
 abbrev pub LacksIndexOn : State → (column : ℕ) → Type 0
 LacksIndexOn st c = (c < COLUMNS) × (engine_index st (suc c) ≡ None)
 
@@ -29,7 +26,7 @@ pub record MakesIndexOn (old new : State) (column : ℕ) : Type 0 where
 
 -- The index is there, and nothing changes; or it is made, as it may be while no open session has an id.
 pub data HasOrMakes (old new : State) (column : ℕ) : Type 0 where
-  has : HasIndexOn old column → new ≡ old → HasOrMakes old new column
+  has : column < COLUMNS → IsSome (engine_index old (suc column)) → new ≡ old → HasOrMakes old new column
   makes : LacksIndexOn old column → ¬ SomeoneHasId old → MakesIndexOn old new column → HasOrMakes old new column
 
 -- Why it is not made, of the first reason in this order. Memory is asked for only where an entry comes.
