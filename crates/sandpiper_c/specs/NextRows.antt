@@ -5,7 +5,7 @@ use Rattle.tuple_header.specs.declared.row_place.RowPlace.{RowPlace}
 use Rattle.calls.specs.declared.step.Step.TheVariants as step
 use Rattle.calls.specs.declared.reply.Reply.{Reply}
 use Rattle.calls.specs.declared.reply.Refusal.{Refusal}
-use Rattle.session_steps.specs.NextRows.{places_after, count_in, ExactNextRows}
+use Rattle.session_steps.specs.NextRows.{WritesReply, ExactNextRows}
 use Rattle.vacuum_engine.specs.State.{noted}
 use Rattle.session_core.specs.Clauses.{WaitingFollows}
 use Rattle.c_handles.specs.declared.database.Sandpiper.{Sandpiper}
@@ -37,8 +37,9 @@ pub record HandsRows (old : Held) (s : SessionNo) (places : List RowPlace) (code
   pub waits : new.engine.waits ≡ slice_set old.engine.waits s None
   pub same_reply : new.reply ≡ old.reply
   pub status : code ≡ number_of_status (status_of_reply reply)
-  pub written : after ≡ places_after reply places
-  pub number : count ≡ count_of (count_in reply)
+  pub answer : Result ℕ Refusal
+  pub written : WritesReply reply places answer after
+  pub number : count ≡ count_of answer
 
 -- nothing is done, and no row is written
 pub record HandsNothing (old : Option Held) (places after : List RowPlace) (count : ℕ) (new : Option Held) : Type 0 where

@@ -34,7 +34,7 @@ up-to-most st e (Heap from) most rows to (place, same, takes) = takes.at_most
 pub puts-refused : (st : State) (s : ℕ) (places : List RowPlace) (r : Refusal) → BarsWithCursor (engine_sessions st) s r → AnswersNextRows st s places (Err r) places st
 puts-refused st s places r is = record {
   reply = reply.Refused r;
-  written = record { answers = refl; written = refl };
+  written = (refl, refl);
   follows = λ hold. Follows-bare_next st s (length places) r is;
   exact = bare-next_rows st s (length places) r is;
 }
@@ -44,7 +44,7 @@ module _ (st : State) (s : ℕ) (e : Session) (cursor : Scan) (places : List Row
   no-rows_put : count ≡ 0 → AnswersNextRows st s places (Ok count) after st
   no-rows_put none = record {
     reply = reply.End;
-    written = record { answers = ap Ok none; written = h.put.written ∙ ap (λ rows. places_with rows places) (no-rows h.rows count h.put.number none) };
+    written = (ap Ok none, h.put.written ∙ ap (λ rows. places_with rows places) (no-rows h.rows count h.put.number none));
     follows = λ hold. Follows-end st s (length places) e (Rows cursor) at sound opened (h.at_end none);
     exact = refl;
   }
@@ -55,7 +55,7 @@ module _ (st : State) (s : ℕ) (e : Session) (cursor : Scan) (places : List Row
       let rows = with_rows h.rows (omega (arith, fits, few)) in
       let met : 0 < length h.rows = omega (arith, above, h.put.number) in record {
         reply = reply.Rows rows;
-        written = record { answers = ap Ok (sym h.put.number); written = h.put.written };
+        written = (ap Ok (sym h.put.number), h.put.written);
         follows = λ hold. Follows-rows_up_to st st' s (length places) e cursor to rows at sound opened met some (h.takes above) is;
         exact = (met, hands-out TakesUpTo st st' s (length places) e cursor to h.rows at opened (h.takes above) is);
       }
@@ -66,7 +66,7 @@ module _ (st : State) (s : ℕ) (e : Session) (range : KeyRange) (places : List 
   no-keys_put some none =
       let bare : length h.keys ≡ 0 = omega (arith, h.number, none) in record {
         reply = reply.End;
-        written = record { answers = ap Ok none; written = h.written ∙ ap (λ keys. places_with_keys keys places) (nothing h.keys bare) };
+        written = (ap Ok none, h.written ∙ ap (λ keys. places_with_keys keys places) (nothing h.keys bare));
         follows = λ hold. Follows-end st s (length places) e (Keys range) at sound opened (no-key_taken (session_sight st e) range left (length places) h.keys h.takes bare some);
         exact = refl;
       }
@@ -82,7 +82,7 @@ module _ (st : State) (s : ℕ) (e : Session) (range : KeyRange) (places : List 
       let met : 0 < length h.keys = omega (arith, above, h.number) in
       let takes = subst (λ most. TakesKeys (session_sight st e) range left most h.keys) (same-most (length places) some) h.takes in record {
         reply = reply.Keys keys;
-        written = record { answers = ap Ok (sym h.number); written = h.written };
+        written = (ap Ok (sym h.number), h.written);
         follows = λ hold. Follows-keys st st' s (length places) e range left keys at sound opened is (record { some = met; takes = takes }) hold;
         exact = (met, hands-out_keys st st' s (length places) e range left keys at sound opened is takes);
       }

@@ -12,23 +12,13 @@ use Rattle.session_steps.specs.State.{State}
 use Rattle.session_steps.specs.Agrees.{FollowsByNotes}
 use Rattle.session_steps.specs.Takes.{HandsOutUpTo, HandsOutByKeys}
 
--- the places once the rows of a reply, or its keys, are written to the first of them
-abbrev pub places_after : Reply → List RowPlace → List RowPlace
-places_after (reply.Rows rows) places = places_with rows.items places
-places_after (reply.Keys keys) places = places_with_keys keys.items places
-places_after reply places = places
-
--- how many rows or keys it has, none where nothing is left, or the refusal
-abbrev pub count_in : Reply → Result ℕ Refusal
-count_in (reply.Rows rows) = Ok (length rows.items)
-count_in (reply.Keys keys) = Ok (length keys.items)
-count_in (reply.Refused refusal) = Err refusal
-count_in reply = Ok 0
-
--- the answer is that of the reply, and its rows or keys are in the first places: all others are as they were
-pub record WritesReply (reply : Reply) (places : List RowPlace) (answer : Result ℕ Refusal) (after : List RowPlace) : Type 0 where
-  pub answers : answer ≡ count_in reply
-  pub written : after ≡ places_after reply places
+-- The answer is that of the reply: how many rows or keys it has, none where nothing is left, or the refusal. Its rows or keys are in the
+-- first places: all others are as they were
+abbrev pub WritesReply : Reply → List RowPlace → (answer : Result ℕ Refusal) → (after : List RowPlace) → Type 0
+WritesReply (reply.Rows rows) places answer after = (answer ≡ Ok (length rows.items)) × (after ≡ places_with rows.items places)
+WritesReply (reply.Keys keys) places answer after = (answer ≡ Ok (length keys.items)) × (after ≡ places_with_keys keys.items places)
+WritesReply (reply.Refused refusal) places answer after = (answer ≡ Err refusal) × (after ≡ places)
+WritesReply reply places answer after = (answer ≡ Ok 0) × (after ≡ places)
 
 -- Beside what the history says of the reply: some rows or keys are handed out, up to so many, and a cursor at its end and a
 -- refusal leave all as it was. No memory is asked for.
