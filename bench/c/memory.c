@@ -1,9 +1,11 @@
-/* How much memory rows and pages take: memory LENGTH [ROWS]. It inserts rows with bodies of LENGTH bytes, ROWS of them or as many as fit on
- * 65,536 pages, and prints how many there were, and how much the resident memory grew. */
+/* How much memory rows and pages take: memory LENGTH [ROWS [KEYS [VALUES]]]. It inserts rows with bodies of LENGTH bytes, ROWS of them or as
+ * many as fit on 65,536 pages, and prints how many there were, and how much the resident memory grew. KEYS is `ascending` or `random`. With
+ * VALUES, which is that too, there is an index by a column, whose values are so many different numbers in that order. */
 #include <sandpipercot.h>
 #include <stdint.h>
 #include <stdio.h>
 #include <stdlib.h>
+#include <string.h>
 #include <unistd.h>
 
 /* resident bytes of this process */
@@ -15,22 +17,45 @@ static double resident(void) {
     return (double)pages * (double)sysconf(_SC_PAGESIZE);
 }
 
+/* the numbers below `count`, in ascending order or in another that is the same each time; nothing where they are as they come */
+static uint32_t *numbers(const char *order, uint64_t count) {
+    if (!strcmp(order, "ascending")) return NULL;
+    if (strcmp(order, "random") || count > UINT32_MAX) exit(2);
+    uint32_t *all = malloc(count * sizeof *all);
+    if (!all) exit(3);
+    for (uint64_t at = 0; at < count; at++) all[at] = (uint32_t)at;
+    uint64_t state = 1;
+    for (uint64_t at = count; at > 1; at--) {
+        state = state * 6364136223846793005u + 1442695040888963407u;
+        uint64_t other = (state >> 33) % at;
+        uint32_t kept = all[at - 1];
+        all[at - 1] = all[other];
+        all[other] = kept;
+    }
+    return all;
+}
+
 int main(int count, char **words) {
-    if (count < 2) return 2;
+    if (count < 2 || count > 5) return 2;
     uint64_t most = count > 2 ? strtoull(words[2], NULL, 10) : UINT64_MAX;
+    uint32_t *keys = numbers(count > 3 ? words[3] : "ascending", most);
+    uint32_t *values = numbers(count > 4 ? words[4] : "ascending", most);
     struct sandpiper table = {0};
+    struct sandpiper_settings settings = SANDPIPER_WIDEST;
     struct sandpiper_row row = {.length = (uint16_t)atoi(words[1])};
+    settings.indexed[0] = count > 4;
     uint64_t rows = 0;
     double before = resident();
-    if (sandpiper_open(&(struct sandpiper_settings)SANDPIPER_WIDEST, &table) != SANDPIPER_DONE) return 3;
+    if (sandpiper_open(&settings, &table) != SANDPIPER_DONE) return 3;
     sandpiper_begin(&table, 0);
     for (; rows < most; rows++) {
-        row.key = rows;
+        row.key = keys ? keys[rows] : rows;
+        row.cols[0] = values ? values[rows] : (int64_t)rows;
         uint32_t status = sandpiper_insert(&table, 0, &row);
         if (status == SANDPIPER_NO_ROOM) break;
         if (status != SANDPIPER_DONE) return 3;
     }
     double grown = resident() - before;
-    printf("%llu rows of %u bytes: %.0f MiB, %.0f bytes a row\n", (unsigned long long)rows, row.length, grown / 1048576, grown / (double)rows);
+    printf("%llu rows of %u bytes: %.1f MiB, %.0f bytes a row\n", (unsigned long long)rows, row.length, grown / 1048576, grown / (double)rows);
     return sandpiper_commit(&table, 0) != SANDPIPER_COMMITTED || sandpiper_close(&table) != SANDPIPER_DONE;
 }
