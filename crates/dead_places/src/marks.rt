@@ -1,4 +1,4 @@
-//! Marks of places.
+//! Marks of places: 0 where a set has no place of this mark, and else a hint where one of them stands.
 
 ghost use Rattle.std.specs.Prelude.{◌≡◌, ◌<◌, slice_set};
 ghost use Rattle.dead_places.specs.Marks.{place_mark};
@@ -8,10 +8,10 @@ use xid_circle::Tid;
 /// How many marks there are.
 pub(crate) const MARKS: usize = 8192;
 
-// A page without bodies holds 107 rows. So the places of some 72 neighbouring pages have marks of their own.
+// A full page of rows without bodies has 107 slots. So on some 72 such pages in a row each place has a mark of its own.
 const MARKS_OF_A_PAGE: u64 = 113;
 
-/// The number of a place's mark.
+/// The number of a place's mark, by which it is found among all.
 #[inline(always)]
 pub(crate) fn place_mark(tid: Tid) -> usize
     ensures value { result ≡ place_mark tid }

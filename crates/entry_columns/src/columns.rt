@@ -63,7 +63,7 @@ impl<L: Label> EntryColumns<L> {
         self.places.clear();
     }
 
-    /// The number of entries.
+    /// The number of entries. (The columns are private to this type.)
     #[inline(always)]
     pub fn len(&self) -> usize
         ensures value { result ≡ length self.now.entries }
@@ -150,7 +150,7 @@ impl<L: Label> EntryColumns<L> {
         move_part(&mut self.places, place, &mut lower.places);
     }
 
-    /// The first place, from this one on, of an entry that leads to a dead place; the end, where none does.
+    /// The index, from this one on, of the first entry that leads to a dead place; the end, where none does.
     fn next_dead(&self, from: usize, dead: &DeadSet) -> usize
         requires { from ≤ length self.now.entries }
         ensures in_range { result ≤ length self.now.entries }
@@ -181,7 +181,7 @@ impl<L: Label> EntryColumns<L> {
         between(from, from.saturating_add(ahead))
     }
 
-    /// Reads labels and places, one in each line of memory.
+    /// Reads labels and places, so that the lines of memory that they stand in are near.
     #[inline(always)]
     pub fn touch(&self) -> u32 {
         touched_labels(&self.labels).wrapping_add(touched_places(&self.places))
@@ -318,7 +318,7 @@ fn least_ahead(places: &[ShortTid], from: u32) -> u32
     ahead
 }
 
-/// The first of these places, from this one on, that may be one of those; the end, where none may.
+/// The index, from this one on, of the first of these places whose number lies in the span; the end, where there is none.
 fn next_within(places: &[ShortTid], from: usize, span: Span) -> usize
     requires { from ≤ length places.now }
     ensures from { from ≤ result }
@@ -332,7 +332,7 @@ fn next_within(places: &[ShortTid], from: usize, span: Span) -> usize
     place
 }
 
-/// Passes over eight places at once, from this one on, as long as none of them may be one of those.
+/// An index up to which no number of these places lies in the span, from this one on: eight places are passed over at once.
 fn past_eights(places: &[ShortTid], from: usize, span: Span) -> usize
     requires { from ≤ length places.now }
     ensures from { from ≤ result }
@@ -424,20 +424,21 @@ fn is_dead(dead: &DeadSet, span: Span, place: ShortTid) -> bool
     is_within(span, place) && dead.contains(place.long())
 }
 
-/// Reads one of these labels of each line of memory.
+/// Reads each eighth of these labels, and the last. Eight of an index by key stand in one line of memory, and of another in two, which a
+/// processor reads together.
 #[inline(always)]
 fn touched_labels<L: Label>(labels: &[L]) -> u32 {
     let mut touched = match labels.last() {
         Some(last) => last.key(),
         None => 0,
     };
-    for line in 0..labels.len() / 8 {
-        touched = touched.wrapping_add(labels[line * 8].key());
+    for eighth in 0..labels.len() / 8 {
+        touched = touched.wrapping_add(labels[eighth * 8].key());
     }
     (touched % 65_536) as u32
 }
 
-/// Reads one of these places of each line of memory.
+/// Reads each sixteenth of these places, and the last: sixteen stand in one line of memory.
 #[inline(always)]
 fn touched_places(places: &[ShortTid]) -> u32 {
     let mut touched = match places.last() {

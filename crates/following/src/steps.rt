@@ -1,4 +1,4 @@
-//! The history goes on by an answer that it allows.
+//! The history goes on by an answer that it allows. Each step has a function here, also where its session just stops to wait.
 
 ghost use Rattle.std.specs.Prelude.{◌≡◌, OnOk, OnErr};
 ghost use Rattle.refinement.specs.Allowed.{AllowsReply, after_reply};

@@ -32,9 +32,9 @@ pub enum Placement {
 /// The pages of a table, numbered from 0.
 ///
 /// A page with room is found by a map of the pages' free-space bytes, as PostgreSQL finds one
-/// (src/backend/storage/freespace/README), and not by a look at each. A page is changed through [`Pages::edit`] alone, which
-/// notes its byte anew: so after every call each byte is that of its page. A session's write goes through [`Pages::write`]
-/// to that, which first takes back what the visibility map says of the page.
+/// (src/backend/storage/freespace/README), and not by a look at each. A page is changed through [`Pages::edit`] or [`Pages::write`], which
+/// note its byte anew: so after every call each byte is that of its page. A session writes through [`Pages::write`], which also takes back
+/// what the visibility map says of the page. A vacuum notes what it says anew by [`Pages::note`], which changes the page's flag alone.
 #[derive(Debug, Drop)]
 pub struct Pages {
     pages: Vec<OwnPage>,

@@ -43,7 +43,7 @@ pub record Keeps (h h' : HeapView) : Type 0 where
   pub entries : SameEntries h.indexes h'.indexes
   pub max_pages : h'.max_pages ≡ h.max_pages
 
--- the page of the number becomes another, as is said of both, and nothing else changes
+-- the page of this number changes so, from what it was before to what it is after, and nothing else changes
 pub record ChangesOnePage (h h' : HeapView) (n : ℕ) (So : PageView → PageView → Type 0) : Type 0 where
   pub before : PageView
   pub after : PageView
@@ -59,10 +59,10 @@ pub data PutsPage (pages pages' : PagesView) (n : ℕ) (page : PageView) : Type 
   after_all : n ≡ length pages.pages → pages'.pages ≡ pages.pages ++ page ∷ [] → pages'.marks ≡ pages.marks ++ Nothing ∷ []
       → PutsPage pages pages' n page
 
--- a page with these slots and this change number is put there, and is not flagged
-pub record PutsSlots (pages pages' : PagesView) (n : ℕ) (now : List Slot) (number : ℕ) : Type 0 where
+-- a page with these slots and this change number is put at the number, and is not flagged
+pub record PutsSlots (pages pages' : PagesView) (n : ℕ) (slots_now : List Slot) (change_now : ℕ) : Type 0 where
   pub page : PageView
   pub puts : PutsPage pages pages' n page
-  pub slots : page.slots ≡ now
-  pub change : page.change ≡ number
+  pub slots : page.slots ≡ slots_now
+  pub change : page.change ≡ change_now
   pub flag : page.flag ≡ false

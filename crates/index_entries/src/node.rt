@@ -243,10 +243,10 @@ pub trait Node: Drop {
         ensures returned { HasPlaces spares.old
             → HasReserve spares.new ⊎ (long self.old ≤ long self.new) };
 
-    /// Reads what a sweep beside these places will read, and nothing else comes of it. So memory is waited for but once for several nodes.
+    /// Reads what a sweep for these dead places will read, and nothing else comes of it. So memory is waited for but once for several nodes.
     fn touch(&self, dead: &DeadSet) -> u32;
 
-    /// Takes what was read so, and does nothing with it: else nothing would be read.
+    /// Keeps what was read so, for nothing: else the compiler would leave the reading out.
     fn take_touched(spares: &mut Self::Spares, touched: u32)
         ensures { spares.new ≡ spares.old };
 

@@ -55,7 +55,7 @@ impl<L: Label> SpareLists<L> {
         self.touched = touched;
     }
 
-    /// The number of large ones.
+    /// The number of large ones. (The lists are private to this type.)
     pub(crate) fn len(&self) -> usize
         ensures { result ≡ self.now.large }
     {

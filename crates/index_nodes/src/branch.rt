@@ -149,6 +149,7 @@ impl<N: Node> Node for Branch<N> {
         nodes::sweep_from(&mut self.nodes, spares, position, dead)
     }
 
+    // (Leaves are read ahead, and a branch has nothing but these.)
     #[inline(always)]
     fn touch(&self, _dead: &DeadSet) -> u32 {
         0

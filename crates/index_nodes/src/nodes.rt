@@ -31,7 +31,7 @@ pub struct Spares<N, B> {
     pub below: B,
 }
 
-/// The node of this number, if there is one.
+/// The node of this number, if there is one. (So the option is said to be of the list.)
 fn node_of<N: Node>(nodes: &[N], number: usize) -> Option<&N>
     ensures { option_copied result ≡ slice_get nodes.now number }
 {

@@ -134,6 +134,7 @@ fn may_hand_keys(cursor: &PlainCursor, n: u16, keys: &[u64]) -> bool
     }
 }
 
+// Whether there are no rows, said of the list.
 fn is_none(rest: &[Row]) -> bool
     ensures { IsTrue result ↔ (rest.now ≡ []) }
 {

@@ -1,4 +1,4 @@
-//! The judge.
+//! The judge. The history that it keeps is private to it, so each question about an answer is a call here.
 
 ghost use Rattle.std.specs.Prelude.{◌≡◌, ◌↔◌, IsTrue, IfOk, OnErr};
 ghost use Rattle.history.specs.World.{beginning};

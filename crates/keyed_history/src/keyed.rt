@@ -41,7 +41,7 @@ impl KeyedHistory {
         }
     }
 
-    /// How many transactions have committed.
+    /// How many transactions have committed. (The list is private to this type.)
     pub fn len(&self) -> usize
         ensures { result ≡ length self.now }
     {

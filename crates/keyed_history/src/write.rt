@@ -1,4 +1,4 @@
-//! Writes, as lists.
+//! Writes, as lists. The lists are private to their types, so what asks or changes one alone is a call here.
 
 ghost use Rattle.std.specs.Prelude.{◌≡◌, ◌++◌, ◌∷◌, [], ◌↔◌, IsTrue, IsSome, IfSome, MatchOption, IfOk, OnOk, OnErr, Some, None};
 ghost use Rattle.history.specs.History.{said, written};

@@ -44,7 +44,7 @@ impl PageViews {
         }
     }
 
-    /// The pages, each beside its number.
+    /// The pages, each beside its number. (The list is private to this type.)
     pub fn pages(&self) -> &[(u32, Arc<Box<Page>>)]
         ensures { pages_behind result.now ≡ self.now.pages }
     {

@@ -52,7 +52,7 @@ impl PlainCursor {
         &self.rest
     }
 
-    /// Passes over the rows of these keys.
+    /// Passes over the rows of these keys. (They are private to the cursor.)
     pub fn pass_keys(&mut self, keys: &[u64])
         ensures { cursor_of self.new
             ≡ record (cursor_of self.old) { rest = without keys.now (cursor_of self.old).rest } }

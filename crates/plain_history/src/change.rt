@@ -1,4 +1,4 @@
-//! What a step changes: one session, the waits, or the history.
+//! What a step changes: one session, the waits, or the history. Each call here says what becomes of all, also where it changes one part.
 
 ghost use Rattle.std.specs.Prelude.{◌≡◌, OnOk, OnErr, Some, None};
 ghost use Rattle.std.specs.Option.{option_map};

@@ -103,7 +103,7 @@ impl PlainHistory {
         }
     }
 
-    /// Whether an open session has written, be it that all of it was rolled back since.
+    /// Whether an open session has written, be it that all of it was rolled back since. (The sessions are private to the crate.)
     pub fn has_anyone_written(&self) -> bool
         ensures { IsTrue result ↔ SomeoneHasWritten (world_of self.now) }
     {

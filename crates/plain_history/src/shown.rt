@@ -1,4 +1,5 @@
-//! What shows why an answer is wrong: who wrote a key, and how much of the history a session reads.
+//! What shows why an answer is wrong: who wrote a key, and how much of the history a session reads. The lists that are asked are private to
+//! the crate.
 
 ghost use Rattle.std.specs.Prelude.{◌≡◌, ◌≢◌, ℕ, ◌+◌, ◌↔◌, IsTrue, MatchOption};
 ghost use Rattle.std.specs.Option.{option_map};

@@ -156,7 +156,7 @@ impl<L: Label> Index<L> {
         Ok(())
     }
 
-    /// Whether this entry can be in the index.
+    /// Whether this entry can be in the index: its kind is known here alone.
     pub(crate) fn fits(&self, entry: &Entry) -> bool
         ensures { IsTrue result ↔ Fits self.now.is_by_key entry.now }
     {

@@ -246,7 +246,7 @@ numbered_steps =
 abbrev pub as_verbs : NumberedVerbs → Verbs
 as_verbs verbs = map (λ verb. (verb.0, λ rest. option_map (λ n. Do (verb.1 n)) (number_of 255 rest))) verbs
 
--- those with more than a number below 256, or with other words
+-- verbs of all other lines
 abbrev pub other_verbs : Verbs
 other_verbs =
     (codes "get", λ rest. option_map (λ p. Do (step.Get p.0 p.1)) (key_words_of rest))

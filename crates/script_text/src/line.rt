@@ -172,7 +172,7 @@ fn vacuum_line(words: &[u8]) -> Option<Line>
     }
 }
 
-// Reads a line that begins with this word, and has more than a number below 256, or other words.
+// Reads a line that begins with this word, and neither makes a row or a plan nor is a step with one number below 256.
 fn other_line(word: &[u8], rest: &[u8]) -> Option<Line>
     ensures { result ≡ line_in other_verbs word.now rest.now }
 {
@@ -201,8 +201,8 @@ fn other_line(word: &[u8], rest: &[u8]) -> Option<Line>
     }
 }
 
-// Reads a line that begins with this word, and whose step has no memory of its own. Most of those end or begin a transaction, so their
-// words are asked for first.
+// Reads a line that begins with this word, and makes no row and no plan. Most such lines begin or end a transaction. So steps with one
+// number are asked for first.
 fn unwritten_line(word: &[u8], rest: &[u8]) -> Option<Line>
     ensures { result ≡ line_in (as_verbs numbered_steps ++ other_verbs) word.now rest.now }
 {
@@ -259,7 +259,7 @@ pub(crate) fn read_line(alloc: Global, line: &[u8]) -> Result<Option<Line>, Refu
     }
 }
 
-/// Reads a line, if it is allowed. The line has no line feed.
+/// Reads a line, if it is allowed. The line has no line feed. (What the other tells as a reading is told here as a spelling.)
 pub fn line_at(alloc: Global, line: &[u8]) -> Result<Option<Line>, RefusedGrowth>
     ensures { IfOk result (λ o. Spells line.now o) }
 {

@@ -1,4 +1,4 @@
-//! How much an engine has, and which vacuum it runs.
+//! How much an engine has, and which vacuum it runs. Its parts are private to the crate, so what asks one of them is here too.
 
 ghost use Rattle.std.specs.Prelude.{◌≡◌, ◌↔◌, ◌≤◌, ℕ, length};
 ghost use Rattle.std.specs.Option.{option_map};

@@ -1,4 +1,4 @@
-//! The engine as its callers have it.
+//! The engine as its callers have it. Its parts are private to the crate. So what asks only one of them is a call here too.
 
 ghost use Rattle.std.specs.Prelude.{◌≡◌, ◌<◌, length, slice_get, option_copied, IfOk, IfErr, OnOk, MatchResult, Some};
 ghost use Rattle.std.specs.Option.{option_map, is_some};

@@ -1,5 +1,6 @@
 //! Looks: what an engine holds, and why its sessions see what they see. They are no steps: they change nothing, end no wait and disturb
-//! no vacuum, and take no memory.
+//! no vacuum, and take no memory. Each is a call of `session_looks`, or of one part of the engine. They are here since the parts are private
+//! to the crate.
 
 ghost use Rattle.std.specs.Prelude.{◌≡◌, ◌<◌, ℕ, Some, None, IsSome, slice_get, option_copied, MatchOption, MatchResult};
 ghost use Rattle.calls.specs.declared.step.TheConstants.{MOST_SESSIONS};

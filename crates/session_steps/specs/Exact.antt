@@ -95,12 +95,12 @@ HasCursor old new s cursor kept = new ≡ put_session old s (option_map (λ (e :
 abbrev pub OpensCursor : State → State → ℕ → CursorScan → Type 0
 OpensCursor old new s cursor = HasCursor old new s (Some cursor) (Some (snapshot_of old))
 
--- Beside what the history says of a reply: a read and a refusal leave all as it was, but for a page that an update has pruned; a
--- beginning takes no id, and by snapshot the snapshot of that moment, and an end gives its status to the session's ids, and no
--- others; neither changes a page, nor do savepoints; a return to one aborts the ids that were given since, and no others; a step
--- of a cursor changes that cursor alone, but by statement a snapshot is kept from its opening to its closing; memory is refused
--- only where something has to grow, and never to a prune or a plan, a beginning by statement or the opening of a cursor by
--- snapshot. (That no read, return, release, closing, commit or abort is refused memory is said by what the history allows.)
+-- Beside what the history says of a reply. A read and a refusal leave all as it was, but for a page that an update has pruned. A
+-- beginning takes no id, and by snapshot the snapshot of that moment. An end gives its status to the session's ids, and no others.
+-- Neither changes a page, nor do savepoints. A return to one aborts the ids that were given since, and no others. A step of a cursor
+-- changes that cursor alone, but by statement a snapshot is kept from its opening to its closing. Memory is refused only where something
+-- has to grow. It is never refused to a prune or a plan, a beginning by statement or the opening of a cursor by snapshot. (That no read,
+-- return, release, closing, commit or abort is refused memory is said by what the history allows.)
 abbrev pub Exact : State → Step → Reply → State → Type 0
 Exact old (step.Begin s) reply.Done new = Opens old new s (BySnapshot (snapshot_of old))
 Exact old (step.Begin s) (reply.Refused refusal.NoMemory) new = MustList old × (new ≡ old)

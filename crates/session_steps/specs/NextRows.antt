@@ -13,7 +13,7 @@ use Rattle.session_steps.specs.Agrees.{FollowsByNotes}
 use Rattle.session_steps.specs.Takes.{HandsOutUpTo, HandsOutByKeys}
 
 -- The answer is that of the reply: how many rows or keys it has, none where nothing is left, or the refusal. Its rows or keys are in the
--- first places: all others are as they were
+-- first places: all others are as they were.
 abbrev pub WritesReply : Reply → List RowPlace → (answer : Result ℕ Refusal) → (after : List RowPlace) → Type 0
 WritesReply (reply.Rows rows) places answer after = (answer ≡ Ok (length rows.items)) × (after ≡ places_with rows.items places)
 WritesReply (reply.Keys keys) places answer after = (answer ≡ Ok (length keys.items)) × (after ≡ places_with_keys keys.items places)

@@ -1,4 +1,4 @@
-//! The engine and its sessions.
+//! The engine and its sessions. The table and the sessions are private to the crate, so what asks one of them is a call here.
 
 ghost use Rattle.std.specs.Prelude.{◌≡◌, ◌≢◌, ◌<◌, length, slice_get, option_copied, IfOk, IfErr, OnOk, MatchResult, Some, None, false};
 ghost use Rattle.std.specs.Option.{option_map};

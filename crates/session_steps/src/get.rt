@@ -42,7 +42,8 @@ impl SessionEngine {
         }
     }
 
-    /// Forgets where keys were put, and notes it from now on, or never, as [`heap_write::HeapState::keep_places`] does.
+    /// Forgets where keys were put, and notes it from now on, or never, as [`heap_write::HeapState::keep_places`] does. (The
+    /// table is private to the crate.)
     pub fn keep_places(&mut self, are_wanted: bool)
         ensures { self.new ≡ self.old }
     {

@@ -59,7 +59,7 @@ impl Book {
     }
 
     /// The calls with what they were answered, oldest first: a run of the history from its beginning; the engine agrees with its
-    /// end.
+    /// end. (It is private to the book, and so is the engine, that every step is noted.)
     pub fn journal(&self) -> &[(Step, Reply)]
         ensures value { result.now ≡ self.now.journal }
         ensures run { HasRun self.now }
@@ -79,7 +79,7 @@ impl Book {
 
     /// The page of this number with what a statement of the session sees of it, for [`table_scans::resolve`] to give the rows
     /// outside the latch. It is no step, and isn't noted. Refusals in order: NoSuchSession, NotOpen, Failed, NoSuchPage,
-    /// NoMemory. (The engine is private to the book, so that every step is noted.)
+    /// NoMemory.
     pub fn take_page(&mut self, session: u8, page: u32) -> Result<Ticket, Refusal>
         ensures same { self.new ≡ self.old }
         ensures taken { MatchResult result (TakesTicket self.old.engine.engine.core session page)

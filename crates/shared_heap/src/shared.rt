@@ -77,7 +77,7 @@ impl Shared {
         book.take_page(session, page)
     }
 
-    /// The book, once no thread shares it.
+    /// The book, once no thread shares it. (The latch is private to this type.)
     pub fn into_book(self) -> Book {
         self.latch.into_inner()
     }

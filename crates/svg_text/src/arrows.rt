@@ -59,6 +59,7 @@ fn index(out: &mut Vec<u8>, number_of: u8) -> Result<(), RefusedGrowth>
     extend(out, b": ")
 }
 
+// The value of an entry, said of the entry.
 fn value(out: &mut Vec<u8>, of: &EntryShape) -> Result<(), RefusedGrowth>
     ensures { OnOk result (out.new.items ≡ out.old.items ++ signed_decimal of.now.entry.value) }
 {

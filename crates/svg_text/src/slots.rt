@@ -152,6 +152,7 @@ fn rest(out: &mut Vec<u8>, shown: usize, bytes: usize) -> Result<(), RefusedGrow
     Ok(())
 }
 
+// The columns of a version, said of the version.
 fn columns_of(out: &mut Vec<u8>, version: &VersionShape) -> Result<(), RefusedGrowth>
     ensures { OnOk result (out.new.items ≡ out.old.items
         ++ flat_map (λ c. spaced (signed_decimal c)) version.now.cols) }

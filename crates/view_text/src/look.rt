@@ -92,7 +92,7 @@ fn read_look(line: &[u8]) -> Option<Look>
     }
 }
 
-/// Reads a line, if it is a look. The line has no line feed.
+/// Reads a line, if it is a look. The line has no line feed. (What the other tells as a reading is told here as a spelling.)
 pub fn look_at(line: &[u8]) -> Option<Look>
     ensures { SpellsLook line.now result }
 {

@@ -66,7 +66,7 @@ impl Waits {
         }
     }
 
-    /// For whom the session waits, if for anybody.
+    /// For whom the session waits, if for anybody. (The places are private to this type, here and below.)
     pub fn of(&self, s: u8) -> Option<u8>
         ensures { result ≡ wait_in self.now s }
     {
