@@ -9,7 +9,7 @@ use page_layout::put_bytes;
 use page_slots::{PAGE_BYTES, Page};
 use session_core::Engine;
 
-/// Writes the bytes of the page to the first of C's places, which are enough.
+/// Writes the bytes of the page to the first of C's places, which are enough. (What the other says of bytes is said here of a page.)
 fn put_page(page: &Page, bytes: &mut [u8])
     requires { PAGE_LENGTH ≤ length bytes.old }
     ensures { AreBytesOf page.now bytes.old bytes.new }

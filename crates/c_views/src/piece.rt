@@ -5,8 +5,8 @@ ghost use Rattle.c_views.specs.Pieces.{shown_piece};
 
 use session_core::Piece;
 
-/// What a step of a vacuum did: its kind is 1 if it visited the page of this number, 2 if it removed entries from the index of this number,
-/// 3 if it freed slots of the page of this number, and 0 if the vacuum has ended. Fields that do not apply are 0.
+/// What a step of a vacuum did, by its kind. Kind 1 visited the page of this number. Kind 2 removed entries from the index of this number.
+/// Kind 3 freed slots of the page of this number. At kind 0 the vacuum has ended. Fields that do not apply are 0.
 #[repr(C)]
 #[derive(Clone, Copy)]
 pub struct SandpiperPiece {

@@ -118,7 +118,7 @@ impl IdEntries {
         }
     }
 
-    /// Of how many ids something is known.
+    /// Of how many ids something is known. (The lists are private to this type.)
     #[inline(always)]
     pub(crate) fn len(&self) -> usize
         ensures { result ≡ length self.now.items }

@@ -1,9 +1,9 @@
 //! What became of each transaction id, from the oldest that is remembered up to the next to be given.
 //!
 //! The contract sees a [`StatusTable`] as the window of `specs/Window.antt`. It promises what each call does to that
-//! (`specs/Changes.antt`): ids are given one after another, none of them as far from the oldest as the table's stop age; a
-//! change of status, of several ids at once, changes no other id; and only the ids before the one named are forgotten. One
-//! that is not remembered counts as in progress.
+//! (`specs/Changes.antt`). Ids are given one after another, none of them as far from the oldest as the table's stop age. A change of
+//! status, of several ids at once, changes no other id. Only the ids before the one named are forgotten. One that is not remembered counts
+//! as in progress.
 //!
 //! Why it is built so: docs/DECISIONS.md, under its name.
 #![tactic(auto)]

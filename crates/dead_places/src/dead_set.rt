@@ -140,7 +140,7 @@ impl DeadSet {
     }
 }
 
-/// The place of this number, if there is one.
+/// The place of this number, if there is one. (It is said of the list what is asked of the set, by number and of the last.)
 fn place_at(tids: &[Tid], number: usize) -> Option<Tid>
     ensures { result ≡ slice_get tids.now number }
 {
@@ -166,7 +166,7 @@ fn search(tids: &[Tid], sought: &Tid) -> Result<usize, usize>
     Err(low)
 }
 
-/// Whether the place is one of these, by halving.
+/// Whether the place is one of these, by halving. (It stays out of line: a look that finds the mark at once is short.)
 #[inline(never)]
 fn is_found(tids: &[Tid], tid: Tid) -> bool
     requires { AreAscending tids.now }

@@ -18,7 +18,7 @@ pub struct Gap {
     to: ShortTid,
 }
 
-/// All places but the last.
+/// All places but the last. (A leaf names no numbers: these are private to the crate.)
 pub fn all_places() -> Gap
     ensures from { result.from.number ≡ 0 }
     ensures to { result.to.number ≡ 4294967295 }

@@ -54,7 +54,7 @@ impl HeapState {
     }
 
     /// Makes the dead ones of these slots unused. They are slots of the page of this number, which is in use, in ascending order.
-    /// No entry is to lead to one: that is asked of the table (`sound_vacuum`), and not here.
+    /// No entry is to lead to one: that is asked of the table (`sound_vacuum`), and not here. (The pages are private.)
     pub fn free(&mut self, number: u32, places: &[Tid])
         requires within { number < length self.old.pages.pages }
         requires ascending { AllPairs (λ a b. a < b) (map (λ (tid : Place). tid.slot) places.now) }

@@ -100,7 +100,8 @@ impl HeapState {
         self.hints.note_doubts(number, doubts);
     }
 
-    /// Does these actions on the page of this number, which is in use.
+    /// Does these actions on the page of this number, which is in use. (It says of the table, once for all callers, what the other says
+    /// of a page.)
     pub(crate) fn do_actions(&mut self, number: u32, actions: &[(u16, Action)])
         requires within { number < length self.old.pages.pages }
         requires can_apply { CanApply (length (page_on self.old number).slots) actions.now }

@@ -29,6 +29,7 @@ impl<N> Model for Branch<N> {
     ghost invariant = { λ b. IsBranch (length b.nodes.items) (vec_capacity b.nodes) };
 }
 
+// What a `Node` is asked, a branch asks of its list, by functions of `nodes`: those are proved of any list of nodes.
 impl<N: Node> Node for Branch<N> {
     type Position = TreePosition<N::Position>;
 
@@ -199,8 +200,9 @@ impl<N: Node> Node for Branch<N> {
     ghost fewer = { λ spares k left. (omega (arith, left.0), N.fewer spares.below k left.1) };
 }
 
-/// Moves all of 128 nodes but the first 64 to another list. There is room for them in memory. Where keys come in order no node is added to
-/// the lower half any more. So it gets the list that was empty, whose second half is never written then, and the upper half keeps the other.
+/// Moves all of 128 nodes but the first 64 to another list. There is room for them in memory. Where keys come in order no node is added
+/// to the lower half any more. So it gets the list that was empty, whose second half is never written then, and the upper half keeps the
+/// other.
 fn move_half<N: Node>(lower: &mut Vec<N>, upper: &mut Vec<N>)
     requires full { length lower.old.items ≡ MOST_PARTS }
     requires none { upper.old.items ≡ [] }
@@ -218,5 +220,6 @@ fn move_half<N: Node>(lower: &mut Vec<N>, upper: &mut Vec<N>)
             lower.push_reserved(node);
         }
     }
+    // and what is left is in order again
     upper.reverse();
 }

@@ -141,6 +141,7 @@ fn is_none(rest: &[Row]) -> bool
     rest.is_empty()
 }
 
+// Whether the cursor has none left. (The other speaks of the list, this of the cursor.)
 pub(crate) fn is_over(cursor: &PlainCursor) -> bool
     ensures { IsTrue result ↔ IsOver (cursor_of cursor.now).rest }
 {

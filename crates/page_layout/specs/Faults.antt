@@ -52,8 +52,8 @@ word_in bytes i = number_at (PAGE_HEADER_BYTES + 4 * i) 4 bytes
 abbrev pub has_place : ℕ → Bool
 has_place word = not (word % 32768 == 0) || not (word / 131072 == 0)
 
--- a word that says this is wrong, on a page of so many slots whose versions begin here: an unused or dead slot has no place, a
--- version lies whole over the bound at a multiple of 8, a redirect has no length and leads to one of the slots
+-- A word that says this is wrong, on a page of so many slots whose versions begin here. An unused or dead slot has no place. A version lies
+-- whole over the bound, at a multiple of 8. A redirect has no length, and leads to one of the slots.
 abbrev pub is_bad_word : Count → (upper word : ℕ) → Pointer → Bool
 is_bad_word count upper word Pointer.Unused = has_place word
 is_bad_word count upper word (Pointer.Normal e) =

@@ -37,7 +37,7 @@ pub const MOST_BYTES: usize = 8168;
 
 const _: () = prove!(MOST_BYTES == PAGE_BYTES - PAGE_HEADER_BYTES);
 
-/// The bytes of a page.
+/// The bytes of a page. They are private, so what reads or writes a number of them is a call here.
 #[derive(Debug, Drop)]
 pub struct Sheet {
     bytes: [u8; PAGE_BYTES],

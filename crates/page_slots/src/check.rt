@@ -109,7 +109,7 @@ pub fn check_page(bytes: &[u8]) -> Result<Page, PageFault>
     }
 }
 
-/// A page is read from its own bytes, where each redirect leads to a heap-only version.
+/// A page is read from its own bytes, where each redirect leads to a heap-only version. (It is a law that does what it says.)
 pub fn reads_back(page: &Page) -> Result<Page, PageFault>
     requires { AreSoundRedirects page.now.slots }
     ensures { result ≡ Ok page.now }

@@ -57,7 +57,7 @@ impl PlainHistory {
         }
     }
 
-    /// Whether the session is open, and reads by statement.
+    /// Whether the session is open, and reads by statement. (The sessions are private to the crate.)
     pub fn reads_by_statement(&self, s: u8) -> bool
         ensures { IsTrue result
             ↔ ((m : OpenSession) × ((world_of self.now).session s ≡ Some m)

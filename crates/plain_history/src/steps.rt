@@ -48,7 +48,7 @@ impl PlainHistory {
         self.start_by(s, PlainIsolation::BySnapshot(start));
     }
 
-    /// The session is open, and each of its statements reads what has committed until then.
+    /// The session is open, and each of its statements reads what has committed until then. (An isolation is named in the crate alone.)
     pub fn start_by_statement(&mut self, s: u8)
         ensures { world_of self.new ≡ begun by_statement (world_of self.old) s }
     {
@@ -99,7 +99,7 @@ impl PlainHistory {
         }
     }
 
-    /// The session writes that the key has no row. Where memory is refused only its own wait ends.
+    /// The session writes that the key has no row. Where memory is refused only its own wait ends. (A caller has no row to name.)
     pub fn take_row(&mut self, s: u8, key: u64) -> Result<(), AllocError>
         ensures ok { OnOk result
             (world_of self.new

@@ -25,6 +25,6 @@ pub record IsNamedPrefix (named : List (Option Action)) (numbers : List ℕ) (pr
 abbrev pub BecomesUnused : List Slot → List (Option Action) → ℕ → Type 0
 BecomesUnused slots named n = (h : Header) → header_at slots n ≡ Some h → is_heap_only h ≡ true → named_at named n ≡ Some action.Unuse
 
--- where no chain reaches the slot and it is named, what is done to it is what pruning does
+-- where the slot's mark is Orphan and it is named, what is done to it is what pruning does
 abbrev pub IsLooseRight : Window → List Slot → List PruneVerdict → List (Option Action) → ℕ → Type 0
 IsLooseRight w slots marks named n = mark_at marks n ≡ Orphan → (a : Action) → named_at named n ≡ Some a → orphan_action w slots n ≡ Some a

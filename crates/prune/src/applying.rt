@@ -72,7 +72,7 @@ fn prune_by_plan(page: &mut Page, statuses: &StatusTable, horizon: Xid)
 }
 
 /// Prunes a page at this horizon. Where no version is dead, which [`first_death`](crate::first_death) tells at less cost,
-/// nothing changes. It takes no memory.
+/// nothing changes. It takes no memory. (It is for callers that prune and keep no plan. What is proved of a pruning is said here.)
 pub fn prune(page: &mut Page, statuses: &StatusTable, horizon: Xid)
     ensures by_plan { IsPrunedPage statuses.now horizon.0 page.old page.new }
     ensures pruned { IsPruned statuses.now horizon.0 page.old.slots page.new.slots }

@@ -157,7 +157,7 @@ fn have_prefixes(page: &Page, named: &Named, statuses: &StatusTable, horizon: Xi
     true
 }
 
-/// True where a chain reaches the slot, or the plan leaves it as it is, or does to it what pruning does.
+/// True where the slot has another mark than `Orphan`, or the plan leaves it as it is, or does to it what pruning does.
 fn is_allowed(
     page: &Page,
     marks: &Marks,
@@ -193,9 +193,9 @@ fn are_accounted(page: &Page, marks: &Marks, named: &Named, statuses: &StatusTab
     true
 }
 
-/// True where actions may be done on a page, no matter who planned them and when: the change number is the page's, the slots ascend
-/// strictly and are on the page, each chain loses a prefix that pruning at this horizon would cut too, and every other slot named
-/// holds an aborted heap-only version that no chain reaches. It takes no memory.
+/// True where actions may be done on a page, no matter who planned them and when. The change number is the page's. The slots ascend
+/// strictly, and are on the page. Each chain loses a prefix that pruning at this horizon would cut too. Every other slot named holds an
+/// aborted heap-only version that no chain reaches. It takes no memory.
 pub fn check_actions(
     page: &Page,
     change: u64,
@@ -218,7 +218,7 @@ pub fn check_actions(
     have_prefixes(page, &named, statuses, horizon) && are_accounted(page, &marks, &named, statuses)
 }
 
-/// True where a plan may be applied to a page: [`check_actions`] allows its actions there.
+/// True where a plan may be applied to a page: [`check_actions`] allows its actions there. (It is for callers that have a plan whole.)
 pub fn check_plan(page: &Page, plan: &PrunePlan, statuses: &StatusTable, horizon: Xid) -> bool
     ensures exact { IsTrue result
         ↔ Checks statuses.now horizon.0 page.now plan.now.change plan.now.actions.items }

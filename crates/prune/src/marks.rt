@@ -23,7 +23,7 @@ use xid_circle::Xid;
 /// The mark of a slot.
 #[derive(Clone, Copy, Debug, PartialEq, Eq)]
 pub(crate) enum PruneVerdict {
-    /// It is neither a root nor in the chain of one.
+    /// It is neither a root nor in the chain of one, or each such chain is spared: it holds no dead version.
     Orphan,
     /// It is, and nothing is done to it.
     Kept,

@@ -73,8 +73,8 @@ fn read_reply(alloc: Global, text: &[u8]) -> Result<Option<Reply>, OutOfMemory>
     }
 }
 
-/// Reads the reply that a text spells, if it spells one. The text has no line feed at its end. (What the other tells as a reading is told
-/// here as a spelling.)
+/// Reads the reply that a text spells, if it spells one. The text has no line feed at its end. ([`read_reply`] says what is read. This says
+/// what is spelled.)
 pub fn reply_at(alloc: Global, text: &[u8]) -> Result<Option<Reply>, OutOfMemory>
     ensures { IfOk result (λ o. SpellsReply text.now o) }
 {

@@ -44,7 +44,7 @@ pub fn cut_at(text: &[u8], byte: u8) -> Option<(&[u8], &[u8])>
     Some((&text[..i], &text[i + 1..]))
 }
 
-/// The word at the front, and the text behind the space after it.
+/// The word at the front, and the text behind the space after it. (It has a definition of its own, since most lines are cut at spaces.)
 pub fn cut(text: &[u8]) -> Option<(&[u8], &[u8])>
     ensures { option_map (λ x. (x.0.now, x.1.now)) result ≡ cut_of text.now }
 {

@@ -45,7 +45,7 @@ pub(crate) fn do_step(alloc: Global, table: &mut Sandpiper, step: Step) -> u32
     }
 }
 
-/// The session reads the row of a key, which is written to C's place.
+/// The session reads the row of a key, which is written to C's place. (It speaks of the engine that is held, its export of the handle.)
 fn held_get(held: &mut Held, session: u8, key: u64, row: &mut RowPlace) -> u32
     ensures { TakesShowing held.old (step.Get session key) result held.new
         (λ reply. ShowsRow (row_found_in reply) row.old row.new) }

@@ -13,8 +13,8 @@ use Rattle.script.specs.Script.{WritesBeginning}
 abbrev pub page_lines : List ℕ → List ℕ
 page_lines bytes = with_feed (inspected_text (page_of bytes) bytes)
 
--- what the result says of the input and of what was written: the lines of the page, where the input is one; nothing, where it
--- is none, and then the fault is the first that it has; after a refusal nothing, or a beginning of the lines of a page
+-- What the result says of the input and of what was written. Where the input is a page, its lines were. Where it is none, nothing was, and
+-- the fault is the first that it has. After a refusal it was nothing, or a beginning of the lines of a page.
 abbrev pub PageOutcome : Result (Unit {0}) ShellFault → List ℕ → Option (List ℕ) → Option (List ℕ) → Type 0
 PageOutcome (Ok u) input before after = (page_fault input ≡ None) × Appends before after (page_lines input)
 PageOutcome (Err (BadPage fault)) input before after = (page_fault input ≡ Some fault) × Appends before after []

@@ -132,9 +132,9 @@ IsBadHeading input = (s : Settings) (more : List ℕ) → AreSettings s → leng
 abbrev pub WritesBeginning : Option (List ℕ) → Option (List ℕ) → List ℕ → Type 0
 WritesBeginning before after text = (left : List ℕ) × GivesText before after text left
 
--- what a script's result says of its input and of what was written: without a fault all lines were read and answered; after bad
--- line n those before it were, and it is the first that isn't allowed; where the numbers of lines ran out, all lines with a number
--- were read; no page is read, so none is bad; after another fault a beginning of the answers was written
+-- What a script's result says of its input and of what was written. Without a fault all lines were read and answered. After bad line n
+-- those before it were, and it is the first that isn't allowed. Where the numbers of lines ran out, all lines with a number were read. No
+-- page is read, so none is bad. After another fault a beginning of the answers was written.
 abbrev pub ScriptOutcome : Result (Unit {0}) ShellFault → List ℕ → Option (List ℕ) → Option (List ℕ) → Type 0
 ScriptOutcome (Ok u) input before after = (settings : Settings) × (events : List Event)
     × IsScriptRun settings events × (input ≡ script settings events) × Appends before after (answers_of events)

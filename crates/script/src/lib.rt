@@ -1,10 +1,10 @@
 //! The run of a script: its lines are read, done and answered. And a page, which is read and looked into.
 //!
-//! The contract of [`run_script`] says, of any reader whose bytes are known and any writer that tells what it holds, that the lines
-//! read are of the grammar (`script_text`), that the replies to their steps are a run of the history and come from an engine made
-//! by the first line's settings, and that exactly their text was written (`specs/Script.antt`); after a fault, which part of this
-//! holds, and that the [`IoLog`] had noted what was refused (`specs/Refusals.antt`). [`command_of`] of `script_text` says what the
-//! program's words ask for. [`inspect_script`] reads a page and writes what its bytes say (`specs/Inspected.antt`, `specs/PageText.antt`). The parts of a run,
+//! The contract of [`run_script`] speaks of any reader whose bytes are known, and any writer that tells what it holds. The lines read are
+//! of the grammar (`script_text`). The replies to their steps are a run of the history, and come from an engine made by the first line's
+//! settings. Exactly their text was written (`specs/Script.antt`). After a fault it says which part of this holds, and that the [`IoLog`]
+//! had noted what was refused (`specs/Refusals.antt`). [`command_of`] of `script_text` says what the program's words ask for.
+//! [`inspect_script`] reads a page and writes what its bytes say (`specs/Inspected.antt`, `specs/PageText.antt`). The parts of a run,
 //! from [`next_line`] on, are public for a run of a further language.
 //!
 //! Why it is built so: docs/DECISIONS.md, under its name.

@@ -299,10 +299,10 @@ fn run_logged<R: Read, W: Write>(
     )
 }
 
-/// Reads a script, and writes the answers to its lines. The log, which is made here, says which call was refused: a fault of
-/// the reader is answered only where its last read answered an error that is no interruption, one of the writer only where its
-/// last write answered such an error or took nothing of what there was, or either where 2^64 - 1 calls in a row were interrupted,
-/// and want of memory only where a growth of the shell was refused.
+/// Reads a script, and writes the answers to its lines. The log, which is made here, says which call was refused. A fault of the reader is
+/// answered only where its last read answered an error that is no interruption. One of the writer is, only where its last write answered
+/// such an error, or took nothing of what there was. Either is also answered where 2^64 - 1 calls in a row were interrupted. Want of
+/// memory is, only where a growth of the shell was refused.
 pub fn run_script<R: Read, W: Write>(
     alloc: Global,
     reader: &mut R,

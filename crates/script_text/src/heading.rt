@@ -73,8 +73,8 @@ fn read_settings(line: &[u8]) -> Option<Settings>
     }
 }
 
-/// The settings that a first line spells, in range or not. The line has no line feed. (What the other tells as a reading is told here as a
-/// spelling.)
+/// The settings that a first line spells, in range or not. The line has no line feed. ([`read_settings`] says what is read. This says
+/// what is spelled.)
 pub fn settings_at(line: &[u8]) -> Option<Settings>
     ensures { SpellsSettings line.now result }
 {

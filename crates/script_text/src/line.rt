@@ -259,7 +259,7 @@ pub(crate) fn read_line(alloc: Global, line: &[u8]) -> Result<Option<Line>, Refu
     }
 }
 
-/// Reads a line, if it is allowed. The line has no line feed. (What the other tells as a reading is told here as a spelling.)
+/// Reads a line, if it is allowed. The line has no line feed. ([`read_line`] says what is read. This says what is spelled.)
 pub fn line_at(alloc: Global, line: &[u8]) -> Result<Option<Line>, RefusedGrowth>
     ensures { IfOk result (λ o. Spells line.now o) }
 {

@@ -61,8 +61,8 @@ fn read_worker(alloc: Global, line: &[u8]) -> Result<Option<WorkerStep>, Refused
     words_at(alloc, worker as u8, words)
 }
 
-/// Reads the step in a line of a script for threads, if it is allowed. The line has no line feed. (What the other tells as a reading is
-/// told here as a spelling.)
+/// Reads the step in a line of a script for threads, if it is allowed. The line has no line feed. ([`read_worker`] says
+/// what is read. This says what is spelled.)
 pub fn worker_step_at(alloc: Global, line: &[u8]) -> Result<Option<WorkerStep>, RefusedGrowth>
     ensures { IfOk result (λ o. SpellsWorker line.now o) }
 {

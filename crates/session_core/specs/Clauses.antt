@@ -19,9 +19,9 @@ use Rattle.vacuum_engine.specs.Exact.{EngineExact}
 use Rattle.vacuum_engine.specs.New.{IsNewEngine}
 use Rattle.session_core.specs.State.{WaitingView, WaitingAgrees, waits_after}
 
--- Whatever world the engine agreed with, the history allows the reply, and the engine agrees with the world after it, where the
--- same sessions wait; no index entry leads to a slot that was given to another row; a vacuum that is alone has taken fewer steps
--- than its bound; and one that ends, ends well.
+-- Whatever world the engine agreed with, the history allows the reply. The engine agrees with the world after it, where the same sessions
+-- wait. No index entry leads to a slot that was given to another row. A vacuum that is alone has taken fewer steps than its bound. One
+-- that ends, ends well.
 abbrev pub WaitingFollows : WaitingView → Step → Reply → WaitingView → Type 0
 WaitingFollows old step reply new = (w : World) → WaitingAgrees old w
     → AllowsReply w step reply × WaitingAgrees new (after_reply w step reply)

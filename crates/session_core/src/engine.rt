@@ -131,10 +131,10 @@ impl Engine {
         }
     }
 
-    /// Does one step, and gives its reply: whatever world of the history the engine agrees with, the history allows the reply, and
-    /// the engine agrees with the world after it, where the same sessions wait; no index entry leads to a slot that was given to
-    /// another row; and a vacuum that ends leaves nothing that was dead before the horizon of its beginning. A step that is refused
-    /// names the first reason that holds, in the order of the table in docs/rules.md, or NoMemory, as is said below that table.
+    /// Does one step, and gives its reply. Whatever world of the history the engine agrees with, the history allows the reply. The engine
+    /// agrees with the world after it, where the same sessions wait. No index entry leads to a slot that was given to another row. A
+    /// vacuum that ends leaves nothing that was dead before the horizon of its beginning. A step that is refused names the first reason
+    /// that holds, in the order of the table in docs/rules.md, or NoMemory, as is said below that table.
     pub fn step(&mut self, step: Step) -> Reply
         ensures follows { WaitingFollows self.old step result self.new }
         ensures exact { WaitingExact self.old step result self.new }

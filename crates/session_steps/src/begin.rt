@@ -19,7 +19,7 @@ use snapshot::Snapshot;
 use std::alloc::AllocError;
 
 impl SessionEngine {
-    /// The snapshot of this moment.
+    /// The snapshot of this moment. (The engine's parts are named once, for a beginning and for a cursor.)
     pub(crate) fn snapshot(&self) -> Result<Snapshot, AllocError>
         ensures ok { IfOk result
             (λ s. s ≡ taken (next_id self.now.heap.statuses) (owns_of self.now.sessions)) }

@@ -1,11 +1,10 @@
 //! The steps of the engine: sessions that read and write a table.
 //!
 //! The crate above keeps beside this the vacuum that is running. It sees a [`SessionEngine`] as a `State` (`specs/State.antt`).
-//! `specs/Agrees.antt` says when it agrees with a world of the history, and [`SessionEngine::step_into`] promises that for every world
-//! that it agrees with, the history allows the reply, the engine agrees with the next world, and no index entry leads to a slot that was
-//! given to another row. Beside that it says exactly what the step does to ids and pages (`specs/Exact.antt`). A vacuum's step changes
-//! nothing here.
-//! [`SessionEngine::read`] reads outside of a step. [`SessionEngine::new_vacuum`], [`SessionEngine::vacuum_step`] and
+//! `specs/Agrees.antt` says when it agrees with a world of the history. [`SessionEngine::step_into`] promises this for every world that it
+//! agrees with: the history allows the reply, and the engine agrees with the next world. No index entry leads to a slot that was given to
+//! another row. Beside that it says exactly what the step does to ids and pages (`specs/Exact.antt`). It passes over a vacuum's steps.
+//!
 //! [`SessionEngine::forget`] are what a vacuum asks of it (`specs/Vacuums.antt`). [`laws::views_by_index`] says what an index leads to,
 //! and [`laws::horizon_is_earliest`] what the horizon is.
 //!

@@ -8,7 +8,7 @@ use calls::Refusal;
 use sessions::first_with_id;
 
 impl SessionEngine {
-    /// An open session that has an id, if one has.
+    /// An open session that has an id, if one has. (What the other says of places is said here of the engine.)
     fn writer(&self) -> Option<u8>
         ensures { MatchOption result (¬ SomeoneHasId self.now) (λ _. SomeoneHasId self.now) }
     {

@@ -15,7 +15,7 @@ use sessions::horizon;
 use xid_circle::Xid;
 
 impl SessionEngine {
-    /// The earliest id that an open session, or one that begins now, may still ask for.
+    /// The earliest id that an open session, or one that begins now, may still ask for. (What that takes is private to the crate.)
     pub fn horizon(&self) -> Xid
         ensures { result.0 ≡ horizon_of self.now }
     {

@@ -1,9 +1,9 @@
 //! What a picture of the table shows, as a list of shapes.
 //!
-//! [`picture`] looks at an engine by its public calls alone, and makes the list: the ids that are remembered, the horizon and the next
-//! id, the open sessions, and of each page that is asked for its slots, their links, the entries that lead there, and beside each version
-//! a dot for each open session, filled where the session sees the version. `specs/Shapes.antt` defines what is in the list: each thing
-//! once, in this order, and nothing else. What a shape looks like, and where it is drawn, is not said here.
+//! [`picture`] looks at an engine by its public calls alone, and makes the list. It has the ids that are remembered, the horizon, the next
+//! id, and the open sessions. Of each page that is asked for it has the slots, their links, and the entries that lead there. Beside each
+//! version it has a dot for each open session, filled where the session sees the version. `specs/Shapes.antt` defines what is in the list:
+//! each thing once, in this order, and nothing else. What a shape looks like, and where it is drawn, is not said here.
 //!
 //! [`draw_asked`] adds to a text the picture of the pages that were asked for, or of all where none was: these shapes, as `svg_text` spells
 //! them (`specs/Pictures.antt`). Programs draw by it, and so does the library for C.

@@ -68,7 +68,8 @@ impl Book {
     }
 
     /// The pages from `from` up to, and without, `to` as they are now, for plans of their pruning that are made outside the latch. It is no
-    /// step, and isn't noted. Refusals: NoSuchPage, where `from` is over `to`, or `to` over the number of pages; NoMemory.
+    /// step, and isn't noted. Refusals: NoSuchPage, where `from` is over `to`, or `to` over the number of pages; NoMemory. (The engine is
+    /// private, here and below.)
     pub fn page_views(&mut self, from: u32, to: u32) -> Result<PageViews, Refusal>
         ensures same { self.new ≡ self.old }
         ensures views { MatchResult result (AreViews self.old.engine.engine.core from to)

@@ -101,10 +101,11 @@ fn stop<J: Request, R: Wait>(rt: &R, shared: &SharedWork<J>) {
     shared.changed.notify_all();
 }
 
-/// Does the lists, one worker each, on a book of a new engine of these settings. The book's journal is a merge of the lists: for some
-/// choice of a worker for each entry, each entry is the step of that worker's next line; a plain line is done by its entry, a waiting one
-/// where its entry is not answered Busy; and all lines are done. Eight workers have a thread of their own; the lists of others, and what
-/// is left where a thread can't be made, are done here. It never returns where each line that is left is answered Busy.
+/// Does the lists, one worker each, on a book of a new engine of these settings. The book's journal is a merge of the lists, for some
+/// choice of a worker for each entry. Each entry is the step of that worker's next line. A plain line is done by its entry, and a waiting
+/// one where its entry is not answered Busy. All lines are done. Eight workers have a thread of their own. The lists of others, and what
+/// is left where a thread can't be made, are done here. It never returns where each line that is left is answered Busy. (The call brands
+/// the work: the settings and the lists are named by its type.)
 pub fn run_gated<R: Threads + Wait + Sync, G: Gate + Sync>(
     rt: &R,
     alloc: Global,
@@ -181,7 +182,7 @@ fn spread<'x, J: Request + Send + Sync, R: Threads + Wait + Sync, G: Gate + Sync
     });
 }
 
-/// Does the lists as [`run_gated`] does, without a gate.
+/// Does the lists as [`run_gated`] does, without a gate. (The open gate is private here.)
 pub fn run_threads<R: Threads + Wait + Sync>(
     rt: &R,
     alloc: Global,

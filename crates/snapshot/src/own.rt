@@ -1,4 +1,4 @@
-//! A session's own ids.
+//! A session's own ids. The lists are private to their type, so what asks or changes one alone is a call here.
 
 ghost use Rattle.std.specs.Prelude.{◌≡◌, ◌≢◌, ◌+◌, ◌-◌, ◌<◌, ◌≤◌, ◌↔◌, [], ◌∷◌, ◌++◌, IsTrue, IfSome, IfErr, OnOk, OnErr, slice_get, Contains, length, take, replicate};
 ghost use Rattle.std.specs.Option.{option_map};

@@ -70,7 +70,7 @@ impl Snapshot {
         self.xmax
     }
 
-    /// The numbers of the ids that are listed, in order of listing: they were in progress when it was taken.
+    /// The numbers of the ids that are listed, in order of listing: they were in progress when it was taken. (The list is private.)
     pub fn listed_ids(&self) -> &[u32]
         ensures { result.now ≡ self.now.listed }
     {

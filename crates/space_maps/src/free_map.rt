@@ -58,7 +58,8 @@ impl FreeMap {
         }
     }
 
-    /// Makes room in memory for the bytes of `count` more pages. No byte changes, also where memory is refused. (They are private.)
+    /// Makes room in memory for the bytes of `count` more pages. No byte changes, also where memory is refused. (They are private,
+    /// here and below.)
     pub fn make_room(&mut self, count: usize) -> Result<(), AllocError>
         ensures room { OnOk result (count ≤ self.new.spare) }
         ensures refused { OnErr result (self.old.spare < count) }

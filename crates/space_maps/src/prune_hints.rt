@@ -131,7 +131,7 @@ impl PruneHints {
         }
     }
 
-    /// The turn from which on a version of the page of this number may be dead, if it is known.
+    /// The turn from which on a version of the page of this number may be dead, if it is known. (The hints are private, here and below.)
     pub fn turn(&self, number: u32) -> Option<u32>
         ensures { result ≡ (hint_on self.now.pages number).turn }
     {

@@ -129,7 +129,7 @@ impl StatusCache {
         }
     }
 
-    /// Whether an id is held.
+    /// Whether an id is held. (What is kept is private, here and below.)
     pub fn holds(&self, x: Xid) -> bool
         ensures { IsTrue result ↔ IsCached self.now x.0 }
     {

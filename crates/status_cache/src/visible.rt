@@ -67,7 +67,8 @@ pub fn sees_cached(reader: &Reader<'_>, header: &Header, cache: &mut StatusCache
     counts_making(reader, header, cache) && !counts_deletion(reader, header, cache)
 }
 
-/// Whether the reader sees a version, as [`Reader::sees_version`] answers it, by the cache as [`sees_cached`].
+/// Whether the reader sees a version, as [`Reader::sees_version`] answers it, by the cache as [`sees_cached`]. (It is for who
+/// has a version whole.)
 pub fn visible_cached(tuple: &Tuple, reader: &Reader<'_>, cache: &mut StatusCache) -> bool
     requires { CacheAgrees cache.old reader.now.statuses.now }
     ensures value { IsTrue result ↔ IsSeenBy reader.now tuple.now.header }

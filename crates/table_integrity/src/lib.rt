@@ -1,9 +1,9 @@
 //! The properties of a table that each step keeps: of its pages, its ids and its indexes.
 //!
-//! `heap_write` says exactly what a write, a pruning or a refusal leaves of a table. The laws here say what that means: the pages
-//! of a sound table stay sound, and the entries of each of its indexes go on to lead to the roots of chains of their values
-//! (`specs/Table.antt`, `specs/Laws.antt`); nobody else can tell that a transaction wrote, and it finds what it wrote itself
-//! (`specs/Readers.antt`, `specs/ByKey.antt`). Each law is the contract of a function that does nothing.
+//! `heap_write` says exactly what a write, a pruning or a refusal leaves of a table. The laws here say what that means. The pages of a
+//! sound table stay sound. The entries of each of its indexes go on to lead to the roots of chains of their values (`specs/Table.antt`,
+//! `specs/Laws.antt`). Nobody else can tell that a transaction wrote, and it finds what it wrote itself (`specs/Readers.antt`,
+//! `specs/ByKey.antt`). Each law is the contract of a function that does nothing.
 //!
 //! Why it is built so: docs/DECISIONS.md, under its name.
 #![tactic(auto)]

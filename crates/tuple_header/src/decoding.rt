@@ -1,4 +1,4 @@
-//! A version from its bytes.
+//! A version from its bytes. The numbers are byteorder's, which speaks of the front of a slice: here a number is at a place.
 
 ghost use Rattle.std.specs.Prelude.{◌≡◌, ◌≤◌, ◌+◌, length, Some, None, IfOk};
 ghost use Rattle.tuple_header.specs.Layout.{number_at, decoded_version, decoded_header, column_at, columns_at, decoded_row, encoding};

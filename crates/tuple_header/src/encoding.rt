@@ -114,6 +114,7 @@ pub fn put_version(header: &Header, row: &Row, out: &mut [u8])
 }
 
 /// Writes a version's bytes, 66 and its body, at the front of `out`, which has room for them. What follows stays.
+/// (It is for who has a version whole. A page has the header and the row apart.)
 pub fn encode(t: &Tuple, out: &mut [u8])
     requires { size_of t.now.row ≤ length out.old }
     ensures { out.new ≡ encoding t.now ++ drop (size_of t.now.row) out.old }

@@ -216,7 +216,7 @@ pub fn row_size(row: &Row) -> usize
     (BODY_START + row.body.len()).next_multiple_of(8)
 }
 
-/// How many bytes a version takes on a page: those of its row.
+/// How many bytes a version takes on a page: those of its row. (It is for who has a version whole.)
 pub fn size(t: &Tuple) -> usize
     ensures { result ≡ rounded_size_of t.now.row }
 {

@@ -65,7 +65,7 @@ pub fn delete_version(page: &mut Page, number_of_page: u32, slot: u16, x: Xid)
 }
 
 /// Notes in the version in a slot that `x`, a normal id, replaced it by one at `place`, which has an index entry of its
-/// own. (PostgreSQL, `heap_update` in src/backend/access/heap/heapam.c.)
+/// own. (PostgreSQL, `heap_update` in src/backend/access/heap/heapam.c. The call says what `set_xmax` is told by a flag.)
 pub fn mark_cold_updated(page: &mut Page, slot: u16, x: Xid, place: Tid)
     requires version { IsNormalAt page.old.slots slot }
     requires normal { IsNormal x.0 }

@@ -1,7 +1,7 @@
 //! A vacuum, step by step.
 //!
-//! A [`Vacuum`] in progress says what it does next: it visits the pages of a table one after another, goes through the indexes piece
-//! by piece once it has collected as many dead slots as it can hold or has come to the last page, and then makes these slots unused.
+//! A [`Vacuum`] in progress says what it does next. It visits the pages of a table one after another. Once it has collected as many dead
+//! slots as it can hold, or has come to the last page, it goes through the indexes piece by piece. Then it makes these slots unused.
 //! (The manual's "Routine Vacuuming"; src/backend/access/heap/vacuumlazy.c. That it does one piece at a time is this project's.)
 //!
 //! The functions of [`laws`] do nothing; their contracts say what each step keeps ([`laws::steps_keep_vacuum`]) and how many steps there

@@ -92,7 +92,7 @@ fn read_look(line: &[u8]) -> Option<Look>
     }
 }
 
-/// Reads a line, if it is a look. The line has no line feed. (What the other tells as a reading is told here as a spelling.)
+/// Reads a line, if it is a look. The line has no line feed. ([`read_look`] says what is read. This says what is spelled.)
 pub fn look_at(line: &[u8]) -> Option<Look>
     ensures { SpellsLook line.now result }
 {

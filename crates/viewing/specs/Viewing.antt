@@ -80,9 +80,9 @@ pub record IsBadView (rest : List ℕ) : Type 0 where
   pub line : (l : Line) (more : List ℕ) → IsAllowed l → rest ≡ with_feed (spelling l) ++ more → ⊥
   pub look : (l : Look) (more : List ℕ) → IsLookAllowed l → rest ≡ with_feed (look_text l) ++ more → ⊥
 
--- What a script's result says of its input and of what was written: without a fault all lines were read and answered; after bad line n
--- those before it were, and it is the first that isn't allowed; where the numbers of lines ran out, all lines with a number were read;
--- no page is read, so none is bad; after another fault a beginning of the answers was written.
+-- What a script's result says of its input and of what was written. Without a fault all lines were read and answered. After bad line n
+-- those before it were, and it is the first that isn't allowed. Where the numbers of lines ran out, all lines with a number were read. No
+-- page is read, so none is bad. After another fault a beginning of the answers was written.
 abbrev pub ViewOutcome : (notes : Bool) → Result (Unit {0}) ShellFault → List ℕ → Option (List ℕ) → Option (List ℕ) → Type 0
 ViewOutcome notes (Ok u) input before after = (settings : Settings) × (events : List ViewEvent)
     × IsViewRun settings events × (input ≡ view_script settings events) × Appends before after (view_answers notes events)

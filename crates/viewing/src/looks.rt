@@ -101,6 +101,7 @@ fn plan(text: &mut Vec<u8>, engine: &Engine, page: u32) -> Result<(), RefusedGro
     }
 }
 
+// (Each look has a function, whose contract says it of the engine.)
 fn horizon(text: &mut Vec<u8>, engine: &Engine) -> Result<(), RefusedGrowth>
     ensures { OnOk result (ShowsLook engine.now look.Horizon text.old.items text.new.items) }
 {

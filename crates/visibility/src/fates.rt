@@ -24,7 +24,7 @@ pub fn fate_of(header: &Header, horizon: Xid, statuses: &StatusTable) -> Fate
     Fate::Kept
 }
 
-/// The fate of a version.
+/// The fate of a version. (It is for who has a version whole. A page has the header and the row apart.)
 pub fn fate(tuple: &Tuple, horizon: Xid, statuses: &StatusTable) -> Fate
     ensures { (result ≡ Fate.Dead) ↔ IsDead statuses.now horizon.0 tuple.now.header }
 {

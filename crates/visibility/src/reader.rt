@@ -58,7 +58,7 @@ impl Reader<'_> {
         self.counts_making(header) && !self.counts_deletion(header)
     }
 
-    /// Whether it sees a version. No hint is read.
+    /// Whether it sees a version. No hint is read. (It is for who has a version whole.)
     pub fn sees_version(&self, tuple: &Tuple) -> bool
         ensures { IsTrue result ↔ IsSeenBy self.now tuple.now.header }
     {
