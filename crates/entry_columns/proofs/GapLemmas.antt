@@ -1,9 +1,7 @@
 -- Places by their numbers, and what lies in a gap.
-use Rattle.std.proofs.Common.{◌≡◌, ◌∙◌, ℕ, ◌+◌, ◌-◌, ◌*◌, ◌/◌, ◌%◌, ◌<◌, ◌≤◌, ◌^◌, not, inl, inr, ℤ, List, [], ◌∷◌, length, get_or, take, drop, true, Bool, Some, Option, IfSome, slice_get, sym, ap, subst, arith, Contains}
+use Rattle.std.proofs.Common.{◌≡◌, ◌∙◌, ℕ, ◌+◌, ◌-◌, ◌*◌, ◌/◌, ◌%◌, ◌<◌, ◌≤◌, ◌^◌, inl, inr, ℤ, List, [], ◌∷◌, length, get_or, take, drop, Some, Option, IfSome, slice_get, sym, ap, subst, arith, Contains}
 use Rattle.std.specs.List.{All}
-use Rattle.std.specs.Cmp.{nat_cmp_is}
-use Rattle.std.specs.Ordering.{nat_cmp, ordering_then, is_lt}
-use Rattle.std.specs.declared.cmp.Ordering.{Ordering}
+use Rattle.std.specs.Ordering.{nat_cmp}
 use Rattle.std.specs.declared.cmp.Ordering.TheVariants.{Less, Equal}
 use Rattle.std.proofs.lemmas.Bool.{cases_lt}
 use Rattle.std.proofs.lemmas.Cmp.{ranked}
@@ -11,36 +9,20 @@ use Rattle.std.proofs.lemmas.List.{length-take, length-drop, get_or-take, get_or
 use Rattle.std.proofs.lemmas.List.Elements.{All-cons, All-head, All-tail, All-weaker, All-more}
 use Rattle.std.proofs.lemmas.Option.{slice_get-get_or}
 use Rattle.xid_circle.specs.declared.Tid.{Tid}
-use Rattle.dead_places.specs.Places.{place_order, PlacePrecedes, AreAscending}
-use Rattle.dead_places.proofs.PlaceLemmas.{less_both, less_from_test, PlacePrecedes-trans, PlacePrecedes-not_back, not_before_itself, ascending-at, same_number}
+use Rattle.dead_places.specs.Places.{PlacePrecedes, AreAscending}
+use Rattle.dead_places.proofs.PlaceLemmas.{less_both, ascending-at, same_number}
 use Rattle.index_entries.specs.declared.entry.Entry.{Entry}
 use Rattle.entry_columns.specs.declared.gap.Gap.{Gap}
 use Rattle.entry_columns.specs.declared.short_tid.ShortTid.{ShortTid}
 use Rattle.entry_columns.specs.Columns.{long, entry_with, entries_with}
 use Rattle.entry_columns.specs.Gaps.{IsInside, AreOutside, AreOutsideFrom}
 
--- Numbers have the order of places.
+-- A later place is on no earlier page.
 
-pub order : (p q : ShortTid) → p.number < q.number → PlacePrecedes (long p) (long q)
-order p q less =
-    let a = p.number in
-    let b = q.number in
-    elim (cases_lt (a / 65536) (b / 65536)) [
-      | inl lower ↦ ap (λ o. ordering_then o (nat_cmp (a % 65536) (b % 65536))) (sym (nat_cmp_is (a / 65536) (b / 65536) Less lower))
-      | inr other ↦
-          let same : a / 65536 ≡ b / 65536 = omega arith in
-          let slot : a % 65536 < b % 65536 = omega arith in
-          ap (λ o. ordering_then o (nat_cmp (a % 65536) (b % 65536))) (sym (nat_cmp_is (a / 65536) (b / 65536) Equal same)) ∙ sym (nat_cmp_is (a % 65536) (b % 65536) Less slot)
-    ]
-
-pub order_back : (p q : ShortTid) → PlacePrecedes (long p) (long q) → p.number < q.number
-order_back p q before = elim (cases_lt p.number q.number) [
-  | inl less ↦ less
-  | inr not_less ↦ elim (cases_lt q.number p.number) [
-    | inl more ↦ absurd (PlacePrecedes-not_back (long p) (long q) before (order q p more))
-    | inr not_more ↦ absurd (let same : p.number ≡ q.number = omega arith in
-        not_before_itself (long q) (subst (λ n. PlacePrecedes (record { page = n / 65536; slot = n % 65536 }) (long q)) same before))
-  ]
+page_up : (a b : Tid) → PlacePrecedes a b → a.page ≤ b.page
+page_up a b before = elim (less_both (nat_cmp a.page b.page) (nat_cmp a.slot b.slot) before) [
+  | inl less ↦ let lower : a.page < b.page = ranked a.page b.page Less (sym less) in omega (arith, lower)
+  | inr both ↦ let same : a.page ≡ b.page = ranked a.page b.page Equal (sym both.0) in omega (arith, same)
 ]
 
 -- All of ascending places.
@@ -48,20 +30,20 @@ order_back p q before = elim (cases_lt p.number q.number) [
 number_in : (xs : List Tid) (t : Tid) → Contains xs t → (k : ℕ) × (k < length xs) × (slice_get xs k ≡ Some t)
 number_in xs t (k, within, is) = (k, within, slice_get-get_or xs k t within ∙ ap Some is)
 
-pub all_from : (xs : List Tid) (first x : Tid) → AreAscending xs → slice_get xs 0 ≡ Some first → ¬ PlacePrecedes first x → (t : Tid) → Contains xs t → ¬ PlacePrecedes t x
-all_from xs first x up at from t there before =
+pub all_from : (xs : List Tid) (first : Tid) (page : ℕ) → AreAscending xs → slice_get xs 0 ≡ Some first → page ≤ first.page → (t : Tid) → Contains xs t → page ≤ t.page
+all_from xs first page up at from t there =
     let p = number_in xs t there in
     elim (cases_lt 0 p.0) [
-      | inl later ↦ from (PlacePrecedes-trans first t x (ascending-at xs 0 p.0 first t up later at p.2) before)
-      | inr other ↦ from (subst (λ (u : Tid). PlacePrecedes u x) (sym (same_number xs 0 p.0 first t (omega arith) at p.2)) before)
+      | inl later ↦ let on = page_up first t (ascending-at xs 0 p.0 first t up later at p.2) in omega (arith, from, on)
+      | inr other ↦ subst (λ (u : Tid). page ≤ u.page) (same_number xs 0 p.0 first t (omega arith) at p.2) from
     ]
 
-pub all_before : (xs : List Tid) (last x : Tid) → AreAscending xs → slice_get xs (length xs - 1) ≡ Some last → PlacePrecedes last x → (t : Tid) → Contains xs t → PlacePrecedes t x
-all_before xs last x up at before t there =
+pub all_before : (xs : List Tid) (last : Tid) (page : ℕ) → AreAscending xs → slice_get xs (length xs - 1) ≡ Some last → last.page < page → (t : Tid) → Contains xs t → t.page < page
+all_before xs last page up at before t there =
     let p = number_in xs t there in
     elim (cases_lt p.0 (length xs - 1)) [
-      | inl earlier ↦ PlacePrecedes-trans t last x (ascending-at xs p.0 (length xs - 1) t last up earlier p.2 at) before
-      | inr other ↦ subst (λ (u : Tid). PlacePrecedes u x) (same_number xs (length xs - 1) p.0 last t (omega (arith, other, p.1)) at p.2) before
+      | inl earlier ↦ let on = page_up t last (ascending-at xs p.0 (length xs - 1) t last up earlier p.2 at) in omega (arith, before, on)
+      | inr other ↦ subst (λ (u : Tid). u.page < page) (same_number xs (length xs - 1) p.0 last t (omega (arith, other, p.1)) at p.2) before
     ]
 
 -- Numbers ahead of one.
@@ -76,31 +58,24 @@ ahead_more from ahead ahead' ps i d within so_far less here =
     (All-weaker (λ (q : ShortTid). from ≤ q.number → from + ahead ≤ q.number) (λ (q : ShortTid). from ≤ q.number → from + ahead' ≤ q.number) (λ q is le. let was = is le in omega (arith, was, less)) (take i ps) so_far)
     here
 
--- what is ahead of the first place by as much as the last is not before the last
-not_inside : (gap : Gap) (p : ShortTid) → (gap.from.number ≤ p.number → gap.to.number ≤ p.number) → ¬ IsInside gap (long p)
-not_inside gap p ahead inside = elim (cases_lt p.number gap.from.number) [
-  | inl before ↦ inside.0 (order p gap.from before)
-  | inr from ↦ absurd (let past = ahead (omega arith) in let less = order_back p gap.to inside.1 in omega (arith, past, less))
-]
+-- Of the places from a page on none is before the first, and none of the others before the second.
+pub not_inside : (gap : Gap) (p : ShortTid) (ahead behind more : ℕ) → gap.but.number ≤ gap.from * 65536 + ahead → behind ≤ gap.but.number + 1 → gap.to * 65536 ≤ behind + more
+    → (gap.from * 65536 ≤ p.number → gap.from * 65536 + ahead ≤ p.number) → (behind ≤ p.number → behind + more ≤ p.number) → ¬ IsInside gap (long p)
+not_inside gap p ahead behind more first second to far far_too inside =
+    let here : gap.but.number ≤ p.number = let past = far (omega (arith, inside.from)) in omega (arith, past, first) in
+    elim (cases_lt gap.but.number p.number) [
+      | inl later ↦ absurd (let past = far_too (omega (arith, later, second)) in omega (arith, past, to, inside.to))
+      | inr other ↦ inside.other (ap (λ n. record { page = n / 65536; slot = n % 65536 }) (omega (arith, here, other)))
+    ]
 
-pub outside : {L : Type 0} (value : L → ℤ) (key : L → ℕ) (gap : Gap) (ls : List L) (ps : List ShortTid) → All (λ (p : ShortTid). gap.from.number ≤ p.number → gap.to.number ≤ p.number) ps
+pub outside : {L : Type 0} (value : L → ℤ) (key : L → ℕ) (gap : Gap) (ls : List L) (ps : List ShortTid) → All (λ (p : ShortTid). ¬ IsInside gap (long p)) ps
     → AreOutside gap (entries_with value key ls ps)
-outside value key gap [] ps ahead = λ k d within. absurd (omega (arith, within))
-outside value key gap (l ∷ ls) [] ahead = λ k d within. absurd (omega (arith, within))
-outside value key gap (l ∷ ls) (p ∷ ps) ahead =
+outside value key gap [] ps out = λ k d within. absurd (omega (arith, within))
+outside value key gap (l ∷ ls) [] out = λ k d within. absurd (omega (arith, within))
+outside value key gap (l ∷ ls) (p ∷ ps) out =
     All-cons (λ (e : Entry). ¬ IsInside gap e.tid) (entry_with value key l p) (entries_with value key ls ps)
-    (not_inside gap p (All-head (λ (p : ShortTid). gap.from.number ≤ p.number → gap.to.number ≤ p.number) p ps ahead))
-    (outside value key gap ls ps (All-tail (λ (p : ShortTid). gap.from.number ≤ p.number → gap.to.number ≤ p.number) p ps ahead))
-
--- What a comparison of places tells.
-
-pub is_before : (a x y : Tid) (b : Bool) (o : Ordering) → y ≡ x → o ≡ place_order a y → b ≡ is_lt o → b ≡ true → PlacePrecedes a x
-is_before a x y b o same of_o of_b holds = less_from_test (place_order a x) (ap (λ z. is_lt (place_order a z)) (sym same) ∙ ap is_lt (sym of_o) ∙ sym of_b ∙ holds)
-
-pub not_before : (a x y : Tid) (b : Bool) (o : Ordering) → y ≡ x → o ≡ place_order a y → b ≡ is_lt o → not b ≡ true → ¬ PlacePrecedes a x
-not_before a x y b o same of_o of_b holds before =
-    let is : b ≡ true = of_b ∙ ap is_lt (of_o ∙ ap (place_order a) same ∙ before) in
-    absurd (cc (is, holds))
+    (All-head (λ (p : ShortTid). ¬ IsInside gap (long p)) p ps out)
+    (outside value key gap ls ps (All-tail (λ (p : ShortTid). ¬ IsInside gap (long p)) p ps out))
 
 -- Of ascending places the first has the least number, and the last the greatest.
 

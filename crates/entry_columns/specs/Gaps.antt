@@ -1,16 +1,17 @@
--- Places in a row to which no entry leads.
-use Rattle.std.specs.Prelude.{◌≤◌, ◌<◌, ◌+◌, ◌^◌, ℕ, List, Contains, IfSome, slice_get}
+-- Places on pages in a row to which no entry leads.
+use Rattle.std.specs.Prelude.{◌≢◌, ◌≤◌, ◌<◌, ◌+◌, ◌^◌, ℕ, List, Contains, IfSome, slice_get}
 use Rattle.std.specs.List.{All}
 use Rattle.xid_circle.specs.declared.Tid.{Tid}
-use Rattle.dead_places.specs.Places.{PlacePrecedes}
 use Rattle.index_entries.specs.declared.entry.Entry.{Entry}
 use Rattle.entry_columns.specs.declared.gap.Gap.{Gap}
 use Rattle.entry_columns.specs.declared.short_tid.ShortTid.{ShortTid}
 use Rattle.entry_columns.specs.Columns.{long}
 
--- the place is from the first of them on, and before the end
-abbrev pub IsInside : Gap → Tid → Type 0
-IsInside gap t = (¬ PlacePrecedes t (long gap.from)) × PlacePrecedes t (long gap.to)
+-- the place is on one of the pages, and not the one that is left out
+pub record IsInside (gap : Gap) (t : Tid) : Type 0 where
+  pub from : gap.from ≤ t.page
+  pub to : t.page < gap.to
+  pub other : t ≢ long gap.but
 
 -- no entry leads to one of them
 abbrev pub AreOutside : Gap → List Entry → Type 0

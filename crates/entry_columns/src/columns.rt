@@ -1,6 +1,6 @@
 //! Columns of entries.
 
-ghost use Rattle.std.specs.Prelude.{◌≡◌, ◌<◌, ◌≤◌, ◌+◌, ◌-◌, ◌*◌, ◌^◌, ◌++◌, min, [], ◌↔◌, length, take, drop, IfOk, IfSome, IsTrue, Some, false, slice_get, vec_len, vec_capacity, Contains};
+ghost use Rattle.std.specs.Prelude.{◌≡◌, ◌⊎◌, ◌<◌, ◌≤◌, ◌+◌, ◌-◌, ◌*◌, ◌%◌, ◌^◌, ◌++◌, min, [], ◌↔◌, length, take, drop, IfOk, IfSome, IsTrue, Some, false, slice_get, vec_len, vec_capacity, Contains};
 ghost use Rattle.std.specs.List.{All, HoldsAt, insert, remove, filter};
 ghost use Rattle.std.specs.Ordering.{is_lt};
 ghost use Rattle.index_entries.specs.Order.{comparison};
@@ -171,14 +171,20 @@ impl<L: Label> EntryColumns<L> {
         place
     }
 
-    /// Places to which no entry leads: those behind these, up to the first that one leads to.
+    /// Places to which no entry leads: those from the last page of these on, up to the page of the second that one leads to, but for the
+    /// first.
     #[inline(never)]
     pub fn gap_behind(&self, tids: &[Tid]) -> Gap
         ensures { AreOutside result self.now.entries }
     {
-        let from = number_behind(tids);
-        let ahead = least_ahead(&self.places, from);
-        between(from, from.saturating_add(ahead))
+        let from = page_of_last(tids);
+        let least = u32::from(from) * PAGES;
+        let ahead = least_ahead(&self.places, least);
+        let first = least.saturating_add(ahead);
+        let behind = first.saturating_add(1);
+        let more = least_ahead(&self.places, behind);
+        let second = behind.saturating_add(more);
+        between(from, (second / PAGES) as u16, first)
     }
 
     /// Reads labels and places, so that the lines of memory that they stand in are near.
@@ -297,11 +303,11 @@ fn move_part<T: Copy>(items: &mut Vec<T>, place: usize, lower: &mut Vec<T>)
     items.truncate(items.len() - place);
 }
 
-/// The number behind that of the last of these places, or another where they are not told apart.
-fn number_behind(tids: &[Tid]) -> u32 {
+/// The page of the last of these places, or another where it is not told apart.
+fn page_of_last(tids: &[Tid]) -> u16 {
     match tids.last() {
-        Some(last) if last.page < PAGES => ShortTid::new(*last).number().saturating_add(1),
-        _ => 0,
+        Some(last) => u16::try_from(last.page).unwrap_or(0),
+        None => 0,
     }
 }
 
@@ -310,12 +316,27 @@ fn least_ahead(places: &[ShortTid], from: u32) -> u32
     ensures numbers { All (λ p. p.number < 2 ^ 32) places.now }
     ensures ahead { All (λ p. from ≤ p.number → from + result ≤ p.number) places.now }
 {
-    let mut ahead = u32::MAX;
+    let shift = from.wrapping_add(HALF_WAY);
+    let mut ahead = HALF_WAY - 1;
     for place in 0..places.len() {
         let number = places[place].number();
-        ahead = ahead.min(number.wrapping_sub(from));
+        ahead = signed_min(ahead, number.wrapping_sub(shift));
     }
-    ahead
+    ahead.wrapping_add(HALF_WAY)
+}
+
+/// Half of the numbers of 32 bits are before this one.
+const HALF_WAY: u32 = 2_147_483_648;
+
+/// The lesser of two numbers from which [`HALF_WAY`] was taken. As signed numbers several are compared in few instructions, where a
+/// processor has none for unsigned ones.
+#[inline(always)]
+fn signed_min(a: u32, b: u32) -> u32
+    ensures one { (result ≡ a) ⊎ (result ≡ b) }
+    ensures least { (result + HALF_WAY) % 2 ^ 32 ≤ (a + HALF_WAY) % 2 ^ 32 }
+    ensures least_too { (result + HALF_WAY) % 2 ^ 32 ≤ (b + HALF_WAY) % 2 ^ 32 }
+{
+    a.cast_signed().min(b.cast_signed()).cast_unsigned()
 }
 
 /// The index, from this one on, of the first of these places whose number lies in the span; the end, where there is none.
@@ -351,14 +372,14 @@ fn past_eights(places: &[ShortTid], from: usize, span: Span) -> usize
 
 /// Numbers from one on, up to so many behind it.
 #[derive(Clone, Copy, Debug)]
-struct Span {
+pub(crate) struct Span {
     least: u32,
     more: u32,
 }
 
 /// The numbers from that of the first of these places to that of the last.
 #[inline(always)]
-fn span_of(dead: &DeadSet) -> Span
+pub(crate) fn span_of(dead: &DeadSet) -> Span
     ensures { AreNumberedWithin dead.now result.least result.more }
 {
     dead.fact_ascending();
@@ -417,7 +438,7 @@ fn is_within(span: Span, place: ShortTid) -> bool
 
 /// Whether this place is dead. Most are told by their numbers.
 #[inline(always)]
-fn is_dead(dead: &DeadSet, span: Span, place: ShortTid) -> bool
+pub(crate) fn is_dead(dead: &DeadSet, span: Span, place: ShortTid) -> bool
     requires { AreNumberedWithin dead.now span.least span.more }
     ensures { IsTrue result ↔ Contains dead.now (long place) }
 {

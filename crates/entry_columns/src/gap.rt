@@ -1,85 +1,100 @@
 //! Places to which no entry leads.
 
-ghost use Rattle.std.specs.Prelude.{◌≡◌, ◌<◌, Contains};
+ghost use Rattle.std.specs.Prelude.{◌≡◌, ◌<◌, ◌≤◌, Contains};
 ghost use Rattle.std.specs.Bool.{OnTrue};
 ghost use Rattle.xid_circle.specs.declared.Tid.{Tid as Place};
-ghost use Rattle.dead_places.specs.Places.{AreAscending, PlacePrecedes};
-ghost use Rattle.entry_columns.specs.Columns.{long};
+ghost use Rattle.dead_places.specs.Places.{AreAscending};
 ghost use Rattle.entry_columns.specs.Gaps.{IsInside};
 
+use crate::columns::{is_dead, span_of};
 use crate::short_tid::{PAGES, ShortTid};
-use dead_places::compare_places;
+use dead_places::DeadSet;
 use xid_circle::Tid;
 
-/// Places in a row: from one on, up to another, which is none of them.
+/// All places of pages in a row, but for one place. So a leaf that loses no entry is passed over where one entry of it leads among dead
+/// places, and not only where none does.
 #[derive(Clone, Copy, Debug)]
 pub struct Gap {
-    from: ShortTid,
-    to: ShortTid,
+    /// The first page.
+    from: u16,
+    /// The page behind the last.
+    to: u16,
+    /// The place that is none of them.
+    but: ShortTid,
 }
 
-/// All places but the last. (A leaf names no numbers: these are private to the crate.)
+/// All places but those of the last page. (A leaf names no numbers: these are private to the crate.)
 pub fn all_places() -> Gap
-    ensures from { result.from.number ≡ 0 }
-    ensures to { result.to.number ≡ 4294967295 }
+    ensures from { result.from ≡ 0 }
+    ensures to { result.to ≡ 65535 }
+    ensures but { result.but.number ≡ 4294967295 }
 {
-    between(0, u32::MAX)
+    between(0, u16::MAX, u32::MAX)
 }
 
-/// The places from this number on, up to another.
-pub(crate) fn between(from: u32, to: u32) -> Gap
-    ensures from { result.from.number ≡ from }
-    ensures to { result.to.number ≡ to }
+/// The places from this page on, up to another, but for that of a number.
+pub(crate) fn between(from: u16, to: u16, but: u32) -> Gap
+    ensures from { result.from ≡ from }
+    ensures to { result.to ≡ to }
+    ensures but { result.but.number ≡ but }
 {
     Gap {
-        from: ShortTid::of_number(from),
-        to: ShortTid::of_number(to),
+        from,
+        to,
+        but: ShortTid::of_number(but),
     }
 }
 
-/// Of these places those in front of this one, where it is one of them.
+/// Of these places those on pages before this one's, where it is one of them.
 #[inline(always)]
 pub fn without(gap: Gap, tid: Tid) -> Gap
     requires { tid.page < PAGES }
     ensures out { ¬ IsInside result tid }
     ensures kept { (t : Place) → IsInside result t → IsInside gap t }
 {
-    let place = ShortTid::new(tid);
-    if place.number() < gap.from.number() {
+    let page = tid.page as u16;
+    if page < gap.from {
         return gap;
     }
-    between(gap.from.number(), gap.to.number().min(place.number()))
+    between(gap.from, gap.to.min(page), gap.but.number())
 }
 
-/// Whether all of these places are in the gap.
+/// Whether all dead places are in the gap.
 #[inline(always)]
-pub fn holds(gap: Gap, tids: &[Tid]) -> bool
-    requires { AreAscending tids.now }
-    ensures { OnTrue result ((t : Place) → Contains tids.now t → IsInside gap t) }
+pub fn holds(gap: Gap, dead: &DeadSet) -> bool
+    ensures { OnTrue result ((t : Place) → Contains dead.now t → IsInside gap t) }
 {
-    begin_from(tids, gap.from) && end_before(tids, gap.to)
+    dead.fact_ascending();
+    let tids = dead.as_slice();
+    if !begin_from(tids, gap.from) {
+        return false;
+    }
+    if !end_before(tids, gap.to) {
+        return false;
+    }
+    !is_dead(dead, span_of(dead), gap.but)
 }
 
-/// Whether none of these places comes before this one.
+/// Whether none of these places is on a page before this one.
 #[inline(always)]
-fn begin_from(tids: &[Tid], from: ShortTid) -> bool
+fn begin_from(tids: &[Tid], page: u16) -> bool
     requires { AreAscending tids.now }
-    ensures { OnTrue result ((t : Place) → Contains tids.now t → ¬ PlacePrecedes t (long from)) }
+    ensures { OnTrue result ((t : Place) → Contains tids.now t → page ≤ t.page) }
 {
     match tids.first() {
-        Some(first) => !compare_places(first, &from.long()).is_lt(),
+        Some(first) => u32::from(page) <= first.page,
         None => true,
     }
 }
 
-/// Whether all of these places come before this one.
+/// Whether all of these places are on pages before this one.
 #[inline(always)]
-fn end_before(tids: &[Tid], to: ShortTid) -> bool
+fn end_before(tids: &[Tid], page: u16) -> bool
     requires { AreAscending tids.now }
-    ensures { OnTrue result ((t : Place) → Contains tids.now t → PlacePrecedes t (long to)) }
+    ensures { OnTrue result ((t : Place) → Contains tids.now t → t.page < page) }
 {
     match tids.last() {
-        Some(last) => compare_places(last, &to.long()).is_lt(),
+        Some(last) => last.page < u32::from(page),
         None => true,
     }
 }

@@ -192,12 +192,10 @@ impl<L: Label> Node for Leaf<L> {
             return None;
         }
         let last = self.last;
-        dead.fact_ascending();
-        let places = dead.as_slice();
-        if holds(self.gap, places) {
+        if holds(self.gap, dead) {
             return Some(none_removed(last, count));
         }
-        self.gap = self.entries.gap_behind(places);
+        self.gap = self.entries.gap_behind(dead.as_slice());
         if !self.entries.remove_dead(position, dead) {
             return Some(none_removed(last, count));
         }
@@ -216,8 +214,7 @@ impl<L: Label> Node for Leaf<L> {
 
     #[inline(always)]
     fn touch(&self, dead: &DeadSet) -> u32 {
-        dead.fact_ascending();
-        if holds(self.gap, dead.as_slice()) {
+        if holds(self.gap, dead) {
             return 0;
         }
         self.entries.touch()

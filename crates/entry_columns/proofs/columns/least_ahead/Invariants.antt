@@ -1,4 +1,4 @@
-use Rattle.std.proofs.Common.{◌<◌, ◌^◌, take}
+use Rattle.std.proofs.Common.{◌<◌, ◌+◌, ◌%◌, ◌^◌, take}
 use Rattle.std.specs.List.{All}
 use Rattle.entry_columns.specs.declared.short_tid.ShortTid.{ShortTid}
 use Rattle.entry_columns.proofs.GapLemmas.{AreAhead}
@@ -8,5 +8,5 @@ use Rattle.entry_columns.proofs.columns.least_ahead.Given as goal
 abbrev pub invariant-loop-place : goal.invariant-loop-place
 invariant-loop-place l = record {
   numbers : All (λ (p : ShortTid). p.number < 2 ^ 32) (take l.place l.places);
-  ahead : AreAhead l.from l.ahead (take l.place l.places);
+  ahead : AreAhead l.from ((l.ahead + 2147483648) % 4294967296) (take l.place l.places);
 }

@@ -1,11 +1,9 @@
-use Rattle.std.proofs.Common.{sym}
-use Rattle.std.proofs.lemmas.Bool.{OnTrue_from}
-use Rattle.entry_columns.specs.Columns.{long}
-use Rattle.entry_columns.proofs.GapLemmas.{all_before, is_before}
+use Rattle.std.proofs.Common.{◌<◌, ltb, sym, subst, Contains}
+use Rattle.std.proofs.lemmas.Bool.{OnTrue_from, ltb-true}
+use Rattle.xid_circle.specs.declared.Tid.{Tid}
+use Rattle.entry_columns.proofs.GapLemmas.{all_before}
 use Rattle.entry_columns.proofs.gap.end_before.Goals as goal
 
 pub returns-in-Some : goal.returns-in-Some
 returns-in-Some c =
-    OnTrue_from c.is_lt.result _
-    (λ less t there. all_before c.args.tids.now c.in-Some.last.now (long c.args.to) c.requires (sym c.in-Some.ensures.value)
-    (is_before c.in-Some.last.now (long c.args.to) c.long.result c.is_lt.result c.compare_places.result c.long.ensures c.compare_places.ensures c.is_lt.ensures less) t there)
+    OnTrue_from (ltb c.in-Some.last.now.page c.from.result) ((t : Tid) → Contains c.args.tids.now t → t.page < c.args.page) (λ before t there. all_before c.args.tids.now c.in-Some.last.now c.args.page c.requires (sym c.in-Some.ensures.value) (subst (λ p. c.in-Some.last.now.page < p) c.from.ensures (ltb-true c.in-Some.last.now.page c.from.result before)) t there)

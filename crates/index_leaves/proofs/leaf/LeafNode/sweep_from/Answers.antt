@@ -19,7 +19,7 @@ returns-then-holds-clause-swept g c =
     let swept = c.none_removed.result in
     let within : c.args.position < length xs = omega (arith, c.len-count.ensures.value, c.if-position-count.false) in
     let last : slice_get xs (length xs - 1) ≡ Some swept.last = c.self.invariant.last_apart (omega (arith, within)) ∙ ap Some (sym c.none_removed.ensures.last) in
-    let inside = subst (λ (ts : List Tid). (t : Tid) → Contains ts t → IsInside gap t) c.as_slice-places.ensures (OnTrue_at c.if-holds.true c.holds.ensures) in
+    let inside : (t : Tid) → Contains c.args.dead.now t → IsInside gap t = OnTrue_at c.if-holds.true c.holds.ensures in
     let none : swept.removed + length xs ≡ length xs = omega (arith, c.none_removed.ensures.removed) in
     subst (λ (ys : List Entry). IsSwept ys ys c.args.position c.args.dead.now swept) (ap (λ (v : ColumnsView). v.entries) c.self.view_is)
     (swept_leaf xs xs c.args.position c.args.dead.now swept within (none_goes gap c.args.dead.now xs c.args.position c.self.invariant.outside inside) last none c.none_removed.ensures.more)
