@@ -120,7 +120,8 @@ def said_of(crate: str, folder: str, edits: List[dict], texts: Dict[str, str]) -
 
 def fault_of(edit: dict, said: audit.Said, is_alone: bool) -> Optional[str]:
     """Why an edit counts as let through by a check that has it: nothing where it is refused, None where one with it alone has to tell."""
-    verdict = said.functions.get(edit["function"], "there is no such function")
+    # (a check that says nothing of any function was ended, or the libraries below moved while it ran)
+    verdict = said.functions.get(edit["function"], "there is no such function" if said.functions else "the check gave no verdict")
     if verdict.startswith(("not proved", "no proof")) and not verdict.startswith(audit.NOT_REACHED):
         turns_code = all(file.startswith("src/") for file, _, _ in edit["pairs"])
         return "refused by form alone" if turns_code and edit["function"] in said.by_form else ""
