@@ -1,8 +1,8 @@
 //! What a caller says and is told: the words of the table.
 //!
-//! [`Settings`] make an engine, a [`Step`] is one call, a [`Reply`] its answer. `specs/` has what is said of them alone:
-//! which settings are in range (`Words`), whose a step is (`Steps`), which steps write a key (`Writes`), what bars a
-//! session from a step (`Bars`). Which reply is allowed to a step is `refinement`'s to say.
+//! [`Settings`] make an engine, a [`Step`] is one call, a [`Reply`] its answer. `specs/` has what is said of them alone.
+//! `Words` says which settings are in range, `Steps` whose a step is, `Writes` which steps write a key, `Bars` what bars
+//! a session from a step. Which reply is allowed to a step is `refinement`'s to say.
 //!
 //! Why it is built so: docs/DECISIONS.md, under its name.
 #![tactic(auto)]

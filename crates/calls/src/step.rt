@@ -76,16 +76,17 @@ pub enum Step {
     Commit(u8),
     /// Drops what the session wrote, and closes it.
     Abort(u8),
-    /// Opens a cursor over the rows that the session reads whose value in an index lies within two bounds, both included: the
-    /// session, the index (0 by key, c + 1 by column c), the lower and the upper bound.
+    /// Opens a cursor over the rows that the session reads whose value in an index lies within two bounds, both included. The
+    /// fields are the session, the index (0 by key, c + 1 by column c), the lower and the upper bound.
     OpenIndex(u8, u8, i128, i128),
     /// Opens a cursor over all rows that the session reads.
     OpenHeap(u8),
-    /// Opens a cursor over the keys of the rows that the session reads which lie within two bounds, both included: the session, the
-    /// lower and the upper bound. It hands out keys alone, by the index by key, and looks at no page that is noted as all-visible.
+    /// Opens a cursor over the keys of the rows that the session reads which lie within two bounds, both included. The fields are
+    /// the session, the lower and the upper bound. It hands out keys alone, by the index by key, and looks at no page that is noted
+    /// as all-visible.
     OpenKeys(u8, i128, i128),
-    /// Asks the cursor for rows, or for keys: in an index for the next so many, where 0 counts as 1, or all that are left; in the heap
-    /// for those of a page.
+    /// Asks the cursor for rows, or for keys. In an index it asks for the next so many, where 0 counts as 1, or all that are left. In
+    /// the heap it asks for those of a page.
     Next(u8, u16),
     /// Closes the cursor.
     Close(u8),

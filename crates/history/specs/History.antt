@@ -35,7 +35,7 @@ latest (transaction ∷ later) key = option_or (latest later key) (written trans
 abbrev pub committed : List Transaction → ℕ → ℕ → Option Row
 committed history n key = option_flatten (latest (take n history) key)
 
--- what is read by one who began after the first start transactions and has written this: the own write, else what
+-- What is read by one who began after the first start transactions and has written this. It is the own write, else what
 -- was committed at the start ("Transaction Isolation" in the manual's chapter "Concurrency Control")
 abbrev pub reading : List Transaction → ℕ → List Write → ℕ → Option Row
 reading history start writes key = unwrap_or (written writes key) (committed history start key)

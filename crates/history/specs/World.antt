@@ -18,15 +18,17 @@ pub record Cursor : Type 0 where
   pub order : Order
   pub rest : ℕ → Option Row
 
--- by which snapshot a session reads: by that of its beginning, when so many transactions had committed, or by one that each of
--- its statements takes anew (Repeatable Read and Read Committed, in the manual's section "Transaction Isolation")
+-- By which snapshot a session reads. It reads by that of its beginning, when so many transactions had committed, or by one
+-- that each of its statements takes anew. (In the manual's section "Transaction Isolation" these are Repeatable Read and Read
+-- Committed.)
 pub data Isolation : Type 0 where
   by_snapshot : (start : ℕ) → Isolation
   by_statement : Isolation
 
--- an open session: by which snapshot it reads; what it wrote at each level, the newest level first, and within a level the
--- oldest write first; whether it can only be rolled back; its cursor. A savepoint begins a level, so there is always one
--- more than there are savepoints. And whether it has written, be it that all of it was rolled back to a savepoint since
+-- An open session: by which snapshot it reads, and what it wrote at each level, the newest level first, and within a level
+-- the oldest write first. A savepoint begins a level, so there is always one more than there are savepoints. Then whether
+-- it can only be rolled back, its cursor, and whether it has written, be it that all of it was rolled back to a savepoint
+-- since
 pub record OpenSession : Type 0 where
   pub isolation : Isolation
   pub levels : List (List Write)
@@ -34,10 +36,10 @@ pub record OpenSession : Type 0 where
   pub cursor : Option Cursor
   pub has_written : Bool
 
--- all that has committed, the sessions that are open, for whom each waits, which indexes there are, and which of them are too new
--- for a session: it was open by snapshot when the index was made. An index leads to the rows that were current when it was made, and
--- not to older ones, which such a session may read still (indcheckxmin in the source). And whether a vacuum runs, which changes nothing
--- of all this
+-- All that has committed, the sessions that are open, for whom each waits, which indexes there are, and which of them are too new for a
+-- session. Such a session was open by snapshot when the index was made. An index leads to the rows that were current when it was made,
+-- and not to older ones, which such a session may read still (indcheckxmin in the source). And whether a vacuum runs, which changes
+-- nothing of all this
 pub record World : Type 0 where
   pub history : List Transaction
   pub session : ℕ → Option OpenSession

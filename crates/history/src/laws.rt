@@ -6,7 +6,7 @@ ghost use Rattle.history.specs.World.{World, beginning};
 ghost use Rattle.history.specs.Events.{Happens, StepsReach};
 ghost use Rattle.history.specs.Laws.{FirstCommitterWins, Grows, HasFew, HasFewLevels, HeldInTime, HeldOnce, HoldersHaveWritten, KeepsIndexes, KeepsView, NeverLate, NeverTooNew};
 
-/// The first committer wins: of two transactions that wrote one key, the second to commit wrote it by a snapshot that was taken
+/// The first committer wins. Of two transactions that wrote one key, the second to commit wrote it by a snapshot that was taken
 /// after the first had committed (Berenson et al. 1995, snapshot isolation).
 pub fn first_committer_wins()
     ensures { (columns : List Bool) (w : World) → StepsReach (beginning columns) w

@@ -1,5 +1,5 @@
--- The order of entries: by value, then key, then page, then slot, as an ordered index keeps entries with the same value apart
--- by the rest (PostgreSQL's src/backend/access/nbtree/README: a tuple's place breaks ties).
+-- The order of entries: by value, then key, then page, then slot. An ordered index keeps entries with the same value apart by
+-- the rest (PostgreSQL's src/backend/access/nbtree/README: a tuple's place breaks ties).
 use Rattle.std.specs.Prelude.{◌≡◌, ◌↔◌, List, Contains}
 use Rattle.std.specs.Ordering.{nat_cmp, int_cmp, ordering_then}
 use Rattle.std.specs.declared.cmp.Ordering.{Ordering}

@@ -153,8 +153,8 @@ pub trait Node: Drop {
             (λ found. IsTrue found.1
             → IsEndAt (entries self.now) found.0 (rank self.now position)) };
 
-    /// Where the entry goes, if that is right before or right behind this position, and between two entries of one leaf; or at the end,
-    /// where no entries follow the node, which `is_last` says.
+    /// Where the entry goes, if that is right before or right behind this position, and between two entries of one leaf. Or it goes at
+    /// the end, where no entries follow the node, which `is_last` says.
     fn gap_near(
         &self,
         sought: &Entry,

@@ -15,8 +15,8 @@ use tuple_header::{Header, RowRef};
 use visibility::Reader;
 use xid_circle::Tid;
 
-/// The header and the row of the version in a slot, if its bytes begin at `from`, it is of the key, no HOT update followed it, and the
-/// reader sees it. Where there is no answer nothing is said of the slot.
+/// The header and the row of the version in a slot. They are answered if its bytes begin at `from`, it is of the key, no HOT update
+/// followed it, and the reader sees it. Where there is no answer nothing is said of the slot.
 #[inline(always)]
 fn seen_from<'a>(
     page: &'a Page,
@@ -38,9 +38,9 @@ fn seen_from<'a>(
     }
 }
 
-/// Borrows the row of the version at a place, or of the one in its chain that the reader sees, if it is a version of the key and
-/// the reader sees it. Where there is none, there may be one elsewhere. The bytes of the one at the place begin at `from`, perhaps:
-/// if they do it is found sooner. It takes no memory.
+/// Borrows the row of the version at a place, or of the one in its chain that the reader sees. It does so if that is a version of
+/// the key and the reader sees it. Where there is none, there may be one elsewhere. The bytes of the one at the place begin at
+/// `from`, perhaps: if they do it is found sooner. It takes no memory.
 pub fn row_by_place<'a>(
     pages: &'a Pages,
     place: Tid,

@@ -81,9 +81,9 @@ pub(crate) fn seen_at(pages: &Pages, place: Tid, reader: &Reader<'_>) -> Option<
     }
 }
 
-/// The place of the first version that the reader sees, along the entries of the value and the key of this one in their
-/// order, and along the chain of each. A caller that knows the first of these entries and its position saves the search for it.
-/// It takes no memory.
+/// The place of the first version that the reader sees. It is looked for along the entries of the value and the key of this one
+/// in their order, and along the chain of each. A caller that knows the first of these entries and its position saves the
+/// search for it. It takes no memory.
 pub fn place_from(
     table: &TableView<'_>,
     first: Entry,

@@ -17,8 +17,8 @@ use std::alloc::Global;
 /// A rule of the history, by which an answer goes.
 #[derive(Clone, Copy, Debug, PartialEq, Eq)]
 pub enum Rule {
-    /// The first tests of a step, in their order: there is such a session, it is open or not, it has not failed, it has a cursor or
-    /// none, and its row is not too large.
+    /// The first tests of a step, in their order. There is such a session, it is open or not, and it has not failed. It has a
+    /// cursor or none, and its row is not too large.
     OrderOfTests,
     /// By snapshot a session reads what had committed when it began.
     OneSnapshot,

@@ -23,8 +23,9 @@ HasHeapCursor w s = (m : OpenSession) × (c : Cursor) × (w.session s ≡ Some m
 abbrev pub IsOpenByStatement : World → ℕ → Type 0
 IsOpenByStatement w s = (m : OpenSession) × (w.session s ≡ Some m) × (m.isolation ≡ by_statement)
 
--- What the history leaves open, for it does not know of it: memory, ids, room, which pages there are and which rows are on one,
--- which of its rows a heap cursor hands out next, what a vacuum does and when it ends. At the steps that are not named nothing is
+-- What the history leaves open, for it does not know of it. It is memory, ids, room, which pages there are and which rows are on
+-- one. It is also which of its rows a heap cursor hands out next, what a vacuum does and when it ends. At the steps that are not
+-- named nothing is left open
 abbrev pub IsLeftOpen : World → Step → Reply → Type 0
 IsLeftOpen w (step.Begin s) (reply.Refused refusal.NoMemory) = Unit {0}
 IsLeftOpen w (step.Insert s row) (reply.Refused refusal.NeedsFreeze) = Unit {0}

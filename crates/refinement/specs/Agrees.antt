@@ -39,8 +39,8 @@ pub record Traced (store : Tid → Option Version) (P : ℕ → Type 0) (writes 
   pub written_there : (k : ℕ) → IsSome (written writes k) → SomeVersion store k (IsBy P)
   pub there_written : (p : Tid) (v : Version) → At store p v → IsBy P v → IsSome (written writes v.row.key)
 
--- a key stands in a level exactly where an id of that level made or deleted a version of it: one that the session has, and had not at the
--- savepoint that began the level
+-- A key stands in a level exactly where an id of that level made or deleted a version of it. That id is one that the session has, and had
+-- not at the savepoint that began the level
 abbrev pub LevelTraces : (Tid → Option Version) → List ℕ → List (List ℕ) → List (List Write) → Type 0
 LevelTraces store own [] (writes ∷ []) = Traced store (λ x. Contains own x) writes
 LevelTraces store own (before ∷ saved) (writes ∷ levels) = Traced store (λ x. Contains own x × (¬ Contains before x)) writes × LevelTraces store before saved levels

@@ -33,8 +33,8 @@ AllowsUnsuited w s refusal.NotThere (updates row) = (m : OpenSession) × IsWrite
 AllowsUnsuited w s refusal.NotThere (deletes k) = (m : OpenSession) × IsWriter w s m × (view w.history m k ≡ None)
 AllowsUnsuited w s refusal write = BarsFree (world_sessions w) s refusal
 
--- or it does, but a commit since the snapshot by which it reads or another open session has written the key, or there is no
--- id, no room or no memory for it
+-- Or it does suit it, but something keeps it from being made. A commit since the snapshot by which the session reads or
+-- another open session has written the key, or there is no id, no room or no memory for it
 abbrev pub AllowsHindered : World → ℕ → Refusal → WriteStep → Type 0
 AllowsHindered w s refusal.Conflict write = (m : OpenSession) × IsWriter w s m × Asks write (view w.history m (key_of write)) × IsLate w.history (start_now w.history m) (key_of write)
 AllowsHindered w s (refusal.Busy o) write = (m : OpenSession) × Asks write (view w.history m (key_of write)) × IsBlocked w s (key_of write) o m

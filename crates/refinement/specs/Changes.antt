@@ -49,7 +49,7 @@ GivesEach status (x ∷ xs) status' = (between : ℕ → Option Status) × Gives
 abbrev pub with_id : ℕ → ℕ → SeenSession → SeenSession
 with_id n x e = record e { own = e.own ++ x ∷ []; saved = saved_with n x e.saved }
 
--- the ids become those of as many levels, the newest, and the first of them is the lowest level's: a level's first write
+-- The ids become those of as many levels, the newest, and the first of them is the lowest level's. A level's first write
 -- gives an id to every level below that has none, parents before children (AssignTransactionId of the source)
 abbrev pub with_ids : List ℕ → SeenSession → SeenSession
 with_ids [] e = e

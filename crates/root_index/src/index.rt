@@ -115,7 +115,7 @@ impl<L: Label> Index<L> {
     }
 
     /// Makes room in memory for `count` more entries, so that the next `count` of them are inserted without asking for any. An
-    /// index that has an entry, or had one, has nodes for 128, and nothing has to grow as long as they are no more; only else
+    /// index that has an entry, or had one, has nodes for 128, and nothing has to grow as long as they are no more. Only else
     /// may it be refused. It is always refused where the number of entries would be above 2^64 - 1.
     pub(crate) fn make_room(&mut self, count: usize) -> Result<(), AllocError>
         ensures room { OnOk result (count ≤ room_in self.new) }
@@ -135,8 +135,9 @@ impl<L: Label> Index<L> {
         self.set_aside(count)
     }
 
-    /// Sets nodes aside for `count` more entries. Each may split a node of each kind, so these are as many leaves, of 0.75 or 1.25 KiB, and
-    /// as many branches of them, of 16 KiB, and trees, of 3. Or it takes a leaf that outgrows its list a larger one, of 1.5 or 2.5 KiB.
+    /// Sets nodes aside for `count` more entries. Each may split a node of each kind. So these are as many leaves, of 0.75 or 1.25 KiB,
+    /// and as many branches of them, of 16 KiB, and trees, of 3. Or it takes a leaf that outgrows its list a larger one, of 1.5 or 2.5
+    /// KiB.
     fn set_aside(&mut self, count: usize) -> Result<(), AllocError>
         ensures room { OnOk result (count ≤ self.new.spare) }
         ensures refused { OnErr result (self.old.spare < count) }
@@ -164,10 +165,10 @@ impl<L: Label> Index<L> {
         fits::<L>(entry)
     }
 
-    /// Adds an entry. One that is there already stays there once. Memory is refused only where the entry is not there, no room
-    /// was made for it, and there was never an entry or there are 128 or more, so that a node may be full; or where the entries could
-    /// not be counted any more. They stay as they were then. The room that was made for others is kept where no node is split, and no leaf
-    /// outgrows its places.
+    /// Adds an entry. One that is there already stays there once. Memory is refused only in two cases. In one the entry is not there, no
+    /// room was made for it, and there was never an entry or there are 128 or more. (From 128 on a node may be full.) In the other the
+    /// entries could not be counted any more. In both the entries stay as they were. The room that was made for others is kept where no
+    /// node is split, and no leaf outgrows its places.
     pub(crate) fn insert(&mut self, entry: Entry) -> Result<(), AllocError>
         requires { Fits self.old.is_by_key entry }
         ensures kind { self.new.is_by_key ≡ self.old.is_by_key }
@@ -250,9 +251,9 @@ impl<L: Label> Index<L> {
     }
 
     /// Goes over the entries after this one, or over all, as far as the leaf goes that holds the first of them, and removes those
-    /// to dead places. Says how far it came, so that the next call goes on from there, and where the entry stood to which it came:
-    /// where that still stands there, the next call doesn't search for it. It takes no memory, and keeps all room: the last nodes
-    /// that are emptied are set aside.
+    /// to dead places. Says how far it came, so that the next call goes on from there. It also says where the entry stood to which
+    /// it came. Where that still stands there, the next call doesn't search for it. It takes no memory, and keeps all room: the
+    /// last nodes that are emptied are set aside.
     pub(crate) fn remove_where(
         &mut self,
         dead: &DeadSet,

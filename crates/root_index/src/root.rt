@@ -82,7 +82,7 @@ impl RootIndex {
     }
 
     /// Makes room in memory for `count` more entries, so that the next `count` of them are inserted without asking for any. An
-    /// index that has an entry, or had one, has nodes for 128, and nothing has to grow as long as they are no more; only else
+    /// index that has an entry, or had one, has nodes for 128, and nothing has to grow as long as they are no more. Only else
     /// may it be refused. It is always refused where the number of entries would be above 2^64 - 1.
     pub fn make_room(&mut self, count: usize) -> Result<(), AllocError>
         ensures room { OnOk result (count ≤ room_in self.new) }
@@ -98,8 +98,8 @@ impl RootIndex {
         }
     }
 
-    /// Whether this entry can be in the index: in one by key its value is its key, in another one of 64 bits, with a sign; and its place
-    /// is on one of the first 65,536 pages.
+    /// Whether this entry can be in the index. In one by key its value is its key, in another its value is one of 64 bits, with a sign.
+    /// In both its place is on one of the first 65,536 pages.
     pub fn fits(&self, entry: &Entry) -> bool
         ensures { IsTrue result ↔ Fits self.now.is_by_key entry.now }
     {
@@ -109,10 +109,10 @@ impl RootIndex {
         }
     }
 
-    /// Adds an entry that fits. One that is there already stays there once. Memory is refused only where the entry is not there, no room
-    /// was made for it, and there was never an entry or there are 128 or more, so that a node may be full; or where the entries could
-    /// not be counted any more. They stay as they were then. The room that was made for others is kept where no node is split, and no leaf
-    /// outgrows its places.
+    /// Adds an entry that fits. One that is there already stays there once. Memory is refused only in two cases. In one the entry is not
+    /// there, no room was made for it, and there was never an entry or there are 128 or more. (From 128 on a node may be full.) In the
+    /// other the entries could not be counted any more. In both the entries stay as they were. The room that was made for others is kept
+    /// where no node is split, and no leaf outgrows its places.
     pub fn insert(&mut self, entry: Entry) -> Result<(), AllocError>
         requires { Fits self.old.is_by_key entry }
         ensures adds { OnOk result (AddsEntry self.old.entries self.new.entries entry) }
@@ -181,9 +181,9 @@ impl RootIndex {
     }
 
     /// Goes over the entries after this one, or over all, as far as the leaf goes that holds the first of them, and removes those
-    /// to dead places. Says how far it came, so that the next call goes on from there, and where the entry stood to which it came:
-    /// where that still stands there, the next call doesn't search for it. It takes no memory, and keeps all room: the last nodes
-    /// that are emptied are set aside.
+    /// to dead places. Says how far it came, so that the next call goes on from there. It also says where the entry stood to which
+    /// it came. Where that still stands there, the next call doesn't search for it. It takes no memory, and keeps all room: the
+    /// last nodes that are emptied are set aside.
     pub fn remove_where(
         &mut self,
         dead: &DeadSet,

@@ -19,8 +19,8 @@ pub enum Command {
 /// How the program is called.
 pub const USAGE: &str = "usage: heapsh run|threads|inspect";
 
-/// The command in the first two words: a script is run where `run` is the only word, done by threads where `threads` is, and a page
-/// looked into where `inspect` is.
+/// The command in the first two words. A script is run where `run` is the only word, and done by threads where `threads` is. A page
+/// is looked into where `inspect` is.
 pub fn command_of(first: Option<&str>, second: Option<&str>) -> Command
     ensures run { result ≡ Command.Run
         ↔

@@ -63,8 +63,8 @@ impl SessionIsolation {
     }
 }
 
-/// An open session: what it sees of others, its own ids, whether it can only be rolled back, its cursor if it has one, and which
-/// indexes are too new for it.
+/// An open session: what it sees of others, its own ids, and whether it can only be rolled back. Then its cursor if it has one,
+/// and which indexes are too new for it.
 #[derive(Drop)]
 pub struct Session {
     /// The snapshot by which it reads.

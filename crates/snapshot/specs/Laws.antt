@@ -28,8 +28,8 @@ pub record IsInWindow (w : Window) (s : Snap) : Type 0 where
   pub bounds : IsBounded w s
   pub listed : (x : ℕ) → Contains s.listed x → IsBetween w s x
 
--- An id that was in progress when the snapshot was taken is unseen, then and later: in any window v where it has the
--- same topmost parent, whatever became of it.
+-- An id that was in progress when the snapshot was taken is unseen, then and later. It is so in any window v where it
+-- has the same topmost parent, whatever became of it.
 abbrev pub OpenIsUnseen : Type 0
 OpenIsUnseen = (w v : Window) (owns : List (List ℕ)) (x : ℕ) → IsWindow w → AreOpen w owns → IsActive w x → top_of v x ≡ top_of w x
     → ¬ Sees (taken (next_id w) owns) v x

@@ -1,9 +1,10 @@
 //! What a reader sees of other transactions, and the ids that are its own.
 //!
-//! The contract promises that a [`Snapshot`] lists what `specs/Snap.antt` says, and sees an id exactly where that says so,
-//! and that [`OwnIds`] keep the ids of an open transaction, and what was there at each savepoint, as `specs/Own.antt` says.
-//! The laws (`specs/Laws.antt`) say what this means in time: what was in progress when a snapshot was taken, or was given
-//! later, is unseen by it as long as its topmost parent stays the same, and what had finished with its topmost parent is seen.
+//! The contract promises that a [`Snapshot`] lists what `specs/Snap.antt` says, and sees an id exactly where that says so. It
+//! promises that [`OwnIds`] keep the ids of an open transaction, and what was there at each savepoint, as `specs/Own.antt`
+//! says. The laws (`specs/Laws.antt`) say what this means in time. What was in progress when a snapshot was taken, or was
+//! given later, is unseen by it as long as its topmost parent stays the same. What had finished with its topmost parent is
+//! seen.
 //!
 //! Why it is built so: docs/DECISIONS.md, under its name.
 #![tactic(auto)]

@@ -175,8 +175,8 @@ impl OwnIds {
     }
 
     /// Begins a savepoint: remembers how many ids there are. It answers TooDeep exactly where there are
-    /// [`MOST_SAVEPOINTS`] already, and NoMemory only where there are four or more and the place of one more takes memory;
-    /// both leave all as it was.
+    /// [`MOST_SAVEPOINTS`] already. It answers NoMemory only where there are four or more and the place of one more takes
+    /// memory. Both leave all as it was.
     pub fn save(&mut self) -> Result<(), SaveFault>
         ensures ids { self.new.ids ≡ self.old.ids }
         ensures spare { self.new.spare ≡ self.old.spare }

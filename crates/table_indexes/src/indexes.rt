@@ -206,8 +206,8 @@ impl Indexes {
         self.by_key.expect(near);
     }
 
-    /// Adds an entry to each index in use, for a version at a place of a row with this key and these columns, on one of the first
-    /// 65,536 pages. It takes no memory.
+    /// Adds an entry to each index in use, for a version at a place of a row with this key and these columns. The place is on one
+    /// of the first 65,536 pages. It takes no memory.
     pub fn enter(&mut self, key: u64, cols: &[i64; COLUMNS], place: Tid)
         requires room { HasEntries self.old }
         requires page { place.page < PAGES }

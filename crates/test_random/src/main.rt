@@ -2,8 +2,8 @@
 //!
 //! That the history allows each reply of the engine is proved (`session_core`), and that the judge allows exactly such replies
 //! (`judge`). This program tries the compiled engine. What the history leaves to an engine is compared with the engine's pages and
-//! ids. At the first reply that is not as it has to be it says where that is and ends with status 1, as it does where a kind of
-//! reply never came.
+//! ids. At the first reply that is not as it has to be it says where that is and ends with status 1. It ends so too where a kind
+//! of reply never came.
 #![tactic(auto)]
 
 mod bodies;

@@ -108,7 +108,7 @@ impl Step for IndexStep {
 /// How far a key is behind the next one.
 const DOWN: u16 = 29999;
 
-/// Of a full leaf of 128 and one more the first 64 stay, of which the new one may be one: a piece that removes nothing goes
+/// Of a full leaf of 128 and one more the first 64 stay, of which the new one may be one. A piece that removes nothing goes
 /// as far as its leaf.
 static LEAVES_UPWARD: [IndexStep; 5] = [
     IndexStep::InsertRun(1, 300, 1),

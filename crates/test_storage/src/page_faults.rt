@@ -3,8 +3,8 @@
 use page_slots::PageFault::{BadPointer, BadRedirect, BadTuple, Bounds, Header, Length, Overlap};
 use page_slots::{PageFault, check_page};
 
-/// The header and the one pointer of a page: change number 1, pd_lower 28, pd_upper 8120, the size and layout version, and a
-/// version of 66 bytes at 8120.
+/// The header and the one pointer of a page. The header has change number 1, pd_lower 28, pd_upper 8120, and the size and
+/// layout version. The pointer is to a version of 66 bytes at 8120.
 static HEAD: [u8; 28] = [
     1, 0, 0, 0, 0, 0, 0, 0, 0, 0, 0, 0, 0x1c, 0, 0xb8, 0x1f, 0, 0x20, 4, 0x20, 0, 0, 0, 0, 0xb8,
     0x9f, 0x84, 0,

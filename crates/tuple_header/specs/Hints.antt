@@ -1,5 +1,6 @@
--- The marks of a header that are hints. They only save a look at the status of a transaction, and may be set at any time:
--- that the inserter is committed or aborted, each alone, and that a deleter is (src/include/access/htup_details.h).
+-- The marks of a header that are hints. They only save a look at the status of a transaction, and may be set at any time.
+-- They say that the inserter is committed or aborted, each alone, and that a deleter is
+-- (src/include/access/htup_details.h).
 use Rattle.std.specs.Prelude.{ℕ, Bool, ◌==◌, ◌&&◌, if◌then◌else◌, bit_and, bit_or}
 use Rattle.tuple_header.specs.declared.version.Header.{Header}
 use Rattle.tuple_header.specs.Marks.{is_frozen}

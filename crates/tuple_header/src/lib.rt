@@ -1,10 +1,11 @@
 //! A version of a row: its header, its row, and their bytes.
 //!
-//! The bytes are a header of 24 and a row of 42 and its body, each number with its low byte first; `specs/Layout.antt`
+//! The bytes are a header of 24 and a row of 42 and its body, each number with its low byte first. `specs/Layout.antt`
 //! says which field stands where (the header is that of PostgreSQL's manual, Database Page Layout). The contract promises
-//! that [`decode`] reads a version exactly from the bytes that [`encode`] writes of it, and names for all other bytes the
-//! first fault in the order of `specs/Faults.antt`; [`reads_back`] is the law that each version is read from its own
-//! bytes. A [`Tuple`] always has a header without a fault. What the marks of a header say stands in `specs/Marks.antt`.
+//! two things of [`decode`]. It reads a version exactly from the bytes that [`encode`] writes of it. For all other bytes
+//! it names the first fault in the order of `specs/Faults.antt`. [`reads_back`] is the law that each version is read from
+//! its own bytes. A [`Tuple`] always has a header without a fault. What the marks of a header say stands in
+//! `specs/Marks.antt`.
 #![tactic(auto)]
 
 mod decoding;

@@ -2,8 +2,8 @@
 
 use crate::version::{COLUMNS, MOST_BODY};
 
-/// A place for a row that its caller keeps, as C has it: the row's key, its columns 0 to 3, and a body, of which the first
-/// `length` bytes count.
+/// A place for a row that its caller keeps, as C has it. It has the row's key, its columns 0 to 3, and a body, of which
+/// the first `length` bytes count.
 #[repr(C)]
 #[derive(Drop)]
 pub struct RowPlace {

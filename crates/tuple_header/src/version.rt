@@ -88,8 +88,8 @@ impl Header {
     /// The number of attributes of every row: its key, four columns and a body.
     pub const ATTRIBUTES: u16 = 6;
 
-    /// The header of a version that `xmin`, a normal id, has just made at the place `ctid`, whose slot is from 1 to 291:
-    /// nobody has deleted it, and no mark but `XMAX_INVALID` is set.
+    /// The header of a version that `xmin`, a normal id, has just made at the place `ctid`. The slot of `ctid` is from 1
+    /// to 291. Nobody has deleted the version, and no mark but `XMAX_INVALID` is set.
     pub fn new(xmin: Xid, ctid: Tid) -> Header
         requires normal { 3 ≤ xmin.0 }
         requires from { 1 ≤ ctid.slot }

@@ -2,8 +2,9 @@
 //!
 //! A [`Reader`] is a snapshot, ids of its owner's own, and the table of what became of ids. The contract promises that
 //! [`Reader::sees`] and [`fate`] answer exactly what `specs/Visible.antt` defines, which reads no hint, and that [`set_hints`]
-//! notes only what is true (`specs/Hints.antt`). The laws say that no reader from the horizon on sees a dead version, and that no
-//! verdict changes by hints, when an id is given, or when ids finish that the reader neither owns nor sees (`specs/Laws.antt`).
+//! notes only what is true (`specs/Hints.antt`). The laws (`specs/Laws.antt`) say that no reader from the horizon on sees a dead
+//! version. They also say that no verdict changes by hints, when an id is given, or when ids finish that the reader neither owns
+//! nor sees.
 //!
 //! Why it is built so: docs/DECISIONS.md, under its name.
 #![tactic(auto)]

@@ -1,5 +1,6 @@
--- The circle of transaction ids (PostgreSQL manual, Routine Vacuuming, "Preventing Transaction ID Wraparound Failures":
--- ids are compared modulo 2 ^ 32, so that of each normal id two billion others are older and two billion are newer).
+-- The circle of transaction ids (PostgreSQL manual, Routine Vacuuming, "Preventing Transaction ID Wraparound
+-- Failures"). There ids are compared modulo 2 ^ 32, so that of each normal id two billion others are older and two
+-- billion are newer.
 use Rattle.std.specs.Prelude.{ℕ, zero, suc, pos, ◌+◌, ◌-◌, ◌%◌, ◌^◌, ◌<◌, ◌≤◌, ◌<ℤ◌, ◌==◌, if◌then◌else◌, ◌↔◌}
 use Rattle.std.specs.Int.{w32, cast_signed}
 
@@ -24,8 +25,8 @@ abbrev pub given : ℕ → ℕ → ℕ
 given first zero = first
 given first (suc n) = next_of (given first n)
 
--- The law of the circle: of ids that are given after one id, less than once round and less than 2 ^ 31 away from it,
--- that precedes which was given first.
+-- The law of the circle is of ids that are given after one id, less than once round and less than 2 ^ 31 away from it.
+-- Of two of them that precedes which was given first.
 abbrev pub OrderIsThatOfGiving : Type 0
 OrderIsThatOfGiving = (first i j : ℕ) → IsNormal first → first < 2 ^ 32 → i < 2 ^ 32 - 3 → j < 2 ^ 32 - 3
     → distance_of first (given first i) < 2 ^ 31 → distance_of first (given first j) < 2 ^ 31

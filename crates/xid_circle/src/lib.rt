@@ -1,10 +1,10 @@
 //! Transaction ids and places in a table.
 //!
 //! A transaction id is a number of 32 bits. Ids are given one after another, and after the last number the next is 3
-//! again, so they stand on a circle and have no order as plain numbers (PostgreSQL manual, Routine Vacuuming, "Preventing
+//! again. So they stand on a circle and have no order as plain numbers (PostgreSQL manual, Routine Vacuuming, "Preventing
 //! Transaction ID Wraparound Failures"). The contract promises that [`precedes`], [`next`] and [`distance`] are what
-//! `specs/Circle.antt` defines, and by [`order_of_giving`] that within less than half of the circle the order of ids is
-//! that in which they were given. Whoever compares ids keeps those that are in use within such a window.
+//! `specs/Circle.antt` defines. By [`order_of_giving`] it promises that within less than half of the circle the order of
+//! ids is that in which they were given. Whoever compares ids keeps those that are in use within such a window.
 //!
 //! Why it is built so: docs/DECISIONS.md, under its name.
 #![tactic(auto)]
@@ -72,8 +72,8 @@ pub fn distance(from: Xid, to: Xid) -> u32
     to.0.wrapping_sub(from.0)
 }
 
-/// The law of the circle: of ids that are given after one id, less than once round and less than 2^31 away from it, that
-/// precedes which was given first. It does nothing; its contract is the law.
+/// The law of the circle is of ids that are given after one id, less than once round and less than 2^31 away from it. Of
+/// two of them that precedes which was given first. It does nothing; its contract is the law.
 pub fn order_of_giving()
     ensures { OrderIsThatOfGiving }
 {}
