@@ -1,5 +1,6 @@
--- Which page takes a new version. A byte for each page says roughly how much room there is, as in PostgreSQL's free space map
--- (src/backend/storage/freespace/README: one byte, in units of a 256th of a page). The order of choice is this project's.
+-- Which page takes a new version. A byte for each page says roughly how much room there is, as in PostgreSQL's free space
+-- map. (src/backend/storage/freespace/README: one byte, in units of a 256th of a page.) The order of choice is this
+-- project's.
 use Rattle.std.specs.Prelude.{◌≡◌, ℕ, ◌*◌, ◌/◌, ◌<◌, ◌≤◌, min, List, length, Option, Some, None, slice_get}
 use Rattle.page_slots.specs.View.{PageView}
 use Rattle.page_sheet.specs.Slots.{room_of}
@@ -32,8 +33,8 @@ abbrev pub FindsFirstPage : List PageView → (PageView → Type 0) → Option �
 FindsFirstPage pages P None = NoPage pages P
 FindsFirstPage pages P (Some n) = IsFirstPage pages P n
 
--- A version of this size goes to the first page whose byte promises the room; else to a new page, while fewer than limit are
--- in use; else to the first page whose exact room is enough; else nowhere.
+-- A version of this size goes to the first page whose byte promises the room. Else it goes to a new page, while fewer than
+-- limit are in use. Else it goes to the first page whose exact room is enough, else nowhere.
 pub data IsPlaceFor (pages : List PageView) (limit size : ℕ) (place : Placement) : Type 0 where
   by_byte : (n : ℕ) → IsFirstPage pages (Promises size) n → place ≡ Page n → IsPlaceFor pages limit size place
   on_new_page : NoPage pages (Promises size) → length pages < limit → place ≡ NewPage → IsPlaceFor pages limit size place

@@ -1,7 +1,7 @@
 //! The pages of a table, and which of them takes a new version.
 //!
-//! Callers see [`Pages`] as the list of its pages, with a count of how many more can be added without memory (`specs/View.antt`). A
-//! page is read by [`Pages::page`] and changed through [`Pages::edit`] or [`Pages::write`], which leave all others as they were and keep
+//! Callers see [`Pages`] as the list of its pages, with a count of how many more can be added without memory (`specs/View.antt`). A page
+//! is read by [`Pages::page`]. It is changed through [`Pages::edit`] or [`Pages::write`], which leave all others as they were. They keep
 //! the free space map: after every call each byte there is that of its page. Which page takes a new version is defined in
 //! `specs/Choice.antt`. Each page is in memory of its own, so none is copied where the table grows.
 //!

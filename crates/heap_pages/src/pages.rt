@@ -112,8 +112,8 @@ impl Pages {
         result
     }
 
-    /// Changes the page of this number as a session's write does: as [`Pages::edit`], but nothing is noted of it any more, in the
-    /// map and in the page's flag, before `change` is done. (The manual's "Visibility Map"; `visibilitymap_clear`.)
+    /// Changes the page of this number as a session's write does. It is as [`Pages::edit`], but nothing is noted of the page any
+    /// more, in the map and in the page's flag, before `change` is done. (The manual's "Visibility Map"; `visibilitymap_clear`.)
     pub fn write<R, F: FnOnce(&mut Page) -> R>(&mut self, number: u32, change: F) -> R
         requires within { number < length self.old.pages }
         requires ready { (page : PageView) → slice_get self.old.pages number ≡ Some page
@@ -190,7 +190,7 @@ impl Pages {
         self.marks.note(number, mark);
     }
 
-    /// The first page whose free-space byte promises room for a version of this size, if there is one; else a new page is
+    /// The first page whose free-space byte promises room for a version of this size, if there is one. Else a new page is
     /// needed, or a page whose exact room is enough. The size is in bytes, as [`tuple_header::row_size`] counts them. It
     /// looks at the free space map alone: at its 256 groups at most, and at the bytes of two. The map remembers where the
     /// look-up ended; nothing else changes. (The contract speaks of the pages, that of the map of its bytes.)
@@ -210,9 +210,10 @@ impl Pages {
         first_with_room(&self.pages, &self.free, size)
     }
 
-    /// Where a new version of this size goes, where at most `limit` pages may be in use: to the first page whose free-space
-    /// byte promises the room; else to a new page; else, where there may be none, to the first page in which it fits. The
-    /// size is in bytes, as [`tuple_header::row_size`] counts them. Nothing changes but what the map remembers.
+    /// Where a new version of this size goes, where at most `limit` pages may be in use. It goes to the first page whose
+    /// free-space byte promises the room, else to a new page. Else, where there may be no new page, it goes to the first
+    /// page in which it fits. The size is in bytes, as [`tuple_header::row_size`] counts them. Nothing changes but what the
+    /// map remembers.
     pub fn place_for(&mut self, size: usize, limit: u32) -> Placement
         ensures place { IsPlaceFor self.old.pages limit size result }
         ensures same { self.new ≡ self.old }

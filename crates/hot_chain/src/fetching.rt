@@ -20,8 +20,8 @@ fn version_at(page: &Page, number: u16) -> Option<Tuple>
     }
 }
 
-/// The slot of the first version of a slot's chain that the reader sees. It goes no further along the chain, and lists nothing:
-/// a walk that has made as many steps as the page has slots has met all of the chain, however its links go.
+/// The slot of the first version of a slot's chain that the reader sees. It goes no further along the chain, and lists nothing.
+/// A walk that has made as many steps as the page has slots has met all of the chain, however its links go.
 pub fn first_seen(page: &Page, number: u16, reader: &Reader<'_>) -> Option<u16>
     ensures { SeenAlong (has_aborted reader.now.statuses.now) (IsSeenBy reader.now)
         page.now.slots number result }

@@ -76,7 +76,7 @@ pub fn list_chain(
     }
 }
 
-/// The slots of the chain that a slot leads to, in order, on any page: a list of over half a kilobyte, which is handed on by
+/// The slots of the chain that a slot leads to, in order, on any page. This list of over half a kilobyte is handed on by
 /// value, where [`list_chain`] fills one that is there. It takes no memory.
 pub fn chain(page: &Page, number: u16, statuses: &StatusTable) -> ArrayVec<u16, MOST_SLOT_NUMBERS>
     ensures { IsChain (has_aborted statuses.now) page.now.slots number result.items }

@@ -19,8 +19,8 @@ pub struct RootHint {
     pub from: u16,
 }
 
-/// A hint, and what tells most keys apart, as one number: from its top 29 bits of the key, 16 of the page, 9 of the slot, and 10 of
-/// where the bytes begin, which is a multiple of 8. So eight stand in 64 bytes. Slots are counted from 1.
+/// A hint, and what tells most keys apart, as one number. From its top stand 29 bits of the key, 16 of the page, 9 of the slot, and
+/// 10 of where the bytes begin, which is a multiple of 8. So eight stand in 64 bytes. Slots are counted from 1.
 #[derive(Clone, Copy, Debug)]
 struct KeyPlace {
     bits: u64,

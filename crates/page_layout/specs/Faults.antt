@@ -15,8 +15,8 @@ use Rattle.page_layout.specs.Sound.{end_of}
 
 -- The header.
 
--- a field that never changes is wrong: there is no checksum, no flag but that all is visible, no special space, a size of 8192
--- with layout version 4, and no id to prune at
+-- A field that never changes is wrong. Where all are right, there is no checksum, no flag but that all is visible, no special
+-- space and no id to prune at. The size is then 8192 with layout version 4.
 abbrev pub has_wrong_header : List ℕ → Bool
 has_wrong_header bytes =
     not (number_at 8 2 bytes == 0)

@@ -2,9 +2,9 @@
 //!
 //! This crate knows bytes alone: the numbers of a page's header, its line pointers, and the bytes to which they lead. What a slot
 //! shows of them, and all that changes slots, is in `page_slots` above, which is also what callers use. `specs/Layout.antt` says
-//! where each part stands, `specs/Sound.antt` what the bytes of a page keep, `specs/Faults.antt` which fault of the header, of a
-//! pointer or of a version's bytes is named, and `specs/Raising.antt` how pointers follow versions that are moved up at once.
-//! `proofs/Frames.antt` says, for the crate above, what a write leaves of the other parts.
+//! where each part stands, `specs/Sound.antt` what the bytes of a page keep. `specs/Faults.antt` says which fault of the header,
+//! of a pointer or of a version's bytes is named. `specs/Raising.antt` says how pointers follow versions that are moved up at
+//! once. `proofs/Frames.antt` says, for the crate above, what a write leaves of the other parts.
 //!
 //! Why it is built so: docs/DECISIONS.md, under its name.
 #![tactic(auto)]

@@ -21,8 +21,8 @@ pub record LiesOver (bytes : List ℕ) (upper : ℕ) (e : Extent) : Type 0 where
   pub within : end_of e ≤ PAGE_BYTES
   pub faultless : first_fault (part_of bytes e) ≡ None
 
--- the versions of the first so many slots lie one behind the other: that of the first slot ends where the page does, each other
--- where that of a lower slot begins
+-- The versions of the first so many slots lie one behind the other. That of the first slot ends where the page does, each other
+-- where that of a lower slot begins.
 abbrev pub LieInOrder : List ℕ → List Slot → Count → Type 0
 LieInOrder bytes slots count =
     (i : ℕ) (e : Extent) → i < count → pointer_in bytes i ≡ Pointer.Normal e → e.from + sum_by bytes_taken (take (i + 1) slots) ≡ PAGE_BYTES

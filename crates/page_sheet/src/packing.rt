@@ -164,7 +164,7 @@ fn is_last_lowest(bytes: &[u8], count: usize) -> bool
     }
 }
 
-/// Moves the versions together where one hole alone is in the way: those before an index are in their places, down to `upper`, and
+/// Moves the versions together where one hole alone is in the way. Those before an index are in their places, down to `upper`, and
 /// the others lie one behind the other. It answers how far down they reach then; or nothing, and then it has changed nothing.
 fn close_hole(bytes: &mut [u8], count: usize, first: usize, upper: usize) -> Option<usize>
     requires sound { IsSound bytes.old count }

@@ -414,8 +414,8 @@ impl Sheet {
         }
     }
 
-    /// The index of the first slot, from this one on, that holds anything but a version of this inserter which nobody deleted; or
-    /// the number of slots, where there is none.
+    /// The index of the first slot, from this one on, that holds anything but a version of this inserter which nobody deleted.
+    /// Where there is none, it is the number of slots.
     #[tactic(auto, using(crate::proofs::Sounds::length_is))]
     pub fn next_unlike(&self, from: usize, inserter: Xid) -> usize
         ensures passed { (i : ℕ) → from ≤ i → i < result

@@ -284,7 +284,7 @@ impl Page {
     }
 
     /// The number of the first slot, from the number `from` on, that holds anything but a version of this inserter which nobody
-    /// deleted; or one more than the last slot's, where there is none. From 0 on is from 1 on.
+    /// deleted. Where there is none, it is one more than the last slot's. From 0 on is from 1 on.
     #[tactic(auto, using(page_sheet::proofs::Sounds::length_is))]
     pub fn next_unlike(&self, from: u16, inserter: Xid) -> u16
         ensures passed { (n : ℕ) → from ≤ n → 1 ≤ n → n < result
@@ -298,8 +298,8 @@ impl Page {
             + 1
     }
 
-    /// The number of the last slot, up to the number `upto`, which is not over the last slot's, that holds anything but a version
-    /// of this inserter which nobody deleted; or 0, where there is none.
+    /// The number of the last slot, up to the number `upto`, that holds anything but a version of this inserter which nobody
+    /// deleted. It is 0 where there is none. The number `upto` is not over the last slot's.
     #[inline(always)]
     #[tactic(auto, using(page_sheet::proofs::Sounds::length_is))]
     pub fn last_unlike(&self, upto: u16, inserter: Xid) -> u16
@@ -341,8 +341,8 @@ impl Page {
         MOST_BYTES - (4 * self.sheet.len() + self.taken_bytes)
     }
 
-    /// The largest size of a version that fits, in bytes, as if versions were moved together: of 8168 bytes what neither
-    /// versions nor pointers of 4 bytes take, less 4 for a new slot where none is unused.
+    /// The largest size of a version that fits, in bytes, as if versions were moved together. It is what neither
+    /// versions nor pointers of 4 bytes take of 8168 bytes, less 4 for a new slot where none is unused.
     #[tactic(auto, using(page_sheet::proofs::SlotLemmas::first_within, page_sheet::proofs::Sounds::length_is))]
     pub fn room(&self) -> usize
         ensures value { result ≡ room_of self.now.slots }
@@ -383,9 +383,10 @@ impl Page {
         Ok(self.add_row(version.header, &version.row))
     }
 
-    /// Adds a version with this header of this row, which it copies nowhere but into its place: in the lowest unused slot, or else
-    /// in a new last one, and answers the slot's number. The header has no fault, and the version's size is not over the room.
-    /// It goes right below the others, which are moved together first where the gap is too small. It takes no memory.
+    /// Adds a version with this header of this row, which it copies nowhere but into its place. The version goes in the lowest
+    /// unused slot, or else in a new last one, and the slot's number is the answer. The header has no fault, and the version's
+    /// size is not over the room. It goes right below the others, which are moved together first where the gap is too small. It
+    /// takes no memory.
     pub fn add_row(&mut self, header: Header, row: &Row) -> u16
         requires faultless { header_fault header ≡ None }
         requires room { rounded_size_of row.now ≤ room_of self.old.slots }

@@ -18,8 +18,8 @@ use Rattle.prune.specs.Pruning.{root_action, orphan_action, IsInChainOf, IsLoose
 abbrev pub IsCutIn : Window → ℕ → List Slot → List ℕ → ℕ → Type 0
 IsCutIn w horizon slots chain i = (j : ℕ) × (i ≤ j) × (j < length chain) × IsDeadAt w horizon slots (slice_index chain j)
 
--- What a plan does to a root and its chain: the slots named are its first so many, pruning would cut them too, and they become
--- what goes with the first that is kept. Where there are none, the root isn't named.
+-- What a plan does to a root and its chain. The slots named are the chain's first so many, pruning would cut them too, and
+-- they become what goes with the first that is kept. Where there are none, the root isn't named.
 pub record IsPrefix (w : Window) (horizon : Id) (slots : List Slot) (named : SlotNo → Option Action) (root : SlotNo) (chain : List SlotNo) (prefix : Count) : Type 0 where
   pub within : prefix ≤ length chain
   pub removed : (i : ℕ) → i < length chain → IsSome (named (slice_index chain i)) ↔ (i < prefix)

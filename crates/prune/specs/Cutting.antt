@@ -1,5 +1,5 @@
 -- What pruning cuts: of a chain the prefix, up to and with the last dead version. (README.HOT, "Pruning"; the manual's
--- "Heap-Only Tuples": what no transaction can see any more may be taken from the prefix of a chain, since a reader who sees
+-- "Heap-Only Tuples". What no transaction can see any more may be taken from the prefix of a chain, since a reader who sees
 -- a version deleted goes on to the next.)
 use Rattle.std.specs.Prelude.{◌≡◌, ℕ, ◌-◌, ◌<◌, ◌≤◌, ◌⊎◌, List, length, Some, slice_index}
 use Rattle.page_sheet.specs.declared.slot.Slot.{Slot}

@@ -36,7 +36,7 @@ abbrev pub second_of : (start : SlotNo) → (next : Option SlotNo) → Option Sl
 second_of start None = None
 second_of start (Some next) = if next == start then None else Some next
 
--- What is done, in order of slots, where the first version of a root's chain goes alone: the root becomes what this action makes of it,
+-- What is done, in order of slots, where the first version of a root's chain goes alone. The root becomes what this action makes of it,
 -- and the version's slot unused, unless it is the root.
 abbrev pub first_cut : (root start : ℕ) → Action → List (ℕ × Action)
 first_cut root start a =

@@ -1,5 +1,5 @@
 -- What pruning does to the slots of a page. (README.HOT, "Pruning": the root of a chain whose prefix is cut leads on to the
--- first version that is kept, or is dead where none is; a heap-only version that is cut has no index entry, so its slot is
+-- first version that is kept, or is dead where none is. A heap-only version that is cut has no index entry, so its slot is
 -- free at once. An aborted heap-only version that no chain reaches has no entry either.)
 use Rattle.std.specs.Prelude.{◌≡◌, ◌⊎◌, ℕ, zero, suc, ◌==◌, ◌&&◌, not, Bool, true, false, nat_eq, List, length, take, Option, Some, None, slice_get, if◌then◌else◌, Contains}
 use Rattle.std.specs.List.{list_any}

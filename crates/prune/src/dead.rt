@@ -115,8 +115,8 @@ fn outlook_after(
     }
 }
 
-/// Which slot is to be looked at after this one. Where its version has the inserter of one before, its neighbours may have it too:
-/// such a version, if nobody deleted it, is neither dead nor replaced, so a run of them is passed over.
+/// Which slot is to be looked at after this one. Where its version has the inserter of one before, its neighbours may have it too.
+/// Such a version, if nobody deleted it, is neither dead nor replaced, so a run of them is passed over.
 #[inline(always)]
 fn number_after(page: &Page, number: u16, before: Xid, known: Xid) -> u16
     requires there { SlotIsThere page.now.slots number }

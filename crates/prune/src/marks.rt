@@ -1,5 +1,5 @@
-//! Marks that say what pruning makes of each slot, in a fixed array: by one walk along the chain of each root that may lose a
-//! version, except where a header tells that the chain is of one version.
+//! Marks that say what pruning makes of each slot, in a fixed array. They are made by one walk along the chain of each root
+//! that may lose a version, except where a header tells that the chain is of one version.
 
 ghost use Rattle.std.specs.Prelude.{◌≡◌, ◌≤◌, ◌<◌, ◌+◌, ℕ, None, Some, IfSome, Bool, [], ◌∷◌, length, nat_eq, slice_get, if◌then◌else◌};
 ghost use Rattle.std.specs.List.{list_any};

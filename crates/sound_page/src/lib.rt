@@ -1,9 +1,9 @@
 //! A sound page: what every operation on a page keeps, and what readers find on it.
 //!
-//! `specs/Links.antt` says where a chain goes on from a slot, `specs/Sound.antt` which slots are in a root's chain, which
-//! pages are sound, and what of their chains a change keeps; `specs/Dead.antt` which slots hold a dead version, and
-//! `specs/Readers.antt` what a reader finds in a slot. Each operation on a page (`prune`, `freeze`, `tuple_writes`) is said
-//! to keep these. The lemmas that they share about the chains of any page are in `proofs/`; the laws are contracts of
+//! `specs/Links.antt` says where a chain goes on from a slot. `specs/Sound.antt` says which slots are in a root's chain,
+//! which pages are sound, and what of their chains a change keeps. `specs/Dead.antt` says which slots hold a dead version,
+//! and `specs/Readers.antt` what a reader finds in a slot. Each operation on a page (`prune`, `freeze`, `tuple_writes`) is
+//! said to keep these. The lemmas that they share about the chains of any page are in `proofs/`; the laws are contracts of
 //! functions that do nothing.
 #![tactic(auto)]
 

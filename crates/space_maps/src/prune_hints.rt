@@ -167,8 +167,8 @@ impl PruneHints {
         self.put(number, hint);
     }
 
-    /// Notes that a version in this slot of a page may be dead from this turn on: what is known of the page is lowered to it, where that
-    /// is earlier. Where nothing is known, nothing is after it.
+    /// Notes that a version in this slot of a page may be dead from this turn on. What is known of the page is lowered to this turn,
+    /// where that is earlier. Where nothing is known, nothing is after it.
     pub fn lower(&mut self, number: u32, turn: u32, slot: u16)
         ensures here { Lowers (hint_on self.old.pages number) turn slot
             (hint_on self.new.pages number) }

@@ -46,8 +46,8 @@ pub fn replace_header(header: &Header, x: Xid, place: Tid, hot: bool) -> Header
     }
 }
 
-/// The header of a version that `x`, a normal id, has just made at `place`, a slot from 1 to 291, as a root: `updated`
-/// says whether by an update, which was not HOT, or by an insert.
+/// The header of a version that `x`, a normal id, has just made at `place`, a slot from 1 to 291, as a root. `updated`
+/// says whether it was made by an update, which was not HOT, or by an insert.
 pub fn root(updated: bool, x: Xid, place: Tid) -> Header
     requires normal { IsNormal x.0 }
     requires from { 1 ≤ place.slot }

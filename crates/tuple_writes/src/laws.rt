@@ -8,8 +8,8 @@ pub fn adding_keeps_sound()
     ensures { AddingKeepsSound }
 {}
 
-/// A sound page stays sound when an id in progress deletes a version or replaces it by one elsewhere, if its inserter isn't
-/// aborted and it has no deleter or an aborted one. Only its slot changes, and each chain has what it had.
+/// A sound page stays sound when an id in progress deletes a version or replaces it by one elsewhere. The version must have
+/// an inserter that isn't aborted, and no deleter or an aborted one. Only its slot changes, and each chain has what it had.
 pub fn setting_xmax_keeps_sound()
     ensures { SettingXmaxKeepsSound }
 {}

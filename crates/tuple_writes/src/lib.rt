@@ -5,8 +5,8 @@
 //! `specs/Writes.antt` say exactly what each leaves, and the functions promise that. None takes memory: the caller has
 //! tested the room.
 //!
-//! The laws say that a sound page, as pruning asks for, stays sound, and index entries stay right, under each write by an
-//! id in progress, and when ids are given or finish (`specs/Laws.antt`).
+//! The laws say that a sound page, as pruning asks for, stays sound, and that index entries stay right. Both hold under
+//! each write by an id in progress, and when ids are given or finish (`specs/Laws.antt`).
 //!
 //! Why it is built so: docs/DECISIONS.md, under its name.
 #![tactic(auto)]

@@ -12,9 +12,10 @@ use page_slots::Page;
 use tuple_header::Row;
 use xid_circle::{Tid, Xid};
 
-/// Adds a version of the row, made by `x`, a normal id, as a root in the lowest unused slot, else in a new last one, and
-/// answers the slot's number. It is marked as made by an update, if it is, or else by an insert. The page has the number
-/// given, and room for the row. (PostgreSQL, `heap_insert` and `heap_update` in src/backend/access/heap/heapam.c.)
+/// Adds a version of the row, made by `x`, a normal id, as a root, and answers its slot's number. It goes in the lowest
+/// unused slot, else in a new last one. It is marked as made by an update, if it is, or else by an insert. The page has
+/// the number given, and room for the row. (PostgreSQL, `heap_insert` and `heap_update` in
+/// src/backend/access/heap/heapam.c.)
 pub fn add_root(page: &mut Page, number_of_page: u32, updated: bool, x: Xid, row: &Row) -> u16
     requires normal { IsNormal x.0 }
     requires room { rounded_size_of row.now ≤ room_of page.old.slots }
@@ -76,8 +77,8 @@ pub fn mark_cold_updated(page: &mut Page, slot: u16, x: Xid, place: Tid)
     set_xmax(page, slot, x, place, false);
 }
 
-/// Updates the version in a slot by one of this row on the same page, as `x`, a normal id, and answers the new one's slot:
-/// the old one is HOT-updated, the new one heap-only. The page has the number given, and room for the row. (README.HOT: such an
+/// Updates the version in a slot by one of this row on the same page, as `x`, a normal id, and answers the new one's slot. The
+/// old one is HOT-updated, the new one heap-only. The page has the number given, and room for the row. (README.HOT: such an
 /// update makes no index entry.)
 pub fn hot_update(page: &mut Page, number_of_page: u32, slot: u16, x: Xid, row: &Row) -> u16
     requires version { IsNormalAt page.old.slots slot }
