@@ -27,8 +27,8 @@ fn place_before(after: SandpiperPlace) -> Option<Tid>
     })
 }
 
-/// The place to which the next entry of the key leads, by the index by key: the first after the entry that leads to a place, or the first of
-/// all where its slot is 0 ([`session_core::Engine::next_entry`]).
+/// The place to which the next entry of the key leads, in the order of the index by key. The next entry is the first after the entry
+/// that leads to a place, or the first of all where the place's slot is 0 ([`session_core::Engine::next_entry`]).
 pub fn next_entry(engine: &Engine, key: u64, after: SandpiperPlace) -> Option<SandpiperPlace>
     ensures { IsEntryAfter engine.now.engine.core key after result }
 {

@@ -1,8 +1,8 @@
 //! What C reads of an engine, and writes for it: structs, the numbers in them, and what goes into a buffer.
 //!
-//! Each function asks one look of [`session_core::Engine`] and says the answer again in a struct that C can read, with no memory of its own.
-//! `specs/` say which struct that is. The exports of `sandpiper_c` write it to the caller's place. The bytes of a page and the picture of a
-//! table go into a buffer of the caller's; where that is too small, it is left as it was, and the status says so.
+//! Each function asks one look of [`session_core::Engine`] and says the answer again in a struct that C can read, with no memory of its
+//! own. `specs/` say which struct that is. The exports of `sandpiper_c` write it to the caller's place. The bytes of a page and the picture
+//! of a table go into a buffer of the caller's. Where that is too small, it is left as it was, and the status says so.
 //!
 //! Why it is built so: docs/DECISIONS.md, under its name.
 #![tactic(auto)]

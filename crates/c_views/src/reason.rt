@@ -143,8 +143,8 @@ fn of_shown(version: ShownVersion) -> SandpiperShown
     }
 }
 
-/// The version at a place of the chain to which an entry leads, counted from 0, if the chain is so long, and why a statement of the session,
-/// begun now, sees it, or does not ([`session_core::Engine::explain`]).
+/// The version at a place of the chain to which an entry leads, counted from 0, if the chain is so long. The answer also says why a
+/// statement of the session, begun now, sees it, or does not ([`session_core::Engine::explain`]).
 pub fn explanation(
     engine: &Engine,
     session: u8,

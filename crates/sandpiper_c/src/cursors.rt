@@ -33,7 +33,7 @@ pub extern "C" fn sandpiper_open_by_key(
     do_step(alloc, table, step)
 }
 
-/// Opens a cursor over the rows that the session reads whose value in an index lies within two bounds, both included: index 0 is
+/// Opens a cursor over the rows that the session reads whose value in an index lies within two bounds, both included. Index 0 is
 /// by key, and index `c + 1` by column `c`.
 #[unsafe(no_mangle)]
 pub extern "C" fn sandpiper_open_index(
@@ -100,8 +100,8 @@ fn held_next(held: &mut Held, session: u8, rows: &mut [RowPlace], count: &mut us
 }
 
 /// Writes the next rows of the session's cursor to the first places of C's own, and their number to `count`. A cursor by an index
-/// hands out as many as there are places, or all that are left; one over the heap those of the next page that has any, from where
-/// it is, up to so many. Of a cursor over keys the key of each place alone is written.
+/// hands out as many as there are places, or all that are left. One over the heap hands out those of the next page that has any,
+/// from where it is, up to so many. Of a cursor over keys the key of each place alone is written.
 #[unsafe(no_mangle)]
 pub extern "C" fn sandpiper_next(
     alloc: Global,

@@ -38,8 +38,8 @@ fn tell_or_refuse<T: Copy>(answer: Result<Option<T>, Refusal>, place: &mut T) ->
     }
 }
 
-/// Writes to `place` where the next entry of the key leads: the first after the one that leads to the place that is there, or the first of all
-/// where the slot is 0.
+/// Writes to `place` where the next entry of the key leads. The next entry is the first after the entry that leads to the place that is
+/// there, or the first of all where the slot is 0.
 #[unsafe(no_mangle)]
 pub extern "C" fn sandpiper_next_entry(
     alloc: Global,
@@ -77,8 +77,8 @@ fn explain(
     tell_or_refuse(explanation(engine, session, entry, n), shown)
 }
 
-/// Writes to `shown` the version at a place of the chain to which an entry leads, counted from 0, if the chain is so long, and why a
-/// statement of the session, begun now, sees it, or does not.
+/// Writes to `shown` the version at a place of the chain to which an entry leads, counted from 0, if the chain is so long. What is
+/// written also says why a statement of the session, begun now, sees it, or does not.
 #[unsafe(no_mangle)]
 pub extern "C" fn sandpiper_explain(
     alloc: Global,

@@ -8,8 +8,8 @@ use c_handles::{CallStatus, Sandpiper};
 use c_views::show_picture;
 use std::alloc::Global;
 
-/// Writes the picture of the pages of these numbers, counted from 0, or of all pages where there is none, to the first of C's own bytes, if
-/// they are enough, and to `length` how many it has.
+/// Writes the picture of the pages of these numbers, counted from 0, to the first of C's own bytes, if they are enough. Where there is no
+/// number, it is of all pages. To `length` it writes how many bytes the picture has.
 #[unsafe(no_mangle)]
 pub extern "C" fn sandpiper_draw(
     alloc: Global,

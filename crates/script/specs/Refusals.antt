@@ -3,8 +3,8 @@ use Rattle.std.specs.Prelude.{◌≡◌, ◌+◌, ◌≤◌, ℕ, ◌⊎◌, Boo
 use Rattle.script.specs.declared.fault.ShellFault.{ShellFault}
 use Rattle.script.specs.declared.fault.ShellFault.TheVariants.{BadLine, BadPage, Input, Output, NoMemory, TooManyLines}
 
--- what is known of a log: whether the last read and the last write were refused, how many calls in a row, up to the last, were
--- interrupted, and whether a growth was refused
+-- What is known of a log. That is whether the last read and the last write were refused, and how many calls in a row, up to
+-- the last, were interrupted. It is also whether a growth was refused.
 pub record Refusals : Type 0 where
   pub input : Bool
   pub output : Bool

@@ -21,9 +21,8 @@ use Rattle.script.specs.declared.fault.ShellFault.{ShellFault}
 use Rattle.script.specs.declared.fault.ShellFault.TheVariants.{BadLine, BadPage, TooManyLines}
 use Rattle.script_text.specs.declared.line.TheConstants.{MOST_LINE_BYTES}
 
--- A line that was read and answered: a step with its reply; steps that finish a vacuum, with what
--- each but the last did and the last's reply; or a look at the ids, a page or an index with what it
--- showed.
+-- A line that was read and answered. Either it is a step with its reply. Or it is steps that finish a vacuum, with what
+-- each but the last did and the last's reply. Or it is a look at the ids, a page or an index with what it showed.
 pub data Event : Type 0 where
   did : Step → Reply → Event
   finished : List Piece → Reply → Event
@@ -89,8 +88,8 @@ abbrev pub EndsVacuum : List Piece → Reply → Type 0
 EndsVacuum pieces last = (length pieces < 18446744073709551615)
     × ((piece : Piece) → last ≡ reply.Worked piece → length pieces + 1 ≡ 18446744073709551615)
 
--- a step leads the engine on, as the history allows, and in what that leaves open exactly, and so
--- does each step that finishes a vacuum; a look shows what is there
+-- A step leads the engine on, as the history allows, and in what that leaves open exactly. So does each step that
+-- finishes a vacuum. A look shows what is there.
 abbrev pub Moves : WaitingView → Event → WaitingView → Type 0
 Moves old (did step reply) new = WaitingFollows old step reply new × WaitingExact old step reply new
 Moves old (finished pieces last) new =

@@ -69,8 +69,9 @@ pub record IsBadWorkerLine (rest : List ℕ) : Type 0 where
   pub bad : (line : WorkerStep) (more : List ℕ) → IsWorkerAllowed line → rest ≡ with_feed (worker_text line) ++ more → ⊥
 
 -- What the result of a script for threads says of its input and of what was written. Without a fault all lines were read, the workers
--- did them, and the journal was written. After bad line n nothing was, and it is the first that isn't allowed; nor was where the
--- numbers of lines ran out; no page is read, so none is bad; after another fault nothing was written, or a beginning of a journal.
+-- did them, and the journal was written. After bad line n nothing was written, and it is the first that isn't allowed. Where the
+-- numbers of lines ran out, nothing was written either. No page is read, so none is bad. After another fault nothing was written, or
+-- a beginning of a journal.
 abbrev pub ThreadsOutcome : Result (Unit {0}) ShellFault → List ℕ → Option (List ℕ) → Option (List ℕ) → Type 0
 ThreadsOutcome (Ok u) input before after = (settings : Settings) × (lines : List WorkerStep) × (journal : List (Step × Reply))
     × AreThreadsLines settings lines × (input ≡ threads_script settings lines) × AreDone settings lines journal × Appends before after (journal_text journal)

@@ -31,8 +31,8 @@ pub enum ShellFault {
 }
 
 impl ShellFault {
-    /// The status that the program ends with: 1 after a bad line or a bad page, 2 after a fault of the reader or the writer, 3 for want of
-    /// memory or of numbers.
+    /// The status that the program ends with. It is 1 after a bad line or a bad page, 2 after a fault of the reader or the writer, and 3
+    /// for want of memory or of numbers.
     pub fn status(&self) -> u8
         ensures { result ≡ exit_status_of self.now }
     {

@@ -24,11 +24,11 @@ use std::sync::Wait;
 use std::thread::Threads;
 
 /// Notes whether the last read, the last write, and any growth were refused. The shell calls its reader and its writer and makes
-/// its engine through this alone, and hands it each growth that was refused, so that a fault can be told from one that it made up.
-/// Nothing else marks it, it can't be copied, and it takes calls of one type of reader and one of writer, so that no other reader
-/// or writer marks it.
+/// its engine through this alone, and hands it each growth that was refused. So a fault can be told from one that the shell made
+/// up. Nothing else marks it, it can't be copied, and it takes calls of one type of reader and one of writer, so that no other
+/// reader or writer marks it.
 ///
-/// A call that was interrupted refused nothing and is made again, as long as fewer than 2^64 - 1 in a row were interrupted: no
+/// A call that was interrupted refused nothing and is made again, as long as fewer than 2^64 - 1 in a row were interrupted. No
 /// function may try for ever.
 #[derive(Drop)]
 pub struct IoLog<R, W> {

@@ -10,8 +10,8 @@ use Rattle.vacuum_passes.specs.View.{disturbed}
 use Rattle.session_core.specs.State.{WaitingView}
 use Rattle.session_core.specs.Clauses.{WaitingFollows}
 
--- It is answered as a step that asks for as many rows as there are places, by a reply that the history allows; and a running vacuum is
--- disturbed by it, and its session's own wait ends, as by a session's step.
+-- It is answered as a step that asks for as many rows as there are places. The reply is one that the history allows. A running vacuum
+-- is disturbed by it, and its session's own wait ends, as by a session's step.
 pub record EngineNextRows (old : WaitingView) (s : ℕ) (places : List RowPlace) (answer : Result ℕ Refusal) (after : List RowPlace) (new : WaitingView) : Type 0 where
   pub reply : Reply
   pub written : WritesReply reply places answer after

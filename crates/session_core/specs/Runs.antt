@@ -29,8 +29,8 @@ pub record Ran (settings : Settings) (steps : List Step) (replies : List Reply) 
   pub leads : RepliesLead first steps replies last
   pub agrees : WaitingAgrees last (after (beginning settings.indexed) steps replies)
 
--- What had to grow, where memory was refused when there was an engine: the list of the replies, before the first step, or the copy
--- of a step with a body, when those before it were done.
+-- What had to grow, where memory was refused when there was an engine. Either it is the list of the replies, before the first
+-- step. Or it is the copy of a step with a body, when those before it were done.
 pub data WantsMemory (old : WaitingView) (steps : List Step) (new : WaitingView) : Type 0 where
   for_replies : 0 < length steps → old ≡ new → WantsMemory old steps new
   for_copy : (done more : List Step) (step : Step) (replies : List Reply) → steps ≡ done ++ step ∷ more → RepliesLead old done replies new → HasBody step → WantsMemory old steps new

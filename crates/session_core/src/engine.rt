@@ -195,7 +195,7 @@ impl Engine {
 
     /// Writes the next rows of the session's cursor to the first places, and answers how many there are: none exactly where nothing
     /// is left. It is answered as `Step::Next` of as many rows as there are places. But of the heap it hands out up to so many rows
-    /// of the next page, and the next call hands out what that page has left over; and it takes no memory. Places behind the rows,
+    /// of the next page, and the next call hands out what that page has left over. And it takes no memory. Places behind the rows,
     /// and the bytes behind each body, stay as they were. Of a cursor over keys the key alone is written, and all else in its place
     /// stays. Refusals in order: NoSuchSession, NotOpen, Failed, NoCursor.
     pub fn next_rows(&mut self, s: u8, places: &mut [RowPlace]) -> Result<usize, Refusal>
@@ -240,8 +240,8 @@ impl Engine {
         self.core.page(number)
     }
 
-    /// The index of this number, if there is one: index 0 is the primary index, by key, and index `c + 1` is that of
-    /// column `c`, where the settings ask for it or since it was made.
+    /// The index of this number, if there is one. Index 0 is the primary index, by key. Index `c + 1` is that of column
+    /// `c`, where the settings ask for it or since it was made.
     pub fn index(&self, number: u8) -> Option<&RootIndex>
         ensures { option_copied result ≡ engine_index self.now.engine.core number }
     {

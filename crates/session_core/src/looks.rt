@@ -22,16 +22,17 @@ use vacuum_passes::Vacuum;
 use xid_circle::{Tid, Xid};
 
 impl Engine {
-    /// The place to which the next entry of the key leads, in the order of the index by key: the first after the entry that leads
-    /// to a place, still there or not, or the first of all.
+    /// The place to which the next entry of the key leads, in the order of the index by key. The next entry is the first after
+    /// the entry that leads to a place, still there or not, or the first of all.
     pub fn next_entry(&self, key: u64, after: Option<Tid>) -> Option<Tid>
         ensures { IsNextEntry self.now.engine.core key after result }
     {
         session_looks::next_entry(&self.core, key, after)
     }
 
-    /// The version at a place of the chain to which an entry leads, counted from 0, if the chain is so long, and why a statement of the
-    /// session, begun now, sees it, or does not. A session that has failed is told too. Refusals in order: NoSuchSession, NotOpen.
+    /// The version at a place of the chain to which an entry leads, counted from 0, if the chain is so long. The answer also says why a
+    /// statement of the session, begun now, sees it, or does not. A session that has failed is told too. Refusals in order:
+    /// NoSuchSession, NotOpen.
     pub fn explain(&self, s: u8, place: Tid, n: usize) -> Result<Option<ShownVersion>, Refusal>
         ensures { MatchResult result
             (λ shown. (e : Session) × (session_at self.now.engine.core s ≡ Some e)

@@ -46,8 +46,8 @@ impl Engine {
 
 /// Runs the steps on a new engine of these settings. The replies are a run of the history from its beginning; so the first
 /// committer wins, and no two open sessions have written one key. They are those that [`Engine::step`] gives, one after another.
-/// The fault is the first setting that is out of its range, or NoMemory, where all are in theirs: for the engine, for the list of
-/// the replies, or for the copy of a step with a body.
+/// The fault is the first setting that is out of its range, or NoMemory, where all are in theirs. The memory that was refused is
+/// for the engine, for the list of the replies, or for the copy of a step with a body.
 pub fn run(alloc: Global, settings: Settings, steps: &[Step]) -> Result<Vec<Reply>, RunFault>
     ensures run { IfOk result
         (λ replies. IsRun (beginning settings.indexed) steps.now replies.items) }

@@ -26,7 +26,8 @@ use Rattle.session_steps.specs.Exact.{Cleans}
 abbrev pub IsNextEntry : State → Key → Option Tid → Option Tid → Type 0
 IsNextEntry st key after answer = IsNextPlace (entries_in st.heap.indexes 0) key after answer
 
--- the version at this place of the chain to which an entry leads, if the chain is so long, and why a statement of the session, begun now, sees it, or does not
+-- The version at this place of the chain to which an entry leads, if the chain is so long. The answer also says why a statement of the
+-- session, begun now, sees it, or does not.
 abbrev pub IsExplained : State → Session → Tid → Count → Option ShownVersion → Type 0
 IsExplained st e place n answer =
     IsShownAlong st.heap.statuses (statement_snapshot st.heap.statuses e.isolation) e.own.ids (slots_on (slots_of st.heap) place.page) place.slot n answer
@@ -49,7 +50,7 @@ vantage_of st e = record {
 }
 
 -- Whatever world the engine agrees with: of all that an explanation of a key shows an open session, exactly one version is seen, with
--- the row of its view; or none, where the view has none.
+-- the row of its view. Or none is seen, where the view has none.
 abbrev pub ExplanationsShowTheView : Type 0
 ExplanationsShowTheView = (st : State) (w : World) → Agrees st w → (s : ℕ) (e : Session) (m : OpenSession) → session_at st s ≡ Some e → w.session s ≡ Some m
     → (key : ℕ) → ShowsOnly (vantage_of st e) key (view w.history m key)

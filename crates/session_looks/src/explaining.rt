@@ -16,8 +16,8 @@ use session_steps::{Session, SessionEngine};
 use slot_fates::SlotFate;
 use xid_circle::Tid;
 
-/// The place to which the next entry of the key leads, in the order of the index by key: the first after the entry that leads to a
-/// place, still there or not, or the first of all.
+/// The place to which the next entry of the key leads, in the order of the index by key. The next entry is the first after the
+/// entry that leads to a place, still there or not, or the first of all.
 pub fn next_entry(engine: &SessionEngine, key: u64, after: Option<Tid>) -> Option<Tid>
     ensures { IsNextEntry engine.now key after result }
 {
@@ -27,8 +27,8 @@ pub fn next_entry(engine: &SessionEngine, key: u64, after: Option<Tid>) -> Optio
     }
 }
 
-/// The version at a place of the chain to which an entry leads on this page, counted from 0, if the chain is so long, and why a
-/// statement of an open session, begun now, sees it, or does not.
+/// The version at a place of the chain to which an entry leads on this page, counted from 0, if the chain is so long. The
+/// answer also says why a statement of an open session, begun now, sees it, or does not.
 fn explain_on(
     engine: &SessionEngine,
     session: &Session,
@@ -59,8 +59,9 @@ fn explain_to(
     }
 }
 
-/// The version at a place of the chain to which an entry leads, counted from 0, if the chain is so long, and why a statement of the
-/// session, begun now, sees it, or does not. A session that has failed is told too. Refusals in order: NoSuchSession, NotOpen.
+/// The version at a place of the chain to which an entry leads, counted from 0, if the chain is so long. The answer also says why a
+/// statement of the session, begun now, sees it, or does not. A session that has failed is told too. Refusals in order:
+/// NoSuchSession, NotOpen.
 pub fn explain(
     engine: &SessionEngine,
     s: u8,

@@ -96,8 +96,8 @@ pub record Agrees (st : State) (w : World) : Type 0 where
 abbrev pub KeepsAllTargets : State → State → Type 0
 KeepsAllTargets old new = (n : ℕ) → KeepsTargets (slots_of old.heap) (slots_of new.heap) (entries_in old.heap.indexes n) (entries_in new.heap.indexes n)
 
--- whatever world the engine agreed with, the history allows the reply, and the engine agrees with the next world; and no index
--- entry leads to a slot that was given to another row
+-- Whatever world the engine agreed with, the history allows the reply, and the engine agrees with the next world. No index
+-- entry leads to a slot that was given to another row.
 abbrev pub Follows : State → Step → Reply → State → Type 0
 Follows old step reply new = (w : World) → Agrees old w → Allows w step reply × Agrees new (next w step reply) × KeepsAllTargets old new
 

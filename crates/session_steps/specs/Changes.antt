@@ -39,7 +39,7 @@ pub record SavepointsBecome (old new : State) (s : ℕ) (saved_of : Own → List
   pub ids : own.ids ≡ session.own.ids
   pub saved : own.saved ≡ saved_of session.own
 
--- An open session returns to its newest savepoint: it has the ids that it had there, keeps its savepoints, and has not failed; the ids that
+-- An open session returns to its newest savepoint. It has the ids that it had there, keeps its savepoints, and has not failed. The ids that
 -- it was given since are aborted. Nothing else changes.
 pub record RollsBack (old new : State) (s : ℕ) : Type 0 where
   pub session : Session

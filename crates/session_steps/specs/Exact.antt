@@ -1,5 +1,5 @@
--- What the history leaves to an engine: what a write does to its own ids and pages, when it finds no id, no room or no memory,
--- and what a refusal leaves as it was.
+-- What the history leaves to an engine. That is what a write does to its own ids and pages, and when it finds no id, no room
+-- or no memory. It is also what a refusal leaves as it was.
 use Rattle.std.specs.Prelude.{◌≡◌, ℕ, ◌<◌, ◌≤◌, ◌∷◌, length, Bool, true, false, Option, Some, None, IsSome, Result, Ok, Err, slice_set}
 use Rattle.std.specs.Option.{option_map}
 use Rattle.xid_circle.specs.declared.Tid.{Tid}
@@ -142,8 +142,8 @@ Exact old (step.ApplyPlan p plan) (reply.Refused refusal.NoMemory) new = ⊥
 Exact old step (reply.Refused refusal) new = new ≡ old
 Exact old step reply new = ⊥
 
--- The step is answered: whatever world the engine agreed with, the history allows the reply (of a cursor, where what is noted of the
--- pages holds), and the rest is as above.
+-- The step is answered. Whatever world the engine agreed with, the history allows the reply (of a cursor, where what is noted of the
+-- pages holds). The rest is as above.
 pub record AnswersStep (old : State) (step : Step) (reply : Reply) (new : State) : Type 0 where
   pub follows : FollowsByNotes old step reply new
   pub exact : Exact old step reply new

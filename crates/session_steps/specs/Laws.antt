@@ -40,7 +40,7 @@ pub record FindsLevels (h : HeapView) (n : ℕ) (history : List Transaction) (e 
   pub now : FindsRows h (statement_snapshot h.statuses e.isolation) e.own.ids n (view history m)
   pub saved : FindsAtEach h (statement_snapshot h.statuses e.isolation) n history (start_now history m) e.own.saved m.levels
 
--- Each open session finds its view through each index in use that it may scan, as it is and as it was at each savepoint, and one
+-- Each open session finds its view through each index in use that it may scan, as it is and as it was at each savepoint. One
 -- that would begin now finds what is committed through any.
 abbrev pub ViewsByIndex : Type 0
 ViewsByIndex = (st : State) (w : World) → Agrees st w → (n : ℕ) → IsInUse st.heap.indexes n

@@ -20,8 +20,8 @@ WritesReply (reply.Keys keys) places answer after = (answer ≡ Ok (length keys.
 WritesReply (reply.Refused refusal) places answer after = (answer ≡ Err refusal) × (after ≡ places)
 WritesReply reply places answer after = (answer ≡ Ok 0) × (after ≡ places)
 
--- Beside what the history says of the reply: some rows or keys are handed out, up to so many, and a cursor at its end and a
--- refusal leave all as it was. No memory is asked for.
+-- What is so beside what the history says of the reply. Some rows or keys are handed out, up to so many. A cursor at its
+-- end and a refusal leave all as it was. No memory is asked for.
 abbrev pub ExactNextRows : State → ℕ → ℕ → Reply → State → Type 0
 ExactNextRows old s most (reply.Rows rows) new = (0 < length rows.items) × HandsOutUpTo old new s most rows.items
 ExactNextRows old s most (reply.Keys keys) new = (0 < length keys.items) × HandsOutByKeys old new s most keys.items
@@ -30,8 +30,8 @@ ExactNextRows old s most (reply.Refused refusal.NoMemory) new = ⊥
 ExactNextRows old s most (reply.Refused refusal) new = new ≡ old
 ExactNextRows old s most reply new = ⊥
 
--- It is answered as a step that asks for as many rows as there are places, by a reply that the history allows where what is noted of the
--- pages holds.
+-- It is answered as a step that asks for as many rows as there are places. The reply is one that the history allows where what is noted
+-- of the pages holds.
 pub record AnswersNextRows (old : State) (s : ℕ) (places : List RowPlace) (answer : Result ℕ Refusal) (after : List RowPlace) (new : State) : Type 0 where
   pub reply : Reply
   pub written : WritesReply reply places answer after

@@ -12,8 +12,9 @@ use sessions::{Session, owner};
 use xid_circle::Tid;
 
 impl SessionEngine {
-    /// The place of the version of the key that a session reads; and a hint where the key's last entry is, or would be, or else the
-    /// refusal that bars it from writing the key, whatever it reads of it. Tests in order: Conflict, Busy.
+    /// The place of the version of the key that a session reads. The answer also has a hint where the key's last entry is, or would
+    /// be, or else the refusal that bars the session from writing the key. That refusal bars it whatever it reads of the key. Tests
+    /// in order: Conflict, Busy.
     fn write_conflict(
         &self,
         session: &Session,
@@ -53,9 +54,9 @@ impl SessionEngine {
         }
     }
 
-    /// The place of the version of the key that a session which may act reads, and may update or delete; and a hint where another
-    /// entry of it goes, if the index was searched. It is searched only where no undeleted version is found by its place. Tests in
-    /// order: NotThere, Conflict, Busy.
+    /// The place of the version of the key that a session which may act reads, and may update or delete. The answer also has a
+    /// hint where another entry of the key goes, if the index was searched. The index is searched only where no undeleted version
+    /// is found by its place. Tests in order: NotThere, Conflict, Busy.
     pub(crate) fn check_change(
         &self,
         session: &Session,

@@ -111,8 +111,8 @@ impl SessionEngine {
         self.heap.page(number)
     }
 
-    /// The index of this number, if there is one: index 0 is the primary index, by key, and index `c + 1` is that of
-    /// column `c`, where the settings ask for it or since it was made.
+    /// The index of this number, if there is one. Index 0 is the primary index, by key. Index `c + 1` is that of column
+    /// `c`, where the settings ask for it or since it was made.
     pub fn index(&self, number: u8) -> Option<&RootIndex>
         ensures { option_copied result ≡ engine_index self.now number }
     {

@@ -24,8 +24,8 @@ fn fact_few(places: &[RowPlace])
 }
 
 impl SessionEngine {
-    /// Hands out rows of the session's cursor: of an index the next `n` in its order, where 0 counts as 1, or all that are
-    /// left; of the heap all of the next page on which the session sees any, from where the cursor is, by their slots. A cursor over
+    /// Hands out rows of the session's cursor. Of an index they are the next `n` in its order, where 0 counts as 1, or all that are left.
+    /// Of the heap they are all of the next page on which the session sees any, from where the cursor is, by their slots. A cursor over
     /// keys hands out keys, as one of the index by key hands out rows. The answer is End exactly where none is left, and leaves the
     /// cursor open. Refusals in order: NoSuchSession, NotOpen, Failed, NoCursor, and NoMemory, which comes only where there is a row or a
     /// key to hand out, and leaves the cursor where it was.
@@ -67,7 +67,7 @@ impl SessionEngine {
 
     /// Writes the next rows of the session's cursor to the first places, and answers how many there are: none exactly where
     /// nothing is left, and the cursor stays open then. Of an index they are as many as there are places, or all that are left.
-    /// Of the heap they are those of the next page on which the session sees any, from where the cursor is, up to so many; what
+    /// Of the heap they are those of the next page on which the session sees any, from where the cursor is, up to so many. What
     /// the page has left over is handed out by the next call. Of a cursor over keys the key alone is written, and all else in its
     /// place stays. Refusals in order: NoSuchSession, NotOpen, Failed, NoCursor. It takes no memory.
     pub fn next_rows(&mut self, s: u8, places: &mut [RowPlace]) -> Result<usize, Refusal>

@@ -13,7 +13,7 @@ use crate::outcome::put_reply;
 use calls::{Refusal, Reply, Row, Step};
 
 impl SessionEngine {
-    /// Does one step, and puts its reply in the place of an earlier one: whatever world of the history the engine agrees with,
+    /// Does one step, and puts its reply in the place of an earlier one. Whatever world of the history the engine agrees with,
     /// the history allows the reply, and the engine agrees with the next world. A step that is refused names the first reason
     /// that holds, in the order of the table in docs/rules.md, or NoMemory, as is said below that table. A vacuum's step and the
     /// making of an index, which are done above the sessions, change nothing, and leave the earlier reply. A reply has room for a

@@ -23,9 +23,9 @@ fn id_before(next: Xid, age: u32) -> Xid
     Xid(next.0.wrapping_sub(age).max(3))
 }
 
-/// A vacuum marks as frozen only what was made before this id: the earlier of the horizon and of the id given so long before the
-/// next one, and never before the first, the oldest that is remembered. (vacuum_freeze_min_age in the manual's "Routine
-/// Vacuuming".)
+/// A vacuum marks as frozen only what was made before this id. It is the earlier of the horizon and of the id given so long
+/// before the next one. It is never before the first, the oldest that is remembered. (vacuum_freeze_min_age in the manual's
+/// "Routine Vacuuming".)
 fn cutoff(first: Xid, next: Xid, horizon: Xid, age: u32) -> Xid
     ensures { result.0 ≡ cutoff_at first.0 next.0 horizon.0 age }
 {

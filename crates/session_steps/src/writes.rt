@@ -59,8 +59,8 @@ impl SessionEngine {
         self.insert_row(s, &written)
     }
 
-    /// Updates the version at a place to the row, which has no room on its page and which nothing keeps the session from writing, under
-    /// the id of its newest level: the page is pruned at the horizon first.
+    /// Updates the version at a place to the row, under the id of the session's newest level. The row has no room on the page of that
+    /// version, and nothing keeps the session from writing it. The page is pruned at the horizon first.
     fn update_on_full_page(&mut self, s: u8, place: Tid, row: &Row) -> Result<Ack, Refusal>
         requires may { (e : Session) × MayAct self.old s e
             × MayChangeKey self.old e row.now.key place }

@@ -241,7 +241,7 @@ impl Pair {
         self.levels(s).map_or(false, |levels| levels.is_open())
     }
 
-    /// How many versions were taken so far by prunings of a page, though who deleted them is not before the horizon: each stood in its
+    /// How many versions were taken so far by prunings of a page, though who deleted them is not before the horizon. Each stood in its
     /// chain before one that is dead.
     pub fn cuts(&self) -> u64 {
         self.cuts
@@ -399,8 +399,8 @@ impl Pair {
         }
     }
 
-    // The ids that there have to be. A write that is done gives an id to each level of its session that has none, at the end of an
-    // aggressive vacuum old ones are forgotten, and no other step changes them.
+    // The ids that there have to be. A write that is done gives an id to each level of its session that has none. At the end of an
+    // aggressive vacuum old ones are forgotten. No other step changes them.
     fn expected_ids(&mut self, step: &Step, before: Before, reply: &Reply) -> (Xid, Xid) {
         let mut given = 0;
         if let (true, Some(s)) = (is_done(reply), session_of_levels(step)) {
@@ -542,8 +542,9 @@ impl Pair {
         }
     }
 
-    /// Compares the pages with the rows that the session reads, which began after an aggressive vacuum had ended, where nobody else did
-    /// a step meanwhile and no session was open: there is one version for each row, no slot is dead, and all pages are all-visible.
+    /// Compares the pages with the rows that the session reads. The session began after an aggressive vacuum had ended, where nobody
+    /// else did a step meanwhile and no session was open. Then there is one version for each row, no slot is dead, and all pages are
+    /// all-visible.
     pub fn compare_bare(&self, s: u8) -> Result<(), Difference> {
         let mut rows: u64 = 0;
         for key in self.keys {

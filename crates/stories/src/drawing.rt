@@ -100,8 +100,8 @@ fn draw_logged<R: Read, W: Write>(
     )
 }
 
-/// Reads a script with looks, up to so many lines behind the first, and writes the picture of the table as it is then: of the pages of
-/// these numbers, or of all where there is none. Where there is a fault nothing is written, but by a writer that gives up.
+/// Reads a script with looks, up to so many lines behind the first, and writes the picture of the table as it is then. It shows the
+/// pages of these numbers, or all where there is none. Where there is a fault nothing is written, but by a writer that gives up.
 pub fn draw<R: Read, W: Write>(
     alloc: Global,
     reader: &mut R,

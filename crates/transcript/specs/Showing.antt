@@ -56,8 +56,8 @@ IsLastWriter w key writer = MatchOption writer (¬ IsLate w.history 0 key) (λ n
 abbrev pub IsOtherHolder : World → (s key : ℕ) → Option ℕ → Type 0
 IsOtherHolder w s key holder = MatchOption holder ((o : ℕ) → o ≢ s → ¬ Holds w o key) (λ o. (o ≢ s) × Holds w o key)
 
--- of a step that names a key, if its session is open: how many transactions had committed when its snapshot was taken, who wrote the key
--- last, and who holds it
+-- What is shown of a step that names a key, if its session is open. It is how many transactions had committed when the session's
+-- snapshot was taken, who wrote the key last, and who holds it.
 pub record IsShownOf (w : World) (s key : ℕ) (shown : Shown) : Type 0 where
   pub session : shown.session ≡ s
   pub key_is : shown.key ≡ key

@@ -68,8 +68,8 @@ abbrev pub MayBe : List ℕ → Reply → Type 0
 MayBe answer r = SpellsReply answer (Some r)
     ⊎ ((answer ≡ codes "error 7 Busy") × (s : ℕ) × (s < 2 ^ 8) × (r ≡ reply.Refused (refusal.Busy s)))
 
--- a line that was asked and its answer, and what the history goes on by: a step with its reply, or with one that could be given in the
--- place of a wrong one; or nothing
+-- A line that was asked and its answer, and what the history goes on by. That is a step with its reply, or with one that could be
+-- given in the place of a wrong one. Or it is nothing.
 pub record Exchange : Type 0 where
   pub asked : List ℕ
   pub answer : List ℕ
@@ -159,11 +159,11 @@ pub record IsWrong (begins : Begins) (w : World) (asked answer : List ℕ) (why 
 abbrev pub line_ends : List ℕ → ℕ
 line_ends text = count_by (λ b. b == 10) text
 
--- what is said where all is allowed, with how many steps were judged, and how many answers were refusals that are left open; and of an
--- answer that is not allowed, at the line of this number
+-- what is said where all is allowed, with how many steps were judged, and how many answers were refusals that are left open
 abbrev pub allowed_text : (allowed open_ : ℕ) → List ℕ
 allowed_text n open_ = codes "allowed " ++ (decimal n ++ (codes ", left open " ++ with_feed (decimal open_)))
 
+-- what is said of an answer that is not allowed, at the line of this number
 abbrev pub wrong_text : ℕ → (asked answer : List ℕ) → Why → Option Shown → List ℕ
 wrong_text n asked answer why shown =
     codes "line " ++ (decimal n ++ (codes ": " ++ (with_feed asked ++ (codes "answered " ++ (with_feed answer ++ (why_text why ++ shown_line shown))))))
@@ -191,8 +191,8 @@ StandsIn w step (Alone answer) given = given ≡ answer
 StandsIn w step (Or answer) given = given ≡ answer
 StandsIn w step Open given = AllowsReply w step given
 
--- What is heard of the exchange at the line of this number: how many of its answers are allowed, how many wrong, and how many let off, and
--- what is told of it. After a wrong one the history goes on as if another had been given
+-- What is heard of the exchange at the line of this number. That is how many of its answers are allowed, how many wrong, and how many let
+-- off, and what is told of it. After a wrong one the history goes on as if another had been given
 pub data IsHeard (begins : Begins) (w : World) (number : ℕ) (x : Exchange) : (allowed wrong open_ : ℕ) → (told : List ℕ) → Type 0 where
   right : (allowed open_ : ℕ) → IsExchange begins x → IsAllowedExchange w x.judged allowed open_ → IsHeard begins w number x allowed 0 open_ []
   amiss : (why : Why) (shown : Option Shown) (given : Reply) → (is : IsWrong begins w x.asked x.answer why shown) → x.judged ≡ Some (judged_as begins is.own, given) → StandsIn w (judged_as begins is.own) why.due given

@@ -8,9 +8,9 @@ use crate::fault::Fault;
 use std::io::{ErrorKind, Read, Write};
 use std::marker::{Model, PhantomData};
 
-/// Notes whether the reader or the writer failed. A transcript is read and what is said is written through this alone, so that a fault of
-/// the reader or the writer can be told from one that is made up. Nothing else marks it, and it takes calls of one type of reader and one
-/// of writer, so that no other marks it.
+/// Notes whether the reader or the writer failed. A transcript is read and what is said is written through this alone. So a fault of the
+/// reader or the writer can be told from one that is made up. Nothing else marks it, and it takes calls of one type of reader and one of
+/// writer, so that no other marks it.
 #[derive(Drop)]
 pub struct FailureLog<R, W> {
     // the reader answered an error

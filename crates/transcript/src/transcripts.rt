@@ -86,8 +86,8 @@ fn judge_logged<R: Read, W: Write>(
 }
 
 /// Reads a transcript, and writes that all its answers are allowed, or tells the first that is not, or each. True where all are. The log,
-/// which is made here, says who failed: a fault of the reader is answered only where it answered an error, and one of the writer only
-/// where that did, took nothing, or was interrupted 2^64 - 1 times in a row.
+/// which is made here, says who failed. A fault of the reader is answered only where the reader answered an error. One of the writer is
+/// answered only where the writer did, took nothing, or was interrupted 2^64 - 1 times in a row.
 pub fn judge_transcript<R: Read, W: Write>(
     alloc: Global,
     begins: Begins,

@@ -116,8 +116,8 @@ fn rest(out: &mut Vec<u8>, session: &Session, other: Option<u8>) -> Result<(), R
     waits(out, other)
 }
 
-/// Adds the lines of a session: how it reads and stands, the snapshot that it keeps with the ids that are listed, in this order, its own
-/// ids, its cursor, and for whom it waits.
+/// Adds the lines of a session. They tell how it reads and stands, the snapshot that it keeps, its own ids, its cursor, and for whom it
+/// waits. With the snapshot stand the ids that are listed, in this order.
 pub fn tell_session(
     out: &mut Vec<u8>,
     s: u8,

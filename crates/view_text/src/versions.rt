@@ -190,8 +190,8 @@ fn entries(out: &mut Vec<u8>, entries: &[EntryLook]) -> Result<(), RefusedGrowth
     Ok(())
 }
 
-/// Adds the lines of an explanation: one of the session and the key, one of each entry, and behind it one of each version of the chain
-/// to which it leads.
+/// Adds the lines of an explanation. There is one of the session and the key, and one of each entry. Behind that of an entry stands
+/// one of each version of the chain to which the entry leads.
 pub fn tell_explanation(
     out: &mut Vec<u8>,
     s: u8,

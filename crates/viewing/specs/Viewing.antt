@@ -62,7 +62,7 @@ abbrev pub done_of : List ViewEvent → List Event
 done_of events = flat_map done_in events
 
 -- Allowed lines behind a first one with these settings. The lines that are no looks are a run of a script, as if no look stood between
--- them; and all that was answered comes from one engine that is made by the settings.
+-- them. All that was answered comes from one engine that is made by the settings.
 pub record IsViewRun (settings : Settings) (events : List ViewEvent) : Type 0 where
   pub run : IsScriptRun settings (done_of events)
   pub allowed : AllByRecursion IsViewAllowed events

@@ -231,8 +231,8 @@ fn end<R, W: Write>(
     }
 }
 
-/// Reads lines that somebody types, and answers each at once: before each stands a prompt, a wrong one is answered by what was expected,
-/// and changes nothing, and `help` lists them all. The first makes the heap. The log says which call was refused.
+/// Reads lines that somebody types, and answers each at once. Before each stands a prompt. A wrong line is answered by what was
+/// expected, and changes nothing. `help` lists all lines. The first line makes the heap. The log says which call was refused.
 pub fn talk<R: Read, W: Write>(
     alloc: Global,
     reader: &mut R,
