@@ -56,8 +56,8 @@ fn place_of(entry: Option<Entry>) -> Option<Tid>
     }
 }
 
-/// The place to which the next entry of the key leads, in an index by key: the first after the entry that leads to a place, still
-/// there or not, or the first of all. It takes no memory.
+/// The place to which the next entry of the key leads, in an index by key. That entry is the first after the entry that leads to
+/// a place, still there or not, or the first of all. It takes no memory.
 pub fn next_place(index: &RootIndex, key: u64, after: Option<Tid>) -> Option<Tid>
     ensures { IsNextPlace index.now.entries key after result }
 {

@@ -51,8 +51,8 @@ pub record ChangesOnePage (h h' : HeapView) (n : ℕ) (So : PageView → PageVie
   pub is : h' ≡ record h { pages = record h.pages { pages = slice_set h.pages.pages n after } }
   pub does : So before after
 
--- this becomes the page of the number, in the place of one that is in use or after all others, and nothing is noted of it any more; no
--- other page changes, nor what is noted of one (the manual's "Visibility Map")
+-- This becomes the page of the number, in the place of one that is in use or after all others. Nothing is noted of it any more. No
+-- other page changes, nor what is noted of one. (The manual's "Visibility Map".)
 pub data PutsPage (pages pages' : PagesView) (n : ℕ) (page : PageView) : Type 0 where
   in_use : n < length pages.pages → pages'.pages ≡ slice_set pages.pages n page → pages'.marks ≡ slice_set pages.marks n Nothing
       → PutsPage pages pages' n page

@@ -1,5 +1,5 @@
--- Why a write is not done, of the first reason in the order of its tests, and what it leaves: all as it was, though there may
--- be more memory; only an update that ends in NoRoom may leave the page of the old version pruned.
+-- Why a write is not done, of the first reason in the order of its tests, and what it leaves. It leaves all as it was, though
+-- there may be more memory. Only an update that ends in NoRoom may leave the page of the old version pruned.
 use Rattle.std.specs.Prelude.{◌⊎◌, ℕ, ◌<◌, ◌≤◌, List, length, Result, IfOk, IfErr, OnErr}
 use Rattle.xid_circle.specs.declared.Tid.{Tid}
 use Rattle.xid_circle.specs.declared.Xid.{Xid}
@@ -43,8 +43,9 @@ LacksForInsert h own row fault.NoMemory = (¬ NeedsFreeze h.statuses own) × (¬
 abbrev pub VersionIsThere : HeapView → Tid → Type 0
 VersionIsThere h place = IsNormalAt (page_on h place.page).slots place.slot
 
--- Something has to grow for an update: the ids; or, where the row has room on its page once that is pruned if it is full, an index
--- where a value in one changes; or, where it has none there, whatever a new root takes.
+-- Something has to grow for an update: the ids, or an index, or whatever a new root takes. An index counts only where the row has
+-- room on its page, once that is pruned if it is full, and a value in an index changes. What a new root takes counts only where
+-- the row has no room there.
 pub data UpdateNeedsMemory (h : HeapView) (own : Own) (place : Tid) (row : Row) (horizon : ℕ) : Type 0 where
   for_ids : NeedsIds h own → UpdateNeedsMemory h own place row horizon
   for_entry : (ready : HeapView) → PrunesIfFull h ready place horizon (rounded_size_of row)

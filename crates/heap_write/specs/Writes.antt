@@ -1,6 +1,6 @@
 -- What a write does to a table. (README.HOT: an update that stays on the page, and changes no indexed column, makes a heap-only
--- version and no index entry; any other makes a root of its own, with an entry in each index. PostgreSQL, heap_insert, heap_update and
--- heap_delete in src/backend/access/heap/heapam.c.)
+-- version and no index entry. Any other update makes a root of its own, with an entry in each index. PostgreSQL, heap_insert,
+-- heap_update and heap_delete in src/backend/access/heap/heapam.c.)
 use Rattle.std.specs.Prelude.{◌≡◌, ◌≢◌, ℕ, ◌<◌, ◌≤◌, Bool, true, false, List, length, Some}
 use Rattle.xid_circle.specs.Numbers.{Id, Count}
 use Rattle.xid_circle.specs.declared.Tid.{Tid}
@@ -86,7 +86,7 @@ pub record WouldGo (h : HeapView) (place : Tid) (horizon : ℕ) : Type 0 where
   pub action : Action
   pub does : PrunesSlot h.statuses horizon (page_on h place.page).slots place.slot (Some action)
 
--- The page of the old version is pruned where the row has no room on it, when there may be more memory; but it is left as it is
+-- The page of the old version is pruned where the row has no room on it, when there may be more memory. But it is left as it is
 -- where the version would go with that.
 pub data PrunesIfFull (h h' : HeapView) (place : Tid) (horizon : Id) (size : Count) : Type 0 where
   has_room : size ≤ room_of (page_on h place.page).slots → h' ≡ h → PrunesIfFull h h' place horizon size

@@ -21,9 +21,9 @@ pub enum ApplyFault {
 }
 
 impl HeapState {
-    /// Does these actions on the page of this number, counted from 0, and nothing else, where they check at the horizon: a plan
-    /// that was made for a page of this change number. Anyone may have made it, at any time. It takes no memory, and a fault leaves
-    /// all as it was.
+    /// Does these actions on the page of this number, counted from 0, and nothing else, where they check at the horizon. They are a
+    /// plan that was made for a page of this change number. Anyone may have made it, at any time. It takes no memory, and a fault
+    /// leaves all as it was.
     pub fn apply_if_checked(
         &mut self,
         number: u32,

@@ -1,6 +1,6 @@
 //! Updates of rows whose page has no room for them.
 //!
-//! The page's plan says, before anything changes, what pruning takes from it and how much room that makes; so memory is made
+//! The page's plan says, before anything changes, what pruning takes from it and how much room that makes. So memory is made
 //! ready for one place alone, on the page or elsewhere, before the plan is applied.
 
 ghost use Rattle.std.specs.Prelude.{◌≡◌, ℕ, ◌≤◌, ◌<◌, IfErr, IfOk, IfSome, OnErr, OnOk};
@@ -32,9 +32,9 @@ impl HeapState {
     /// Replaces the version at a place by one of this row, as [`HeapState::update_on_page`] does, but where the page has no room
     /// for it. The page is pruned at the horizon, a normal id, unless the version itself would go with that. The new version
     /// goes to the same page where it has room then, else where a new root goes, and is a root. It answers NeedsFreeze
-    /// exactly where the levels lack more ids than can be given, else NoMemory only where something has to grow; then, where
-    /// the page was pruned, NoRoom exactly where all pages that there may be are in use and none has room. A refused update
-    /// gives no id, and changes nothing but that the page may be pruned.
+    /// exactly where the levels lack more ids than can be given. Else it answers NoMemory only where something has to grow.
+    /// Then, where the page was pruned, it answers NoRoom exactly where all pages that there may be are in use and none has
+    /// room. A refused update gives no id, and changes nothing but that the page may be pruned.
     pub fn update_full_page(
         &mut self,
         own: &mut OwnIds,

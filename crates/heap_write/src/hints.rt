@@ -19,8 +19,8 @@ fn live_turn(statuses: &StatusTable, x: Xid) -> Option<u32>
     }
 }
 
-/// Lowers what is known of a page, where x deletes the version at this place: that may be dead from x's turn on, and what an aborted
-/// id makes is dead at once.
+/// Lowers what is known of a page, where x deletes the version at this place. That version may be dead from x's turn on. What an
+/// aborted id makes is dead at once.
 #[inline(always)]
 pub(crate) fn expect_write(hints: &mut PruneHints, statuses: &StatusTable, place: Tid, x: Xid)
     ensures { ExpectsWrite statuses.now x.0 place hints.old.pages hints.new.pages }

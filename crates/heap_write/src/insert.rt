@@ -23,11 +23,11 @@ use write_ids::{needs_freeze, reserve_ids, take_ids};
 use xid_circle::{Tid, Xid};
 
 impl HeapState {
-    /// Inserts a version of the row as a root, with an entry in each index, under the id of the session's newest level, and answers that
-    /// id: each level that has none is given one before. It answers NeedsFreeze exactly where the levels lack more ids
-    /// than can be given, else NoRoom exactly where all pages that there may be are in use and none has room, else
-    /// NoMemory only where something has to grow. A refused insert changes nothing and gives no id. (PostgreSQL,
-    /// `heap_insert` in src/backend/access/heap/heapam.c.)
+    /// Inserts a version of the row as a root, with an entry in each index, under the id of the session's newest level. It answers that
+    /// id. Each level that has no id is given one before. It answers NeedsFreeze exactly where the levels lack more ids than can be
+    /// given. Else it answers NoRoom exactly where all pages that there may be are in use and none has room. Else it answers NoMemory
+    /// only where something has to grow. A refused insert changes nothing and gives no id. (PostgreSQL, `heap_insert` in
+    /// src/backend/access/heap/heapam.c.)
     pub fn insert(&mut self, own: &mut OwnIds, row: &Row) -> Answer
         requires newest { NewestIsGiven self.old.statuses own.old }
         ensures ok { IfOk result (λ x. Inserts self.old self.new own.old own.new row.now x.0) }

@@ -1,10 +1,10 @@
 //! A table: its pages, the status of its ids and its indexes, and writes on them.
 //!
-//! A write either is done, with an id for each level of its session, or is refused for the first of its reasons, and then changes
-//! nothing; only an update that ends in NoRoom may have pruned the page of the old version. `specs/Writes.antt` says what each
-//! write does, and `specs/Refusals.antt` why one is refused; what a write does in an index is said in `table_indexes`. Whatever has
-//! to grow is grown before the first change, so that nothing is left half done (`specs/Growth.antt`). A cursor goes along any
-//! index. All other steps look for a key, where a root of it was put last or by the index by key.
+//! A write either is done, with an id for each level of its session, or is refused for the first of its reasons. A refused write
+//! changes nothing, except that an update that ends in NoRoom may have pruned the page of the old version. `specs/Writes.antt` says
+//! what each write does, and `specs/Refusals.antt` why one is refused; what a write does in an index is said in `table_indexes`.
+//! Whatever has to grow is grown before the first change, so that nothing is left half done (`specs/Growth.antt`). A cursor goes
+//! along any index. All other steps look for a key, where a root of it was put last or by the index by key.
 //!
 //! Each page that was looked through has a prune hint: from when on a version on it may be dead, and in which slots. An update of a
 //! full page looks for dead versions only when and where there may be some. No answer depends on hints, and that they are true is

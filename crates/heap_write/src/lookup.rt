@@ -31,8 +31,8 @@ impl HeapState {
         row_of(&table, value, key, reader)
     }
 
-    /// Checks the versions of the key for a reader that is about to write it; and tells where the key's last entry is, or would be,
-    /// as a hint for [`HeapState::expect_entry`].
+    /// Checks the versions of the key for a reader that is about to write it. It also tells where the key's last entry is, or would
+    /// be, as a hint for [`HeapState::expect_entry`].
     pub fn check_write(&self, key: u64, reader: &Reader<'_>) -> (WriteCheck, PositionHint)
         ensures place { FirstPlace reader.now.statuses.now (IsSeenBy reader.now)
             (slots_of self.now) (entries_in self.now.indexes 0) (pos key) key
@@ -79,8 +79,8 @@ impl HeapState {
         }
     }
 
-    /// The first place of the span, in the order of the index, where a key shows: by a page that is noted as all-visible, which is not
-    /// looked at, or by a row that the reader sees. An index that is not in use has none.
+    /// The first place of the span, in the order of the index, where a key shows. It shows by a page that is noted as all-visible,
+    /// which is not looked at, or by a row that the reader sees. An index that is not in use has none.
     pub fn next_key(&self, span: &IndexRange, reader: &Reader<'_>) -> Option<IndexPosition>
         ensures { NextKey reader.now.statuses.now (IsSeenBy reader.now) self.now.pages
             (entries_in self.now.indexes span.now.index) span.now result }

@@ -43,7 +43,7 @@ fn reserve_page(
 }
 
 /// Makes room in memory for the page that a new root of this size takes, if it takes a new one while at most `limit` pages may be in
-/// use, and answers where the root goes, if it goes anywhere.
+/// use. It answers where the root goes, if it goes anywhere.
 pub(crate) fn reserve_place(
     alloc: Global,
     pages: &mut Pages,

@@ -40,12 +40,12 @@ impl HeapState {
         }
     }
 
-    /// Replaces the version at a place by one of this row on its page, which has room for it, under the id of the session's
-    /// newest level, and answers that id: each level that has none is given one before. The new version is heap-only where no
-    /// value in an index changes, else a root, with an entry in each index. No page is pruned, so no horizon counts. It
-    /// answers NeedsFreeze exactly where the levels lack more ids than can be given, else NoMemory only where something has
-    /// to grow. A refused update changes nothing and gives no id. (README.HOT; PostgreSQL, `heap_update` in
-    /// src/backend/access/heap/heapam.c.)
+    /// Replaces the version at a place by one of this row on its page, which has room for it. It does so under the id of the
+    /// session's newest level, and answers that id. Each level that has no id is given one before. The new version is
+    /// heap-only where no value in an index changes, else a root, with an entry in each index. No page is pruned, so no
+    /// horizon counts. It answers NeedsFreeze exactly where the levels lack more ids than can be given, else NoMemory only
+    /// where something has to grow. A refused update changes nothing and gives no id. (README.HOT; PostgreSQL, `heap_update`
+    /// in src/backend/access/heap/heapam.c.)
     pub fn update_on_page(
         &mut self,
         own: &mut OwnIds,

@@ -1,6 +1,6 @@
 -- Sound entries: what an index promises of the chains of versions that it leads to. (README.HOT: there is one entry for a
--- chain, at its root, and all versions of the chain have the same indexed values; the entry stays right while the root
--- becomes a redirect, and is taken away only after the root is dead.) The indexed value is any function of a row; in the
+-- chain, at its root, and all versions of the chain have the same indexed values. The entry stays right while the root
+-- becomes a redirect. It is taken away only after the root is dead.) The indexed value is any function of a row; in the
 -- primary index it is the key.
 use Rattle.std.specs.Prelude.{◌≡◌, ◌⊎◌, ℕ, ℤ, true, List, Option, Some, None, Contains}
 use Rattle.xid_circle.specs.declared.Tid.{Tid}
@@ -51,8 +51,8 @@ pub record EntriesAreSound (value_of : Row → ℤ) (since : Option ℕ) (w : Wi
   pub heap : SoundHeap w pages
   pub index : SoundEntries value_of since w pages entries
 
--- The law of each step, for a slot that an entry leads to before and after: it holds the same version, by its row and its
--- inserter, or a redirect where a version or a redirect was, or is dead.
+-- The law of each step, for a slot that an entry leads to before and after. The slot holds the same version, by its row
+-- and its inserter, or a redirect where a version or a redirect was, or it is dead.
 pub data KeepsTarget (before after : Option Slot) : Type 0 where
   same_version : (t u : Version) → before ≡ Some (Normal t) → after ≡ Some (Normal u) → u.row ≡ t.row → u.header.xmin.0 ≡ t.header.xmin.0 → KeepsTarget before after
   led_on : (k : ℕ) → is_root_in before ≡ true → after ≡ Some (Redirect k) → KeepsTarget before after

@@ -54,8 +54,8 @@ TouchedByIndex = (value_of : Row → ℤ) (w : Window) (pages : List (List Slot)
     → ¬ IsAborted w x → (value : ℤ) (key : ℕ) (p : Tid) (t : Version)
     → IsOnHeap value_of pages value key (λ t. Touches x t.header) p t ↔ IsByIndex w pages entries value key (λ t. Touches x t.header) p t
 
--- Where the entries are sound and no excused version is seen, what is found is what stands on the heap: a row of a version there that
--- is seen, where there is one.
+-- Where the entries are sound and no excused version is seen, what is found is what stands on the heap. It is a row of a version
+-- there that is seen, where there is one.
 abbrev pub FoundIsOnHeap : Type 0
 FoundIsOnHeap = (value_of : Row → ℤ) (since : Option ℕ) (w : Window) (pages : List (List Slot)) (entries : List Entry) (s : Snap) (own : List ℕ) → EntriesAreSound value_of since w pages entries
     → ((x : ℕ) → Contains own x → IsActive w x) → SeesNoExcused w since s own → (value : ℤ) (key : ℕ) (answer : Option Row) → FirstFound w (IsVisible w s own) pages entries value key answer

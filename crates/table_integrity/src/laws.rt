@@ -9,8 +9,8 @@ pub fn inserting_keeps_table()
     ensures { InsertingKeepsTable }
 {}
 
-/// A table stays sound when a version that may be taken away is updated to a row of the same key: on its page, or to
-/// another, whether or not its page is pruned for that.
+/// A table stays sound when a version that may be taken away is updated to a row of the same key. The row may go to
+/// the version's page or to another, whether or not the version's page is pruned for that.
 pub fn updating_keeps_table()
     ensures { UpdatingKeepsTable }
 {}

@@ -56,7 +56,7 @@ pub fn take_keys(
     Ok(Some((keys, left)))
 }
 
-/// Writes the next keys of the range that show to the first places, as many as there are places or all that are left, and answers how
+/// Writes the next keys of the range that show to the first places, as many as there are places or all that are left. It answers how
 /// many there are, and what is left behind them. All else in the places stays. It takes no memory.
 pub(crate) fn put_keys(
     heap: &HeapState,

@@ -13,10 +13,10 @@ use tuple_header::RowPlace;
 use visibility::Reader;
 use xid_circle::Tid;
 
-/// Writes the next rows of a cursor to the first places, and answers how many there are, and the rest of the cursor behind them:
-/// none exactly where nothing is left. Of an index they are as many as there are places, or all; of the heap those of the next page
-/// on which the reader sees any, up to so many. Of a cursor over keys it writes keys, as many as there are places, or all; all else
-/// in these places stays.
+/// Writes the next rows of a cursor to the first places. It answers how many there are, and the rest of the cursor behind them.
+/// There are none exactly where nothing is left. Of an index they are as many as there are places, or all. Of the heap they are
+/// those of the next page on which the reader sees any, up to so many. Of a cursor over keys it writes keys, as many as there are
+/// places, or all. Then all else in these places stays.
 pub fn put_next(
     heap: &HeapState,
     reader: &Reader<'_>,
@@ -108,7 +108,7 @@ fn put_page(
     (0, at)
 }
 
-/// Writes the rows that the reader sees from this place on, up to the end of its page, and answers how many there are, and the number
+/// Writes the rows that the reader sees from this place on, up to the end of its page. It answers how many there are, and the number
 /// of the slot behind them.
 fn put_rows_on(
     heap: &HeapState,

@@ -17,7 +17,7 @@ use xid_circle::Xid;
 pub(crate) type SlotNumbers = ArrayVec<u16, MOST_SLOT_NUMBERS>;
 
 /// Borrows the row of the version in a slot of the page, if the reader sees it. `counted` is an id whose making the reader counts, if one
-/// is known: what it made and nobody deleted is seen, so the neighbours that one id made are judged once. It takes no memory.
+/// is known. What it made and nobody deleted is seen, so the neighbours that one id made are judged once. It takes no memory.
 #[inline(always)]
 pub(crate) fn seen_beside<'a>(
     page: &'a Page,

@@ -12,8 +12,8 @@ use Rattle.vacuum_passes.specs.declared.vacuum.Phase.{Phase}
 use Rattle.vacuum_passes.specs.declared.vacuum.Phase.TheVariants as phase
 
 pub record VacuumView : Type 0 where
-  -- what its beginning fixed: the mode, the horizon of that moment, the cutoff, how many pages it visits, how many entries all indexes
-  -- had, and how many dead slots it collects at most
+  -- What its beginning fixed: the mode, the horizon of that moment, the cutoff, and how many pages it visits. It also fixed how many
+  -- entries all indexes had, and how many dead slots the vacuum collects at most.
   pub mode : Mode
   pub horizon : ℕ
   pub cutoff : ℕ
