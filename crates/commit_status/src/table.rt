@@ -185,7 +185,7 @@ impl StatusTable {
         self.entries.reserve(n)
     }
 
-    /// Whether an id is remembered.
+    /// Whether an id is remembered. (What is kept of ids is private.)
     pub fn remembers(&self, x: Xid) -> bool
         ensures { IsTrue result ↔ IsGiven self.now x.0 }
     {

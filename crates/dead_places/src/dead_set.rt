@@ -140,7 +140,7 @@ impl DeadSet {
     }
 }
 
-/// The place of this number, if there is one. (It is said of the list what is asked of the set, by number and of the last.)
+/// The place of this number, if there is one. (The set asks it of its list, by a number and for the last.)
 fn place_at(tids: &[Tid], number: usize) -> Option<Tid>
     ensures { result ≡ slice_get tids.now number }
 {

@@ -23,7 +23,7 @@ pub struct Gap {
     but: ShortTid,
 }
 
-/// All places but those of the last page. (A leaf names no numbers: these are private to the crate.)
+/// All places but those of the last page. (`between` is private to the crate: a leaf names no numbers.)
 pub fn all_places() -> Gap
     ensures from { result.from ≡ 0 }
     ensures to { result.to ≡ 65535 }

@@ -18,7 +18,7 @@ use tuple_header::RowRef;
 use visibility::Reader;
 
 impl HeapState {
-    /// Borrows the row of the key that the reader sees.
+    /// Borrows the row of the key that the reader sees. (The pages and the indexes are private, here and below.)
     pub fn row(&self, key: u64, reader: &Reader<'_>) -> Option<RowRef<'_>>
         ensures { FirstFound reader.now.statuses.now (IsSeenBy reader.now)
             (slots_of self.now) (entries_in self.now.indexes 0) (pos key) key result }

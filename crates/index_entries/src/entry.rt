@@ -48,7 +48,7 @@ pub fn is_before(a: &Entry, b: &Entry) -> bool
     compare(a, b).is_lt()
 }
 
-/// Whether two entries are the same.
+/// Whether two entries are the same. (It says of two entries what [`compare`] says of their order.)
 #[inline(always)]
 pub fn is_same(a: &Entry, b: &Entry) -> bool
     ensures { IsTrue result ↔ a.now ≡ b.now }

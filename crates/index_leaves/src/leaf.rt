@@ -48,6 +48,8 @@ impl<L: Label> Model for Leaf<L> {
     ghost invariant = { λ l. IsLeaf l.first l.last l.entries.entries l.gap };
 }
 
+// What a `Node` is asked, a leaf asks of its columns, of its first or its last entry, or of its spare lists. These know nothing of nodes,
+// and are proved without a leaf.
 impl<L: Label> Node for Leaf<L> {
     type Position = usize;
 
@@ -112,7 +114,6 @@ impl<L: Label> Node for Leaf<L> {
         search(&self.entries, sought, guess)
     }
 
-    // (These look at the columns by functions of their own, which are proved without a leaf.)
     #[inline(always)]
     fn stands_at(&self, sought: &Entry, position: usize) -> bool {
         stands_in(&self.entries, &self.last, sought, position)

@@ -29,7 +29,7 @@ impl<N> Model for Branch<N> {
     ghost invariant = { λ b. IsBranch (length b.nodes.items) (vec_capacity b.nodes) };
 }
 
-// What a `Node` is asked, a branch asks of its list, by functions of `nodes`: those are proved of any list of nodes.
+// What a `Node` is asked, a branch asks of its list, mostly by functions of `nodes`, which are proved of any list of nodes.
 impl<N: Node> Node for Branch<N> {
     type Position = TreePosition<N::Position>;
 

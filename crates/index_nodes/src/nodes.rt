@@ -31,7 +31,7 @@ pub struct Spares<N, B> {
     pub below: B,
 }
 
-/// The node of this number, if there is one. (So the option is said to be of the list.)
+/// The node of this number, if there is one. (Its contract names the answer by the list, where `get` speaks of the node lent.)
 fn node_of<N: Node>(nodes: &[N], number: usize) -> Option<&N>
     ensures { option_copied result ≡ slice_get nodes.now number }
 {
@@ -212,7 +212,7 @@ fn take_node<N: Node>(spare: &mut Vec<N>) -> Result<N, AllocError>
     }
 }
 
-/// Puts a node before those from this number on. There is room for it in memory.
+/// Puts a node before those from this number on. There is room for it in memory. (So a split has no refusal to handle.)
 pub(crate) fn put_node<N: Node>(nodes: &mut Vec<N>, number: usize, node: N)
     requires in_range { number ≤ vec_len nodes.old }
     requires room { vec_len nodes.old < vec_capacity nodes.old }

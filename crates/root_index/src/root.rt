@@ -22,7 +22,7 @@ pub struct RootIndex {
     kind: Kind,
 }
 
-/// The two kinds of index. What differs is how many bytes an entry has. It is private, so that each call of a [`RootIndex`] finds the
+/// The two kinds of index. What differs is how many bytes an entry has. It is private, so each call of a [`RootIndex`] finds the
 /// kind, and goes on to its own.
 #[derive(Debug, Drop)]
 enum Kind {

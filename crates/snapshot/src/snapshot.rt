@@ -84,7 +84,7 @@ impl Snapshot {
         self.overflowed
     }
 
-    /// Whether an id is listed.
+    /// Whether an id is listed. (The list has numbers, and who asks has an id.)
     pub fn is_listed(&self, x: Xid) -> bool
         ensures { IsTrue result ↔ Contains self.now.listed x.0 }
     {

@@ -1,4 +1,5 @@
-//! The bytes of a version. The numbers are byteorder's, which speaks of the front of a slice: here a number is at a place.
+//! The bytes of a version. The numbers are byteorder's, which speaks of the front of a slice: here a number is at a place. A byte is written
+//! as a slice of one, and a signed number as the unsigned one of the same bits.
 
 ghost use Rattle.std.specs.Prelude.{◌≡◌, ◌≤◌, ◌+◌, ◌++◌, [], ◌∷◌, map, drop, length, None};
 ghost use Rattle.std.specs.Int.{w64, cast_unsigned};
