@@ -192,8 +192,8 @@ impl Pages {
 
     /// The first page whose free-space byte promises room for a version of this size, if there is one. Else a new page is
     /// needed, or a page whose exact room is enough. The size is in bytes, as [`tuple_header::row_size`] counts them. It
-    /// looks at the free space map alone: at its 256 groups at most, and at the bytes of two. The map remembers where the
-    /// look-up ended; nothing else changes. (The contract speaks of the pages, that of the map of its bytes.)
+    /// looks at the free space map alone: at its 256 groups at most, and at the bytes of those that may have such a page. The
+    /// map remembers where the look-up ended; nothing else changes. (The contract speaks of the pages, that of the map of its bytes.)
     pub fn page_for(&mut self, size: usize) -> Option<u32>
         ensures found { FindsFirstPage self.old.pages (Promises size) result }
         ensures same { self.new ≡ self.old }

@@ -18,8 +18,8 @@ const GROUP: usize = 256;
 const RUN: usize = 16;
 
 /// A byte for each of at most 65536 pages. The next one that is large enough is found by a look at 256 groups at most, and at the
-/// bytes of two, in runs. These are the group in which the look-up begins and the one which has that byte. PostgreSQL keeps a
-/// tree of such bytes (src/backend/storage/freespace/README); this one has two levels, as many as 65536 pages need. As PostgreSQL
+/// bytes, in runs, of those whose greatest byte is noted as large enough. What is noted may be up to twice too high. PostgreSQL keeps
+/// a tree of such bytes (src/backend/storage/freespace/README); this one has two levels, as many as 65536 pages need. As PostgreSQL
 /// remembers the page that took a table's last version (RelationGetTargetBlock), the map remembers where its last look-up ended.
 #[derive(Debug, Drop)]
 pub struct FreeMap {
@@ -88,8 +88,8 @@ impl FreeMap {
         self.bytes.get(number as usize).copied()
     }
 
-    /// Notes this byte of the page of this number, which is in use. The group is looked at anew only where the byte falls below
-    /// half of what is noted of it. So what is noted is at most twice too high, and a page that fills costs eight looks.
+    /// Notes this byte of the page of this number, which is in use. The group is looked at anew only where the byte falls to
+    /// half of what is noted of it, or below, from over that. So what is noted is at most twice too high, and a page that fills costs eight looks.
     pub fn note(&mut self, number: u32, byte: u8)
         requires { number < length self.old.bytes }
         ensures bytes { self.new.bytes ≡ slice_set self.old.bytes number byte }
