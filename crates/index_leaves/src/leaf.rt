@@ -21,7 +21,7 @@ use std::marker::Model;
 use std::mem;
 use xid_circle::Tid;
 
-/// At most 128 entries. It begins with places for 64, of 0.75 KiB in an index by key and 1.25 KiB in another, and gets a list of twice as
+/// At most 128 entries. It begins with places for 64, of 0.75 KiB in an index by key and 1.25 KiB in another. It gets a list of twice as
 /// many where it outgrows these. Where it is split the upper half keeps the large list.
 #[derive(Debug, Drop)]
 pub struct Leaf<L: Label> {
@@ -303,7 +303,7 @@ fn make_place<L: Label>(
     spares.widen(entries)
 }
 
-/// How many entries a full leaf keeps when it is split for one more at this position: the first 64 of all stay, be the new one among
+/// How many entries a full leaf keeps when it is split for one more at this position. The first 64 of all stay, be the new one among
 /// them or not.
 fn kept_with(position: usize) -> usize
     ensures among { position < HALF → result + 1 ≡ HALF }

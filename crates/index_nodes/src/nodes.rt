@@ -159,8 +159,8 @@ pub fn look_at<N: Node>(nodes: &[N], position: TreePosition<N::Position>) -> Opt
     node_of(nodes, position.node + 1)?.look_at(N::first())
 }
 
-/// Where the entry goes, if that is right before or right behind this position, and between two entries of one leaf; or at the end,
-/// where no entries follow these nodes, which `is_last` says.
+/// Where the entry goes, if that is right before or right behind this position, and between two entries of one leaf. Or it goes at
+/// the end, where no entries follow these nodes, which `is_last` says.
 pub fn gap_near<N: Node>(
     nodes: &[N],
     sought: &Entry,

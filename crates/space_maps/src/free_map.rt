@@ -17,10 +17,10 @@ const GROUP: usize = 256;
 // So many bytes make a run, of which the processor finds the greatest in a few instructions.
 const RUN: usize = 16;
 
-/// A byte for each of at most 65536 pages. The next one that is large enough is found by a look at 256 groups at most, and at the
-/// bytes, in runs, of those whose greatest byte is noted as large enough. What is noted may be up to twice too high. PostgreSQL keeps
-/// a tree of such bytes (src/backend/storage/freespace/README); this one has two levels, as many as 65536 pages need. As PostgreSQL
-/// remembers the page that took a table's last version (RelationGetTargetBlock), the map remembers where its last look-up ended.
+/// A byte for each of at most 65536 pages. A look-up looks at 256 groups at most, for the greatest byte that is noted of each. Where that
+/// is large enough, it looks at the group's bytes, in runs. What is noted may be up to twice too high. PostgreSQL keeps a tree
+/// of such bytes (src/backend/storage/freespace/README); this one has two levels, as many as 65536 pages need. As PostgreSQL remembers the
+/// page that took a table's last version (RelationGetTargetBlock), the map remembers where its last look-up ended.
 #[derive(Debug, Drop)]
 pub struct FreeMap {
     bytes: Vec<u8>,
