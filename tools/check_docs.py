@@ -9,7 +9,7 @@ Reads README.md, CONTRIBUTING.md and the pages of docs/, bench/, examples/, tool
 - a block of code behind a comment `<!-- from examples/NAME -->` is no part of that example's page, line by line and answer by answer;
 - a row of a table in docs/guarantees.md has a promise of more than 25 words, or a definition or an edit of a crate that neither its
   heading nor the lines below that name;
-- a line has 140 columns or more, or a sentence more than 30 words (tools/docs/sentences.py);
+- a line has 140 columns or more, or a sentence more than 30 words, in a page or in a comment of code (tools/docs/sentences.py);
 - a function is not in the file to which a link leads, a line of a difference not in its file, a drawing not as the example that it is
   drawn from, or a cost in README.md not on the page of its measurement (tools/docs/places.py);
 - a figure is not what the repository has: lines of definitions, layers, sizes, edits, calls (tools/docs/figures.py);
@@ -341,6 +341,7 @@ def main():
     wrong += figures.wrong()
     wrong += refusals.wrong()
     wrong += fault_words.wrong()
+    wrong += sentences.wrong()
     wrong += stale_edits()
     for page, number, what in wrong:
         print(f"{page}:{number}: {what}")

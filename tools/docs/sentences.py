@@ -1,10 +1,13 @@
-"""The sentences of a page that have too many words. tools/check_docs.py asks it of each document."""
+"""The sentences of a page, or of the comments of code, that have too many words. tools/check_docs.py asks it of each."""
+import glob
 import re
 
 MOST = 30
 
 # A sentence ends behind one of these signs and what closes with it, where a capital, a number or a mark of a word begins the next.
 END = re.compile(r"(?<=[.!?])[)\]*_\"]*\s+(?=[(\[*_\"`]*[A-Z0-9`])")
+# A line of a comment, and its words.
+COMMENT = re.compile(r"\s*(?://[/!]?|--)(?!-)\s?(.*)")
 # The dot behind these ends none.
 SHORT = re.compile(r"\b(et al|e\.g|i\.e|cf)\.")
 
@@ -37,9 +40,35 @@ def blocks(parts):
             text.append(item[1] if item else line.strip())
 
 
+def comments(text):
+    """The paragraphs of a file's comments, each with the number of its first line."""
+    block, began = [], 0
+    for number, line in enumerate([*text.split("\n"), ""], 1):
+        found = COMMENT.match(line)
+        words = found[1].strip() if found else ""
+        if block and (not words or words.startswith(("- ", "|"))):
+            yield began, " ".join(block)
+            block = []
+        if words and not words.startswith("|"):
+            began = began if block else number
+            block.append(words)
+
+
+def wrong():
+    """Each sentence of a comment of code or of a definition that is too long, as another line of a page that is wrong."""
+    for path in sorted(glob.glob("crates/*/src/*.rt") + glob.glob("crates/*/specs/*.antt")):
+        with open(path, encoding="utf-8") as file:
+            yield from ((path, *found) for found in long_ones(comments(file.read())))
+
+
 def long_sentences(parts):
-    """Each sentence that is too long: the line where its block begins, and what to say."""
-    for number, block in blocks(parts):
+    """Each sentence of a page that is too long: the line where its block begins, and what to say."""
+    return long_ones(blocks(parts))
+
+
+def long_ones(numbered):
+    """The sentences of these blocks that are too long."""
+    for number, block in numbered:
         for sentence in END.split(plain(block)):
             words = [word for word in sentence.split() if re.search(r"\w", word)]
             if len(words) > MOST:

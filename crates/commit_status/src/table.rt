@@ -239,9 +239,9 @@ impl StatusTable {
         self.entries.parent(place)
     }
 
-    /// The first ancestor of an id that is before the window if there is one, else its topmost ancestor: itself
+    /// The first ancestor of an id that is before the window if there is one, else its topmost ancestor. It is the id itself
     /// where it has no parent that is remembered.
-    // (few ids have a parent, so readers ask for this seldom)
+    // (Few ids have a parent, so readers ask for this seldom.)
     #[inline(never)]
     pub fn top_of(&self, x: Xid) -> Xid
         ensures value { result.0 ≡ top_of self.now x.0 }

@@ -132,8 +132,8 @@ fn number_after(page: &Page, number: u16, before: Xid, known: Xid) -> u16
     page.next_unlike(number + 1, known)
 }
 
-/// From which turn on a version of a page may be dead: None where one is dead at this horizon, else the earliest turn of a
-/// deleter that is remembered, or that of the next id where there is none. As long as the horizon has not come past that
+/// From which turn on a version of a page may be dead. It is None where one is dead at this horizon. Else it is the earliest turn
+/// of a deleter that is remembered, or that of the next id where there is none. As long as the horizon has not come past that
 /// turn, and none of the inserters is rolled back, no version is dead. It takes no memory.
 pub fn first_death(page: &Page, statuses: &StatusTable, horizon: Xid) -> Option<u32>
     ensures { MatchOption result (HasDead statuses.now horizon.0 page.now.slots)

@@ -29,8 +29,8 @@ impl SessionEngine {
     }
 
     /// Makes the index by a column, of the rows that are current, unless it is there. Sessions that are open by snapshot may not scan
-    /// it. Refusals in order: NoSuchIndex; IndexBusy, while an open session has an id, be it failed or all rolled back; and NoMemory,
-    /// which changes nothing, and comes only where a row is current.
+    /// it. Refusals in order: NoSuchIndex, IndexBusy, NoMemory. IndexBusy comes while an open session has an id, be it failed or all
+    /// rolled back. NoMemory changes nothing, and comes only where a row is current.
     pub fn make_index(&mut self, column: u8) -> Result<(), Refusal>
         ensures { MatchResult result (λ _. HasOrMakes self.old self.new column)
             (λ refusal. RefusesIndexOn self.old column refusal × (self.new ≡ self.old)) }

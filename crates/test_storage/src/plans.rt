@@ -9,8 +9,8 @@ use std::alloc::Global;
 use tuple_header::{Header, Row, Tuple, fault_of};
 use xid_circle::{Tid, Xid};
 
-/// The inserter and the deleter of a version, the slot of its ctid, and its marks in `mask2` and in `mask`: HOT-updated is 0x4000 and
-/// heap-only 0x8000 in the one, and that nobody deleted it 0x0800 in the other.
+/// The inserter and the deleter of a version, the slot of its ctid, and its marks in `mask2` and in `mask`. HOT-updated is 0x4000 and
+/// heap-only 0x8000 in the one, and that nobody deleted it is 0x0800 in the other.
 type Life = (u32, u32, u16, u16, u16);
 
 static LIVES: [Life; 3] = [
