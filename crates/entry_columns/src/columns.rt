@@ -129,7 +129,7 @@ impl<L: Label> EntryColumns<L> {
         requires in_range { place ≤ length self.old.entries }
         requires few { length self.old.entries < MOST_PARTS }
         requires room { HALF ≤ length self.old.entries → MOST_PARTS ≤ self.old.room }
-        requires fits { Fits L.is_by_key entry }
+        requires fits { Fits L.is_by_key L.is_narrow entry }
         ensures entries { self.new.entries ≡ insert self.old.entries place entry }
         ensures room { self.old.room ≤ self.new.room }
     {
@@ -254,7 +254,7 @@ impl<L: Label> EntryColumns<L> {
 
 /// Whether an entry can be among such columns.
 pub fn fits<L: Label>(entry: &Entry) -> bool
-    ensures { IsTrue result ↔ Fits L.is_by_key entry.now }
+    ensures { IsTrue result ↔ Fits L.is_by_key L.is_narrow entry.now }
 {
     entry.tid.page < PAGES && L::fits(entry.value, entry.key)
 }

@@ -149,7 +149,7 @@ planned-room h n actions within = ap (λ (p : PageView). room_of p.slots) (appli
 
 pub stays-needs : (h : HeapView) (own : Own) (place : Tid) (row : Row) (horizon : ℕ) (actions : List (ℕ × Action)) (heap_only : Bool) → VersionIsThere h place
     → room_of (page_on h place.page).slots < rounded_size_of row → IsPlanOn h place.page horizon actions → rounded_size_of row ≤ room_of (applied actions (page_on h place.page)).slots
-    → (IsTrue heap_only ↔ KeepsValues h place row) → NeedsIds h own ⊎ IsFalse heap_only × NeedsEntry h.indexes
+    → (IsTrue heap_only ↔ KeepsValues h place row) → NeedsIds h own ⊎ IsFalse heap_only × NeedsEntry h.indexes row
     → UpdateNeedsMemory h own place row horizon
 stays-needs h own place row horizon actions heap_only there full plan fits says needs =
     let n = place.page in
@@ -157,14 +157,14 @@ stays-needs h own place row horizon actions heap_only there full plan fits says 
     on_page-needs h (with_applied h n actions) own place row horizon heap_only (planned-readies h place horizon (rounded_size_of row) actions within full plan)
     (subst (λ room. rounded_size_of row ≤ room) (sym (planned-room h n actions within)) fits) says needs
 
-pub moves-needs : (h : HeapView) (own : Own) (place : Tid) (row : Row) (horizon size : ℕ) (actions : List (ℕ × Action)) → VersionIsThere h place
+pub moves-needs : (h : HeapView) (own : Own) (place : Tid) (row : Row) (horizon : ℕ) (actions : List (ℕ × Action)) → VersionIsThere h place
     → room_of (page_on h place.page).slots < rounded_size_of row → IsPlanOn h place.page horizon actions → room_of (applied actions (page_on h place.page)).slots < rounded_size_of row
-    → size ≡ rounded_size_of row → RootNeedsMemory h own size → UpdateNeedsMemory h own place row horizon
-moves-needs h own place row horizon size actions there full plan still is needs =
+    → RootNeedsMemory h own row → UpdateNeedsMemory h own place row horizon
+moves-needs h own place row horizon actions there full plan still needs =
     let n = place.page in
     let within = there-within h place there in
     UpdateNeedsMemory.for_root (with_applied h n actions) (planned-readies h place horizon (rounded_size_of row) actions within full plan)
-    (subst (λ room. room < rounded_size_of row) (sym (planned-room h n actions within)) still) (subst (λ size. RootNeedsMemory h own size) is needs)
+    (subst (λ room. room < rounded_size_of row) (sym (planned-room h n actions within)) still) needs
 
 -- What stays on the page.
 
@@ -207,10 +207,10 @@ pub left-readies : (h h1 : HeapView) (place : Tid) (horizon size : ℕ) → Keep
 left-readies h h1 place horizon size keeps there full (inl plan) = is_pruned full h1 keeps (kept-prunes h h1 place horizon keeps there plan)
 left-readies h h1 place horizon size keeps there full (inr goes) = is_left full goes keeps
 
-pub left-needs : (h : HeapView) (own : Own) (place : Tid) (row : Row) (horizon size : ℕ) → VersionIsThere h place → room_of (page_on h place.page).slots < rounded_size_of row
-    → IsLeftAlone h place horizon → size ≡ rounded_size_of row → RootNeedsMemory h own size → UpdateNeedsMemory h own place row horizon
-left-needs h own place row horizon size there full left is needs =
-    UpdateNeedsMemory.for_root h (left-readies h h place horizon (rounded_size_of row) (keeps-all h) there full left) full (subst (λ size. RootNeedsMemory h own size) is needs)
+pub left-needs : (h : HeapView) (own : Own) (place : Tid) (row : Row) (horizon : ℕ) → VersionIsThere h place → room_of (page_on h place.page).slots < rounded_size_of row
+    → IsLeftAlone h place horizon → RootNeedsMemory h own row → UpdateNeedsMemory h own place row horizon
+left-needs h own place row horizon there full left needs =
+    UpdateNeedsMemory.for_root h (left-readies h h place horizon (rounded_size_of row) (keeps-all h) there full left) full needs
 
 -- What a plan does to the slot of a version.
 

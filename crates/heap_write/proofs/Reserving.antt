@@ -28,9 +28,10 @@ use Rattle.heap_write.proofs.PlaceLemmas.{alike-full, place-set, page-place, new
 
 -- Why memory was needed.
 
-pub needs-memory : (h : HeapView) (own : Own) (size : ℕ) → IsPlaceFor h.pages.pages h.max_pages size to.NewPage → (¬ TableIsFull h size) × RootNeedsMemory h own size
-needs-memory h own size chosen = (
-  λ full. let few = new-place h.pages.pages h.max_pages size chosen in let over = full.all_used in let no : 1 ≤ 0 = omega (arith, few, over) in omega (arith, no),
+pub needs-memory : (h : HeapView) (own : Own) (row : Row) → IsPlaceFor h.pages.pages h.max_pages (rounded_size_of row) to.NewPage
+    → (¬ TableIsFull h (rounded_size_of row)) × RootNeedsMemory h own row
+needs-memory h own row chosen = (
+  λ full. let few = new-place h.pages.pages h.max_pages (rounded_size_of row) chosen in let over = full.all_used in let no : 1 ≤ 0 = omega (arith, few, over) in omega (arith, no),
   RootNeedsMemory.for_page chosen,
 )
 
@@ -43,7 +44,7 @@ room-left h size (New page) chosen full =
 
 -- an insert for which there is room
 pub insert-refused : (h : HeapView) (own : Own) (row : Row) (r : Result Xid WriteFault) → ¬ NeedsFreeze h.statuses own → ¬ TableIsFull h (rounded_size_of row)
-    → IfErr r (λ fault. fault ≡ NoMemory) → OnErr r (NeedsEntry h.indexes ⊎ NeedsIds h own) → IfErr r (λ fault. LacksForInsert h own row fault)
+    → IfErr r (λ fault. fault ≡ NoMemory) → OnErr r (NeedsEntry h.indexes row ⊎ NeedsIds h own) → IfErr r (λ fault. LacksForInsert h own row fault)
 insert-refused h own row (Ok x) free room no_memory needs = no_memory
 insert-refused h own row (Err fault) free room no_memory needs =
     subst (λ f. LacksForInsert h own row f) (sym no_memory) (free, room, ⊎_elim RootNeedsMemory.for_entry RootNeedsMemory.for_ids needs)

@@ -124,7 +124,7 @@ answers-elsewhere h grown ready h' own grown_own own' place row horizon (Err f) 
 -- what memory an update on the page asked for
 pub on_page-needs : (h ready : HeapView) (own : Own) (place : Tid) (row : Row) (horizon : ℕ) (heap_only : Bool)
     → PrunesIfFull h ready place horizon (rounded_size_of row) → rounded_size_of row ≤ room_of (page_on ready place.page).slots → (IsTrue heap_only ↔ KeepsValues h place row)
-    → NeedsIds h own ⊎ IsFalse heap_only × NeedsEntry h.indexes → UpdateNeedsMemory h own place row horizon
+    → NeedsIds h own ⊎ IsFalse heap_only × NeedsEntry h.indexes row → UpdateNeedsMemory h own place row horizon
 on_page-needs h ready own place row horizon heap_only readies room says (inl ids) = UpdateNeedsMemory.for_ids ids
 on_page-needs h ready own place row horizon heap_only readies room says (inr entry) =
     UpdateNeedsMemory.for_entry ready readies room (λ keeps. true≢false (sym (says.1 keeps) ∙ entry.0)) entry.1

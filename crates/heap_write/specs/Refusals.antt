@@ -28,16 +28,16 @@ use Rattle.write_ids.specs.Ids.{NeedsFreeze, SameOwn}
 abbrev pub NeedsIds : HeapView → Own → Type 0
 NeedsIds h own = (h.statuses.spare < unassigned_levels own.ids own.saved) ⊎ (own.spare < unassigned_levels own.ids own.saved)
 
--- something has to grow for a new root: the ids, the list of pages, or an index
-pub data RootNeedsMemory (h : HeapView) (own : Own) (size : ℕ) : Type 0 where
-  for_ids : NeedsIds h own → RootNeedsMemory h own size
-  for_page : IsPlaceFor h.pages.pages h.max_pages size NewPage → RootNeedsMemory h own size
-  for_entry : NeedsEntry h.indexes → RootNeedsMemory h own size
+-- something has to grow for a new root of the row: the ids, the list of pages, or an index
+pub data RootNeedsMemory (h : HeapView) (own : Own) (row : Row) : Type 0 where
+  for_ids : NeedsIds h own → RootNeedsMemory h own row
+  for_page : IsPlaceFor h.pages.pages h.max_pages (rounded_size_of row) NewPage → RootNeedsMemory h own row
+  for_entry : NeedsEntry h.indexes row → RootNeedsMemory h own row
 
 abbrev pub LacksForInsert : HeapView → Own → Row → WriteFault → Type 0
 LacksForInsert h own row fault.NeedsFreeze = NeedsFreeze h.statuses own
 LacksForInsert h own row fault.NoRoom = (¬ NeedsFreeze h.statuses own) × TableIsFull h (rounded_size_of row)
-LacksForInsert h own row fault.NoMemory = (¬ NeedsFreeze h.statuses own) × (¬ TableIsFull h (rounded_size_of row)) × RootNeedsMemory h own (rounded_size_of row)
+LacksForInsert h own row fault.NoMemory = (¬ NeedsFreeze h.statuses own) × (¬ TableIsFull h (rounded_size_of row)) × RootNeedsMemory h own row
 
 -- a version is at the place
 abbrev pub VersionIsThere : HeapView → Tid → Type 0
@@ -49,10 +49,10 @@ VersionIsThere h place = IsNormalAt (page_on h place.page).slots place.slot
 pub data UpdateNeedsMemory (h : HeapView) (own : Own) (place : Tid) (row : Row) (horizon : ℕ) : Type 0 where
   for_ids : NeedsIds h own → UpdateNeedsMemory h own place row horizon
   for_entry : (ready : HeapView) → PrunesIfFull h ready place horizon (rounded_size_of row)
-      → rounded_size_of row ≤ room_of (page_on ready place.page).slots → ¬ KeepsValues h place row → NeedsEntry h.indexes
+      → rounded_size_of row ≤ room_of (page_on ready place.page).slots → ¬ KeepsValues h place row → NeedsEntry h.indexes row
       → UpdateNeedsMemory h own place row horizon
   for_root : (ready : HeapView) → PrunesIfFull h ready place horizon (rounded_size_of row)
-      → room_of (page_on ready place.page).slots < rounded_size_of row → RootNeedsMemory h own (rounded_size_of row)
+      → room_of (page_on ready place.page).slots < rounded_size_of row → RootNeedsMemory h own row
       → UpdateNeedsMemory h own place row horizon
 
 -- the page of the old version was made ready, the version is still there, and no page has room for the new one

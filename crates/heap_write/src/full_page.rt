@@ -93,7 +93,7 @@ impl HeapState {
         ensures { (horizon : ℕ) → IsLeftAlone self.old place horizon
             → AnswersUpdate self.old self.new own.old own.new place row.now horizon result }
     {
-        let reserved = self.reserve_root(own, row_size(row));
+        let reserved = self.reserve_root(own, row);
         self.statuses.fact_window();
         match reserved {
             Ok(target) => self.update_elsewhere(own, place, row, target),
@@ -118,7 +118,7 @@ impl HeapState {
             → AnswersUpdate self.old self.new own.old own.new place row.now horizon result }
     {
         let heap_only = self.keeps_values(place, row);
-        let reserved = self.reserve_ids_for(own, heap_only);
+        let reserved = self.reserve_ids_for(own, heap_only, row);
         self.statuses.fact_window();
         match reserved {
             Ok(()) if heap_only => Ok(self.hot_update_on_pruned(own, place, row, actions)),
@@ -174,7 +174,7 @@ impl HeapState {
         ensures { (horizon : ℕ) → IsPlanOn self.old place.page horizon actions.now
             → AnswersUpdate self.old self.new own.old own.new place row.now horizon result }
     {
-        let reserved = self.reserve_root(own, row_size(row));
+        let reserved = self.reserve_root(own, row);
         self.statuses.fact_window();
         match reserved {
             Ok(target) => {
@@ -185,28 +185,28 @@ impl HeapState {
         }
     }
 
-    /// Makes room in memory for a new root of this size, with its entries and an id for each level that lacks one, and answers where it
+    /// Makes room in memory for a new root of this row, with its entries and an id for each level that lacks one, and answers where it
     /// goes, if anywhere.
-    fn reserve_root(&mut self, own: &mut OwnIds, size: usize) -> Result<Option<Target>, AllocError>
-        requires { size ≤ 8164 }
+    fn reserve_root(&mut self, own: &mut OwnIds, row: &Row) -> Result<Option<Target>, AllocError>
         ensures keeps { Keeps self.old self.new }
         ensures none { unassigned_levels own.old.ids own.old.saved ≡ 0
             → self.new.statuses ≡ self.old.statuses }
         ensures own { SameOwn own.old own.new }
         ensures has_ids { OnOk result (HasIds self.new.statuses own.new) }
-        ensures has_entries { OnOk result (HasEntries self.new.indexes) }
-        ensures chosen { IfOk result (λ found. IsChosen self.new size found) }
+        ensures has_entries { OnOk result (HasEntries self.new.indexes row.now) }
+        ensures chosen { IfOk result (λ found. IsChosen self.new (rounded_size_of row.now) found) }
         ensures ready { IfOk result
-            (λ found. IfSome found (λ target. IsReserved self.new.pages size target)) }
-        ensures needs { OnErr result (RootNeedsMemory self.old own.old size) }
+            (λ found. IfSome found
+            (λ target. IsReserved self.new.pages (rounded_size_of row.now) target)) }
+        ensures needs { OnErr result (RootNeedsMemory self.old own.old row.now) }
     {
         reserve_ids(&mut self.statuses, own)?;
-        self.indexes.make_room()?;
+        self.indexes.make_room(row)?;
         reserve_place(
             self.alloc,
             &mut self.pages,
             &mut self.hints,
-            size,
+            row_size(row),
             self.max_pages,
         )
     }
@@ -221,7 +221,7 @@ impl HeapState {
     ) -> Answer
         requires may { IsReplaceable self.old own.old place }
         requires has_ids { HasIds self.old.statuses own.old }
-        requires has_entries { HasEntries self.old.indexes }
+        requires has_entries { HasEntries self.old.indexes row.now }
         requires room { room_of (page_on self.old place.page).slots < rounded_size_of row.now }
         requires chosen { IsChosen self.old (rounded_size_of row.now) target }
         requires ready { IfSome target

@@ -65,14 +65,15 @@ impl HeapState {
             (λ x. PutsRoot self.old self.new false x.0 row.now
             (target_number self.old.pages.pages target)) }
         ensures max_pages { self.new.max_pages ≡ self.old.max_pages }
-        ensures needs { OnErr result (NeedsEntry self.old.indexes ⊎ NeedsIds self.old own.old) }
+        ensures needs { OnErr result
+            (NeedsEntry self.old.indexes row.now ⊎ NeedsIds self.old own.old) }
         ensures fault { IfErr result (λ fault. fault ≡ WriteFault.NoMemory) }
         ensures err { OnErr result (Keeps self.old self.new) }
         ensures own { OnErr result (SameOwn own.old own.new) }
         ensures window { IsWindow self.new.statuses }
         ensures normal { IfOk result (λ x. IsNormal x.0) }
     {
-        if self.indexes.make_room().is_err() || reserve_ids(&mut self.statuses, own).is_err() {
+        if self.indexes.make_room(row).is_err() || reserve_ids(&mut self.statuses, own).is_err() {
             self.statuses.fact_window();
             return Err(WriteFault::NoMemory);
         }
@@ -85,7 +86,7 @@ impl HeapState {
     pub(crate) fn put_root(&mut self, target: Target, updated: bool, x: Xid, row: &Row) -> Tid
         requires normal { IsNormal x.0 }
         requires ready { IsReserved self.old.pages (rounded_size_of row.now) target }
-        requires entries { HasEntries self.old.indexes }
+        requires entries { HasEntries self.old.indexes row.now }
         ensures root { PutsRoot self.old self.new updated x.0 row.now result.page }
         ensures page { result.page ≡ target_number self.old.pages.pages target }
         ensures slot { result.slot ≡ free_number (page_on self.old result.page).slots }

@@ -64,7 +64,7 @@ impl HeapState {
         if needs_freeze(&self.statuses, own) {
             return Err(WriteFault::NeedsFreeze);
         }
-        let reserved = self.reserve_ids_for(own, keeps_values);
+        let reserved = self.reserve_ids_for(own, keeps_values, row);
         self.statuses.fact_window();
         match reserved {
             Ok(()) if keeps_values => Ok(self.write_hot_update(own, place, row)),
@@ -99,6 +99,7 @@ impl HeapState {
         &mut self,
         own: &mut OwnIds,
         heap_only: bool,
+        row: &Row,
     ) -> Result<(), AllocError>
         ensures keeps { Keeps self.old self.new }
         ensures pages { self.new.pages ≡ self.old.pages }
@@ -106,12 +107,13 @@ impl HeapState {
             → self.new.statuses ≡ self.old.statuses }
         ensures own { SameOwn own.old own.new }
         ensures has_ids { OnOk result (HasIds self.new.statuses own.new) }
-        ensures has_entries { OnOk result (IsFalse heap_only → HasEntries self.new.indexes) }
+        ensures has_entries { OnOk result
+            (IsFalse heap_only → HasEntries self.new.indexes row.now) }
         ensures needs { OnErr result
-            (NeedsIds self.old own.old ⊎ IsFalse heap_only × NeedsEntry self.old.indexes) }
+            (NeedsIds self.old own.old ⊎ IsFalse heap_only × NeedsEntry self.old.indexes row.now) }
     {
         reserve_ids(&mut self.statuses, own)?;
-        self.indexes.make_room_for(heap_only)
+        self.indexes.make_room_for(heap_only, row)
     }
 
     /// Replaces a version by a heap-only one on its page, which has room for it.
@@ -140,7 +142,7 @@ impl HeapState {
     ) -> Xid
         requires may { IsReplaceable self.old own.old place }
         requires has_ids { HasIds self.old.statuses own.old }
-        requires has_entries { HasEntries self.old.indexes }
+        requires has_entries { HasEntries self.old.indexes row.now }
         requires ready { IsReserved self.old.pages (rounded_size_of row.now) target }
         ensures under { IsDoneUnder self.old self.new own.old own.new result.0 }
         ensures replaces { ColdUpdates self.old self.new place result.0 row.now

@@ -63,7 +63,7 @@ impl<L: Label> Node for Leaf<L> {
 
     ghost long = { long_leaves };
 
-    ghost Fits = { Fits L.is_by_key };
+    ghost Fits = { Fits L.is_by_key L.is_narrow };
 
     ghost IsNeat = { λ l. Unit {0} };
 

@@ -1,5 +1,5 @@
 -- Lists of entries that hold the same, whatever their order.
-use Rattle.std.proofs.Common.{◌≡◌, ◌⊎◌, Bool, false, get_or, ℕ, ◌+◌, ◌<◌, ◌≤◌, inl, inr, List, [], ◌∷◌, ◌++◌, length, Some, sym, ap, ◌∙◌, subst, ⊎_elim, arith, slice_get}
+use Rattle.std.proofs.Common.{◌≡◌, ◌⊎◌, false, get_or, ℕ, ◌+◌, ◌<◌, ◌≤◌, inl, inr, List, [], ◌∷◌, ◌++◌, length, Some, sym, ap, ◌∙◌, subst, ⊎_elim, arith, slice_get}
 use Rattle.std.specs.List.{Contains}
 use Rattle.std.specs.Prelude.{IsPermutation}
 use Rattle.std.proofs.lemmas.List.Sorted.{Contains-permutation, IsPermutation-sym}
@@ -69,8 +69,8 @@ unsorted batch sorted rest both moved has x = (
 )
 
 -- each of its entries can be in the index
-pub each-fits : (batch : List Entry) (i : ℕ) (x : Entry) (is_by_key : Bool) → AllFitColumn batch → i < length batch → is_by_key ≡ false → Fits is_by_key (get_or batch i x)
-each-fits batch i x is_by_key fit within kind = subst (λ k. Fits k (get_or batch i x)) (sym kind) (All-get_or (Fits false) batch i x within fit)
+pub each-fits : (batch : List Entry) (i : ℕ) (x : Entry) → AllFitColumn batch → i < length batch → Fits false false (get_or batch i x)
+each-fits batch i x fit within = All-get_or (Fits false false) batch i x within fit
 
 -- Its entries are inserted, as far as this place.
 

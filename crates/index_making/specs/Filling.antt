@@ -22,4 +22,4 @@ HoldsEntry entries = (x : Entry) × Contains entries x
 
 -- all fit an index by a column
 abbrev pub AllFitColumn : List Entry → Type 0
-AllFitColumn entries = All (Fits false) entries
+AllFitColumn entries = All (Fits false false) entries

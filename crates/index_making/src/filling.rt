@@ -1,6 +1,7 @@
 //! An index that is filled with entries in any order.
 
 ghost use Rattle.std.specs.Prelude.{◌≡◌, [], false, IfOk, OnOk, OnErr};
+ghost use Rattle.index_entries.specs.Sets.{AddsEntry};
 ghost use Rattle.entry_columns.specs.Fits.{Fits};
 ghost use Rattle.index_making.specs.Filling.{AllFitColumn, Joins, HasBoth, HaveSame, HoldsEntry};
 
@@ -37,14 +38,14 @@ impl Filling {
         ensures { result ≡ [] }
     {
         Filling {
-            index: RootIndex::new(alloc),
+            index: RootIndex::narrow(alloc),
             batch: Vec::new(alloc),
         }
     }
 
     /// Adds an entry.
     pub(crate) fn add(&mut self, entry: Entry) -> Result<(), AllocError>
-        requires { Fits false entry }
+        requires { Fits false false entry }
         ensures { OnOk result (Joins self.old self.new entry) }
     {
         self.insert_full_batch()?;
@@ -99,7 +100,18 @@ fn insert_each(index: &mut RootIndex, batch: &[Entry]) -> Result<(), AllocError>
     ensures refused { OnErr result (HoldsEntry batch.now) }
 {
     for i in 0..batch.len() {
-        index.insert(batch[i])?;
+        insert_one(index, batch[i])?;
     }
     Ok(())
+}
+
+/// Inserts an entry. A narrow index that can't have it is widened.
+fn insert_one(index: &mut RootIndex, entry: Entry) -> Result<(), AllocError>
+    requires kind { index.old.is_by_key ≡ false }
+    requires fits { Fits false false entry }
+    ensures adds { OnOk result (AddsEntry index.old.entries index.new.entries entry) }
+    ensures kind { index.new.is_by_key ≡ false }
+{
+    index.widen_for(entry.value, entry.key)?;
+    index.insert(entry)
 }

@@ -123,7 +123,7 @@ fn entry_of(row: &RowRef<'_>, column: u8, place: Tid) -> Entry
     requires column { column < COLUMNS }
     requires page { place.page < PAGES }
     ensures entry { result ≡ index_entry_of (suc column) row.now place }
-    ensures fits { Fits false result }
+    ensures fits { Fits false false result }
 {
     Entry {
         value: row.cols()[column as usize] as i128,

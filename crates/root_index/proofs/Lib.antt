@@ -1,3 +1,4 @@
 pub mod FullLemmas
 pub mod SoundLemmas
 pub mod SweepLemmas
+pub mod WideningLemmas

@@ -3,3 +3,4 @@ pub mod Pieces
 pub mod Rows
 pub mod Trees
 pub mod View
+pub mod Widening

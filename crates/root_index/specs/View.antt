@@ -13,6 +13,8 @@ pub record IndexView : Type 0 where
   pub nodes : ℕ
   -- whether the value of each entry is its key
   pub is_by_key : Bool
+  -- whether it is by a column, and takes values and keys of 32 bits alone
+  pub is_narrow : Bool
 
 -- Where there are fewer than 128 entries no node is full, and the one leaf that may lack places gets those that are kept ready. Without any
 -- entry that is so if nodes are set aside, for these are taken first.

@@ -71,6 +71,7 @@ impl<L: Label> Model for Index<L> {
       spare = x.promised;
       nodes = nodes_of x.trees.items;
       is_by_key = L.is_by_key;
+      is_narrow = L.is_narrow;
     } };
 
     ghost invariant = { λ x. IsSoundIndex x.trees.items (record {
@@ -86,7 +87,9 @@ impl<L: Label> Index<L> {
     /// An index without entries.
     pub(crate) fn new(alloc: Global) -> Self
         ensures none { result.entries ≡ [] }
+        ensures spare { result.spare ≡ 0 }
         ensures kind { result.is_by_key ≡ L.is_by_key }
+        ensures narrow { result.is_narrow ≡ L.is_narrow }
     {
         Index {
             trees: Vec::new(alloc),
@@ -98,6 +101,19 @@ impl<L: Label> Index<L> {
             promised: 0,
             expected: None,
         }
+    }
+
+    /// What it takes memory from. (The trees are private to this type.)
+    pub(crate) fn allocator(&self) -> Global {
+        *self.trees.allocator()
+    }
+
+    /// That its kind is that of its labels. It does nothing; its contract is the fact.
+    pub(crate) fn fact_kind(&self)
+        ensures kind { self.now.is_by_key ≡ L.is_by_key }
+        ensures narrow { self.now.is_narrow ≡ L.is_narrow }
+    {
+        let _count = self.count;
     }
 
     /// The number of entries.
@@ -123,6 +139,7 @@ impl<L: Label> Index<L> {
         ensures spare { self.old.spare ≤ self.new.spare }
         ensures entries { self.new.entries ≡ self.old.entries }
         ensures kind { self.new.is_by_key ≡ self.old.is_by_key }
+        ensures narrow { self.new.is_narrow ≡ self.old.is_narrow }
         ensures err { OnErr result (self.new ≡ self.old) }
     {
         // so most of the time: only a split uses up what was set aside
@@ -144,6 +161,7 @@ impl<L: Label> Index<L> {
         ensures spare { self.old.spare ≤ self.new.spare }
         ensures entries { self.new.entries ≡ self.old.entries }
         ensures kind { self.new.is_by_key ≡ self.old.is_by_key }
+        ensures narrow { self.new.is_narrow ≡ self.old.is_narrow }
         ensures err { OnErr result (self.new ≡ self.old) }
     {
         // so many more could not be counted
@@ -159,7 +177,7 @@ impl<L: Label> Index<L> {
 
     /// Whether this entry can be in the index: its kind is known here alone.
     pub(crate) fn fits(&self, entry: &Entry) -> bool
-        ensures { IsTrue result ↔ Fits self.now.is_by_key entry.now }
+        ensures { IsTrue result ↔ Fits self.now.is_by_key self.now.is_narrow entry.now }
     {
         let _count = self.count;
         fits::<L>(entry)
@@ -170,8 +188,9 @@ impl<L: Label> Index<L> {
     /// entries could not be counted any more. In both the entries stay as they were. The room that was made for others is kept where no
     /// node is split, and no leaf outgrows its places.
     pub(crate) fn insert(&mut self, entry: Entry) -> Result<(), AllocError>
-        requires { Fits self.old.is_by_key entry }
+        requires { Fits self.old.is_by_key self.old.is_narrow entry }
         ensures kind { self.new.is_by_key ≡ self.old.is_by_key }
+        ensures narrow { self.new.is_narrow ≡ self.old.is_narrow }
         ensures adds { OnOk result (AddsEntry self.old.entries self.new.entries entry) }
         ensures spare { OnOk result (self.old.spare ≤ self.new.spare + 1) }
         ensures room { OnOk result (room_in self.old ≤ room_in self.new + 1) }
@@ -264,6 +283,7 @@ impl<L: Label> Index<L> {
         ensures spare { self.old.spare ≤ self.new.spare }
         ensures room { room_in self.old ≤ room_in self.new }
         ensures kind { self.new.is_by_key ≡ self.old.is_by_key }
+        ensures narrow { self.new.is_narrow ≡ self.old.is_narrow }
     {
         let position = look_ups::position_near(&self.trees, from, near.position);
         match nodes::sweep_from(&mut self.trees, &mut self.spares, position, dead) {

@@ -15,6 +15,7 @@
 
 mod index;
 mod look_ups;
+mod narrow;
 mod progress;
 mod root;
 

@@ -4,14 +4,16 @@ ghost use Rattle.std.specs.Prelude.{◌≡◌, ◌↔◌, ◌<◌, ◌≤◌, �
 ghost use Rattle.std.specs.Option.{option_map};
 ghost use Rattle.index_entries.specs.Order.{IsAscending};
 ghost use Rattle.index_entries.specs.Sets.{AddsEntry, IsLeast, IsAfter, IsBelow, IsLastOf};
-ghost use Rattle.entry_columns.specs.Fits.{Fits};
-ghost use Rattle.root_index.specs.View.{room_in};
+ghost use Rattle.index_entries.specs.declared.node.TheConstants.{MOST_PARTS};
+ghost use Rattle.entry_columns.specs.Fits.{Fits, FitsLabel};
+ghost use Rattle.root_index.specs.View.{free_places, room_in};
 ghost use Rattle.root_index.specs.Pieces.{RemovesPiece};
 
 use crate::index::{Index, LookUp, PositionHint};
+use crate::narrow::NarrowIndex;
 use crate::progress::Progress;
 use dead_places::DeadSet;
-use entry_columns::{ColumnLabel, KeyLabel};
+use entry_columns::{ColumnLabel, KeyLabel, Label, NarrowLabel};
 use index_entries::Entry;
 use std::alloc::{AllocError, Global};
 use std::marker::Model;
@@ -22,11 +24,12 @@ pub struct RootIndex {
     kind: Kind,
 }
 
-/// The two kinds of index. What differs is how many bytes an entry has. It is private, so each call of a [`RootIndex`] finds the
-/// kind, and goes on to its own.
+/// The kinds of index. What differs is how many bytes an entry has. It is private, so each call of a [`RootIndex`] finds the kind, and goes
+/// on to its own.
 #[derive(Debug, Drop)]
 enum Kind {
     ByKey(Index<KeyLabel>),
+    Narrow(NarrowIndex),
     ByColumn(Index<ColumnLabel>),
 }
 
@@ -45,9 +48,22 @@ impl RootIndex {
     pub fn new(alloc: Global) -> Self
         ensures none { result.entries ≡ [] }
         ensures kind { result.is_by_key ≡ false }
+        ensures narrow { result.is_narrow ≡ false }
     {
         RootIndex {
             kind: Kind::ByColumn(Index::new(alloc)),
+        }
+    }
+
+    /// A narrow index by a column, without entries: it takes values and keys of 32 bits, an entry in 12 bytes, where one that takes any
+    /// has 20.
+    pub fn narrow(alloc: Global) -> Self
+        ensures none { result.entries ≡ [] }
+        ensures kind { result.is_by_key ≡ false }
+        ensures narrow { result.is_narrow ≡ true }
+    {
+        RootIndex {
+            kind: Kind::Narrow(NarrowIndex::new(alloc)),
         }
     }
 
@@ -55,6 +71,7 @@ impl RootIndex {
     pub fn by_key(alloc: Global) -> Self
         ensures none { result.entries ≡ [] }
         ensures kind { result.is_by_key ≡ true }
+        ensures narrow { result.is_narrow ≡ false }
     {
         RootIndex {
             kind: Kind::ByKey(Index::new(alloc)),
@@ -67,6 +84,7 @@ impl RootIndex {
     {
         match &self.kind {
             Kind::ByKey(index) => index.len(),
+            Kind::Narrow(index) => index.entries().len(),
             Kind::ByColumn(index) => index.len(),
         }
     }
@@ -77,6 +95,7 @@ impl RootIndex {
     {
         match &self.kind {
             Kind::ByKey(index) => index.fact_ascending(),
+            Kind::Narrow(index) => index.entries().fact_ascending(),
             Kind::ByColumn(index) => index.fact_ascending(),
         }
     }
@@ -90,21 +109,55 @@ impl RootIndex {
         ensures spare { self.old.spare ≤ self.new.spare }
         ensures entries { self.new.entries ≡ self.old.entries }
         ensures kind { self.new.is_by_key ≡ self.old.is_by_key }
+        ensures narrow { self.new.is_narrow ≡ self.old.is_narrow }
         ensures err { OnErr result (self.new ≡ self.old) }
     {
         match &mut self.kind {
             Kind::ByKey(index) => index.make_room(count),
+            Kind::Narrow(index) => index.make_room(count),
             Kind::ByColumn(index) => index.make_room(count),
         }
     }
 
-    /// Whether this entry can be in the index. In one by key its value is its key, in another its value is one of 64 bits, with a sign.
-    /// In both its place is on one of the first 65,536 pages.
+    /// Makes an index by a column take entries of this value and this key. Where it is narrow, and they are not, it is so no more, and each
+    /// entry has 20 bytes. All entries move for that, and the index takes twice as much meanwhile. Memory is refused only where there are
+    /// 128 or more, and then all is as it was. Of the room that was made for more entries no more is kept than any index of so many has.
+    pub fn widen_for(&mut self, value: i128, key: u64) -> Result<(), AllocError>
+        ensures fits { OnOk result (FitsLabel self.old.is_by_key false value key
+            → FitsLabel self.new.is_by_key self.new.is_narrow value key) }
+        ensures entries { self.new.entries ≡ self.old.entries }
+        ensures kind { self.new.is_by_key ≡ self.old.is_by_key }
+        ensures same { FitsLabel self.old.is_by_key self.old.is_narrow value key
+            → self.new ≡ self.old }
+        ensures room { OnOk result
+            (free_places (length self.old.entries) self.old.spare ≤ room_in self.new) }
+        ensures refused { OnErr result ((MOST_PARTS ≤ length self.old.entries)
+            × ¬ FitsLabel self.old.is_by_key self.old.is_narrow value key) }
+        ensures err { OnErr result (self.new ≡ self.old) }
+    {
+        match &mut self.kind {
+            Kind::Narrow(index) => {
+                index.fact_kind();
+                if NarrowLabel::fits(value, key) {
+                    return Ok(());
+                }
+                let wide = index.take_wide()?;
+                self.kind = Kind::ByColumn(wide);
+            }
+            Kind::ByKey(index) => index.fact_kind(),
+            Kind::ByColumn(index) => index.fact_kind(),
+        }
+        Ok(())
+    }
+
+    /// Whether this entry can be in the index. In one by key its value is its key, in another its value is one of 64 bits, with a sign,
+    /// and in a narrow one both are of 32. Its place is on one of the first 65,536 pages.
     pub fn fits(&self, entry: &Entry) -> bool
-        ensures { IsTrue result ↔ Fits self.now.is_by_key entry.now }
+        ensures { IsTrue result ↔ Fits self.now.is_by_key self.now.is_narrow entry.now }
     {
         match &self.kind {
             Kind::ByKey(index) => index.fits(entry),
+            Kind::Narrow(index) => index.entries().fits(entry),
             Kind::ByColumn(index) => index.fits(entry),
         }
     }
@@ -114,7 +167,7 @@ impl RootIndex {
     /// other the entries could not be counted any more. In both the entries stay as they were. The room that was made for others is kept
     /// where no node is split, and no leaf outgrows its places.
     pub fn insert(&mut self, entry: Entry) -> Result<(), AllocError>
-        requires { Fits self.old.is_by_key entry }
+        requires { Fits self.old.is_by_key self.old.is_narrow entry }
         ensures adds { OnOk result (AddsEntry self.old.entries self.new.entries entry) }
         ensures spare { OnOk result (self.old.spare ≤ self.new.spare + 1) }
         ensures room { OnOk result (room_in self.old ≤ room_in self.new + 1) }
@@ -126,9 +179,11 @@ impl RootIndex {
         ensures memory { OnErr result ((room_in self.old ≡ 0) × ¬ Contains self.old.entries entry) }
         ensures err { OnErr result (self.new.entries ≡ self.old.entries) }
         ensures kind { self.new.is_by_key ≡ self.old.is_by_key }
+        ensures narrow { self.new.is_narrow ≡ self.old.is_narrow }
     {
         match &mut self.kind {
             Kind::ByKey(index) => index.insert(entry),
+            Kind::Narrow(index) => index.insert(entry),
             Kind::ByColumn(index) => index.insert(entry),
         }
     }
@@ -139,6 +194,7 @@ impl RootIndex {
     {
         match &self.kind {
             Kind::ByKey(index) => index.next_after(from),
+            Kind::Narrow(index) => index.entries().next_after(from),
             Kind::ByColumn(index) => index.next_after(from),
         }
     }
@@ -152,6 +208,7 @@ impl RootIndex {
     {
         match &self.kind {
             Kind::ByKey(index) => index.next_near(from, near),
+            Kind::Narrow(index) => index.entries().next_near(from, near),
             Kind::ByColumn(index) => index.next_near(from, near),
         }
     }
@@ -165,6 +222,7 @@ impl RootIndex {
     {
         match &self.kind {
             Kind::ByKey(index) => index.first_from(value, key),
+            Kind::Narrow(index) => index.entries().first_from(value, key),
             Kind::ByColumn(index) => index.first_from(value, key),
         }
     }
@@ -176,6 +234,7 @@ impl RootIndex {
     {
         match &mut self.kind {
             Kind::ByKey(index) => index.expect(near),
+            Kind::Narrow(index) => index.expect(near),
             Kind::ByColumn(index) => index.expect(near),
         }
     }
@@ -194,9 +253,11 @@ impl RootIndex {
         ensures spare { self.old.spare ≤ self.new.spare }
         ensures room { room_in self.old ≤ room_in self.new }
         ensures kind { self.new.is_by_key ≡ self.old.is_by_key }
+        ensures narrow { self.new.is_narrow ≡ self.old.is_narrow }
     {
         match &mut self.kind {
             Kind::ByKey(index) => index.remove_where(dead, from, near),
+            Kind::Narrow(index) => index.remove_where(dead, from, near),
             Kind::ByColumn(index) => index.remove_where(dead, from, near),
         }
     }

@@ -11,9 +11,10 @@ use Rattle.index_entries.specs.declared.entry.Entry.{Entry}
 use Rattle.root_index.specs.declared.progress.Progress.{Progress}
 use Rattle.root_index.specs.Pieces.{RemovesPiece}
 use Rattle.index_entries.specs.Sets.{AddsEntry}
+use Rattle.entry_columns.specs.Fits.{FitsLabel}
 use Rattle.root_index.specs.View.{IndexView, room_in}
 use Rattle.tuple_header.specs.IndexValue.{value_in}
-use Rattle.table_indexes.specs.Indexes.{IndexesView, entries_of, entries_at, SameValues, index_entry_of, SameEntries, AddsAny, Enters, HasEntry, LacksEntry, IsByColumn, AreOfTheirKinds}
+use Rattle.table_indexes.specs.Indexes.{IndexesView, entries_of, entries_at, SameValues, index_entry_of, SameEntries, AddsAny, Enters, without_body, HasEntry, LacksEntry, IsByColumn, AreOfTheirKinds}
 
 -- the index of a number in a list
 abbrev pub listed : List (Option IndexView) → ℕ → Option IndexView
@@ -99,46 +100,58 @@ size-after key cols size = let long : length (key ∷ cols) ≡ suc (length cols
 
 -- Memory.
 
--- there is memory for an entry in the index, which has the entries that it had
-pub record HasRoom (n : ℕ) (before after : Option IndexView) : Type 0 where
-  pub room : HasEntry after
+-- there is memory for the row's entry in the index, which has the entries that it had
+pub record HasRoom (row : Row) (n : ℕ) (before after : Option IndexView) : Type 0 where
+  pub room : HasEntry after (value_in n row) row.key
   pub same : entries_of after ≡ entries_of before
 
-abbrev pub Reserved : List (Option IndexView) → List (Option IndexView) → ℕ → Type 0
-Reserved before after i = Changed HasRoom before after i
+abbrev pub Reserved : Row → List (Option IndexView) → List (Option IndexView) → ℕ → Type 0
+Reserved row before after i = Changed (HasRoom row) before after i
 
-pub reserved-key : (before cols : List (Option IndexView)) (key key' : IndexView) → Some key ∷ cols ≡ before → length cols ≡ 4 → 1 ≤ room_in key' → key'.entries ≡ key.entries
-    → Reserved before (Some key' ∷ cols) (0 + 1)
-reserved-key before cols key key' view_is size room same =
-    changed-key HasRoom before cols (Some key) (Some key') view_is size (record { room = omega (arith, room); same = ap Some same })
+-- what an index takes of a row
+pub value-without_body : (n : ℕ) (row : Row) → value_in n (without_body row.key row.cols) ≡ value_in n row
+value-without_body zero row = refl
+value-without_body (suc c) row = refl
 
-pub reserved-column : (before cols : List (Option IndexView)) (key x index : Option IndexView) (c : ℕ) → c < 4 → Reserved before (key ∷ cols) (c + 1)
-    → HasEntry index → entries_of index ≡ entries_of (get_or cols c x) → Reserved before (key ∷ set cols c index) (c + 1 + 1)
-reserved-column before cols key x index c within reserved room same =
-    changed-column HasRoom before cols key index c within reserved
-    (record { room = room; same = same ∙ ap entries_of (column-at cols c x within (size-after key cols reserved.size)) })
+pub reserved-key : (row : Row) (before cols : List (Option IndexView)) (key key' : IndexView) → Some key ∷ cols ≡ before → length cols ≡ 4 → key'.is_by_key ≡ true → 1 ≤ room_in key'
+    → key'.entries ≡ key.entries → Reserved row before (Some key' ∷ cols) (0 + 1)
+reserved-key row before cols key key' view_is size kind room same =
+    changed-key (HasRoom row) before cols (Some key) (Some key') view_is size (record {
+      room = (omega (arith, room), subst (λ k. FitsLabel k key'.is_narrow (pos row.key) row.key) (sym kind) refl);
+      same = ap Some same;
+    })
+
+pub reserved-column : (row : Row) (before cols : List (Option IndexView)) (key x index : Option IndexView) (value : ℤ) (c : ℕ) → c < 4 → Reserved row before (key ∷ cols) (c + 1)
+    → value ≡ value_in (suc c) row → HasEntry index value row.key → entries_of index ≡ entries_of (get_or cols c x) → Reserved row before (key ∷ set cols c index) (c + 1 + 1)
+reserved-column row before cols key x index value c within reserved is room same =
+    changed-column (HasRoom row) before cols key index c within reserved (record {
+      room = subst (λ v. HasEntry index v row.key) is room;
+      same = same ∙ ap entries_of (column-at cols c x within (size-after key cols reserved.size));
+    })
 
 -- one that lacks it lacked it before
-pub reserved-lacks : (before cols : List (Option IndexView)) (key x : Option IndexView) (c : ℕ) → c < 4 → Reserved before (key ∷ cols) (c + 1)
-    → LacksEntry (get_or cols c x) → (n : ℕ) × LacksEntry (listed before n)
-reserved-lacks before cols key x c within reserved lacks =
-    let one : c + 1 ≡ suc c = omega arith in (
-      c + 1,
-      subst LacksEntry (reserved.rest (c + 1) (omega arith))
-          (subst (λ n. LacksEntry (listed (key ∷ cols) n)) (sym one) (subst LacksEntry (column-at cols c x within (size-after key cols reserved.size)) lacks)),
+pub reserved-lacks : (row : Row) (before cols : List (Option IndexView)) (key x : Option IndexView) (value : ℤ) (c : ℕ) → c < 4 → Reserved row before (key ∷ cols) (c + 1)
+    → value ≡ value_in (suc c) row → LacksEntry (get_or cols c x) value row.key → (n : ℕ) × LacksEntry (listed before n) (value_in n row) row.key
+reserved-lacks row before cols key x value c within reserved is lacks =
+    let one : c + 1 ≡ suc c = omega arith in
+    let found = subst (λ v. LacksEntry (get_or cols c x) v row.key) is lacks in
+    let there = subst (λ o. LacksEntry o (value_in (suc c) row) row.key) (column-at cols c x within (size-after key cols reserved.size)) found in
+    let kept = reserved.rest (c + 1) (omega arith) in (
+      suc c,
+      subst (λ o. LacksEntry o (value_in (suc c) row) row.key) (subst (λ n. listed (key ∷ cols) n ≡ listed before n) one kept) there,
     )
 
 -- so far, and to the end
-pub reserved-all : (before after : List (Option IndexView)) (i : ℕ) → Reserved before after i → (n : ℕ) → entries_of (listed after n) ≡ entries_of (listed before n)
-reserved-all before after i reserved n = elim (cases_lt n i) [
+pub reserved-all : (row : Row) (before after : List (Option IndexView)) (i : ℕ) → Reserved row before after i → (n : ℕ) → entries_of (listed after n) ≡ entries_of (listed before n)
+reserved-all row before after i reserved n = elim (cases_lt n i) [
   | inl lt ↦ (reserved.done n lt).same
   | inr past ↦ ap entries_of (reserved.rest n past)
 ]
 
 -- and with one index more, whose entries are as they were
-pub reserved-column-all : (before cols : List (Option IndexView)) (key x index : Option IndexView) (c : ℕ) → c < 4 → Reserved before (key ∷ cols) (c + 1)
+pub reserved-column-all : (row : Row) (before cols : List (Option IndexView)) (key x index : Option IndexView) (c : ℕ) → c < 4 → Reserved row before (key ∷ cols) (c + 1)
     → entries_of index ≡ entries_of (get_or cols c x) → (n : ℕ) → entries_of (listed (key ∷ set cols c index) n) ≡ entries_of (listed before n)
-reserved-column-all before cols key x index c within reserved same n =
+reserved-column-all row before cols key x index c within reserved same n =
     let kept = changed-column (λ n old new. entries_of new ≡ entries_of old) before cols key index c within
     (record { size = reserved.size; done = λ n lt. (reserved.done n lt).same; rest = reserved.rest })
     (same ∙ ap entries_of (column-at cols c x within (size-after key cols reserved.size))) in
@@ -181,12 +194,15 @@ entered-all row place before after i most entered n = elim (cases_lt n i) [
 ]
 
 -- there is memory for the entry of the next one
-pub entered-room : (row : Row) (place : Tid) (before cols : List (Option IndexView)) (key x : Option IndexView) (c : ℕ) → c < 4 → ((n : ℕ) → HasEntry (listed before n))
-    → Entered row place before (key ∷ cols) (c + 1) → HasEntry (get_or cols c x)
-entered-room row place before cols key x c within room entered =
+pub entered-room : (row : Row) (place : Tid) (before cols : List (Option IndexView)) (key x : Option IndexView) (value read : ℤ) (c : ℕ) → c < 4
+    → ((n : ℕ) → HasEntry (listed before n) (value_in n row) row.key) → Entered row place before (key ∷ cols) (c + 1) → value ≡ value_in (c + 1) row → read ≡ value
+    → HasEntry (get_or cols c x) read row.key
+entered-room row place before cols key x value read c within room entered is same =
     let one : c + 1 ≡ suc c = omega arith in
-    subst HasEntry (sym (column-at cols c x within (size-after key cols entered.size)))
-    (subst (λ n. HasEntry (listed (key ∷ cols) n)) one (subst HasEntry (sym (entered.rest (c + 1) (omega arith))) (room (c + 1))))
+    let there = subst (λ o. HasEntry o (value_in (c + 1) row) row.key) (sym (entered.rest (c + 1) (omega arith))) (room (c + 1)) in
+    subst (λ v. HasEntry (get_or cols c x) v row.key) (sym (same ∙ is))
+    (subst (λ o. HasEntry o (value_in (c + 1) row) row.key) (sym (column-at cols c x within (size-after key cols entered.size)))
+    (subst (λ n. HasEntry (listed (key ∷ cols) n) (value_in (c + 1) row) row.key) one there))
 
 -- Where there is more memory.
 

@@ -1,14 +1,16 @@
 -- The indexes of a table by their numbers: index 0 by key, which is always in use, and index c + 1 by column c. (README.HOT:
 -- there is one entry for a chain, in each index; a version that has another value in one of them is a root of its own.)
-use Rattle.std.specs.Prelude.{◌≡◌, ℕ, zero, suc, ◌+◌, ◌<◌, ◌∷◌, length, Bool, true, false, if◌then◌else◌, List, [], Option, Some, None, IsSome, IfSome, ℤ, option_map, unwrap_or, slice_index_or}
+use Rattle.std.specs.Prelude.{◌≡◌, ◌⊎◌, ℕ, zero, suc, ◌+◌, ◌<◌, ◌≤◌, ◌∷◌, length, Bool, true, false, if◌then◌else◌, List, [], Option, Some, None, IsSome, IfSome, ℤ, option_map, unwrap_or, slice_index_or}
 use Rattle.std.specs.List.{All}
-use Rattle.xid_circle.specs.Numbers.{IndexNo, Count}
+use Rattle.xid_circle.specs.Numbers.{IndexNo, Count, Key}
 use Rattle.xid_circle.specs.declared.Tid.{Tid}
 use Rattle.xid_circle.specs.declared.Xid.{Xid}
 use Rattle.tuple_header.specs.declared.version.Row.{Row}
 use Rattle.snapshot.specs.Snap.{is_before}
 use Rattle.index_entries.specs.declared.entry.Entry.{Entry}
+use Rattle.index_entries.specs.declared.node.TheConstants.{MOST_PARTS}
 use Rattle.index_entries.specs.Sets.{AddsEntry}
+use Rattle.entry_columns.specs.Fits.{FitsLabel}
 use Rattle.root_index.specs.View.{IndexView, room_in}
 use Rattle.tuple_header.specs.IndexValue.{value_in}
 use Rattle.root_index.specs.Rows.{entry_for}
@@ -117,19 +119,22 @@ pub record Enters (indexes indexes' : IndexesView) (row : Row) (place : Tid) : T
 
 -- Memory.
 
--- an entry takes no memory: nodes are set aside for one, or none is full
-abbrev pub HasEntry : Option IndexView → Type 0
-HasEntry None = Unit {0}
-HasEntry (Some index) = 0 < room_in index
+-- an entry of this value and this key takes no memory: it can be in the index, and nodes are set aside for one, or none is full
+abbrev pub HasEntry : Option IndexView → ℤ → Key → Type 0
+HasEntry None value key = Unit {0}
+HasEntry (Some index) value key = (0 < room_in index) × FitsLabel index.is_by_key index.is_narrow value key
 
-abbrev pub HasEntries : IndexesView → Type 0
-HasEntries indexes = (n : ℕ) → HasEntry (index_at indexes n)
+-- one for the row, in each index in use
+abbrev pub HasEntries : IndexesView → Row → Type 0
+HasEntries indexes row = (n : ℕ) → HasEntry (index_at indexes n) (value_in n row) row.key
 
--- it may: none is set aside, and there is no entry, or there are 128 or more
-abbrev pub LacksEntry : Option IndexView → Type 0
-LacksEntry None = ⊥
-LacksEntry (Some index) = room_in index ≡ 0
+-- It may take memory. None is set aside, and there is no entry, or there are 128 or more. Or there are so many, and all have to move: the
+-- index is narrow, and the value or the key is not.
+abbrev pub LacksEntry : Option IndexView → ℤ → Key → Type 0
+LacksEntry None value key = ⊥
+LacksEntry (Some index) value key =
+    (room_in index ≡ 0) ⊎ ((MOST_PARTS ≤ length index.entries) × ¬ FitsLabel index.is_by_key index.is_narrow value key)
 
--- an entry in one of the indexes in use takes memory
-abbrev pub NeedsEntry : IndexesView → Type 0
-NeedsEntry indexes = (n : ℕ) × LacksEntry (index_at indexes n)
+-- an entry for the row takes memory in one of the indexes in use
+abbrev pub NeedsEntry : IndexesView → Row → Type 0
+NeedsEntry indexes row = (n : ℕ) × LacksEntry (index_at indexes n) (value_in n row) row.key

@@ -173,29 +173,29 @@ impl Indexes {
         old.key() == new.key
     }
 
-    /// Makes room in memory for one more entry in each index in use.
-    pub fn make_room(&mut self) -> Result<(), AllocError>
-        ensures room { OnOk result (HasEntries self.new) }
-        ensures refused { OnErr result (NeedsEntry self.old) }
+    /// Makes room in memory for an entry of this row in each index in use. A narrow one that can't have it is widened.
+    pub fn make_room(&mut self, row: &Row) -> Result<(), AllocError>
+        ensures room { OnOk result (HasEntries self.new row.now) }
+        ensures refused { OnErr result (NeedsEntry self.old row.now) }
         ensures same { SameEntries self.old self.new }
     {
         self.by_key.make_room(1)?;
         for c in 0..COLUMNS {
-            reserve_entry(&mut self.by_column[c])?;
+            reserve_entry(&mut self.by_column[c], row.cols[c], row.key)?;
         }
         Ok(())
     }
 
     /// Makes that room for an update, which makes no entry if it is heap-only.
-    pub fn make_room_for(&mut self, heap_only: bool) -> Result<(), AllocError>
-        ensures room { OnOk result (IsFalse heap_only → HasEntries self.new) }
-        ensures refused { OnErr result (IsFalse heap_only × NeedsEntry self.old) }
+    pub fn make_room_for(&mut self, heap_only: bool, row: &Row) -> Result<(), AllocError>
+        ensures room { OnOk result (IsFalse heap_only → HasEntries self.new row.now) }
+        ensures refused { OnErr result (IsFalse heap_only × NeedsEntry self.old row.now) }
         ensures same { SameEntries self.old self.new }
     {
         if heap_only {
             return Ok(());
         }
-        self.make_room()
+        self.make_room(row)
     }
 
     /// Says that the next entry by key goes right before or right behind this position, as [`RootIndex::expect`] does. (The
@@ -209,7 +209,7 @@ impl Indexes {
     /// Adds an entry to each index in use, for a version at a place of a row with this key and these columns. The place is on one
     /// of the first 65,536 pages. It takes no memory.
     pub fn enter(&mut self, key: u64, cols: &[i64; COLUMNS], place: Tid)
-        requires room { HasEntries self.old }
+        requires room { HasEntries self.old (without_body key cols.now) }
         requires page { place.page < PAGES }
         ensures { Enters self.old self.new (without_body key cols.now) place }
     {
@@ -284,33 +284,36 @@ fn index_if(alloc: Global, wanted: bool) -> Option<RootIndex>
     ensures kind { IsByColumn result }
 {
     if wanted {
-        Some(RootIndex::new(alloc))
+        Some(RootIndex::narrow(alloc))
     } else {
         None
     }
 }
 
-/// Makes room in memory for one more entry in an index, if it is in use.
-fn reserve_entry(index: &mut Option<RootIndex>) -> Result<(), AllocError>
-    ensures room { OnOk result (HasEntry index.new) }
-    ensures refused { OnErr result (LacksEntry index.old) }
+/// Makes room in memory for an entry of this value and this key in an index by a column, if it is in use.
+fn reserve_entry(index: &mut Option<RootIndex>, value: i64, key: u64) -> Result<(), AllocError>
+    requires { IsByColumn index.old }
+    ensures room { OnOk result (HasEntry index.new value key) }
+    ensures refused { OnErr result (LacksEntry index.old value key) }
     ensures same { entries_of index.new ≡ entries_of index.old }
-    ensures kind { IsByColumn index.old → IsByColumn index.new }
+    ensures kind { IsByColumn index.new }
 {
     match index {
-        Some(index) => index.make_room(1),
+        Some(index) => {
+            index.widen_for(i128::from(value), key)?;
+            index.make_room(1)
+        }
         None => Ok(()),
     }
 }
 
 /// Adds an entry to an index, if it is in use. There is memory for it.
 fn enter_in(index: &mut Option<RootIndex>, value: i128, key: u64, tid: Tid)
-    requires room { HasEntry index.old }
-    requires kind { IsByColumn index.old }
-    requires fits { Fits false (record { value = value; key = key; tid = tid }) }
+    requires room { HasEntry index.old value key }
+    requires page { tid.page < PAGES }
     ensures adds { AddsAny (entries_of index.old) (entries_of index.new)
         (record { value = value; key = key; tid = tid }) }
-    ensures kind { IsByColumn index.new }
+    ensures kind { IsByColumn index.old → IsByColumn index.new }
 {
     if let Some(index) = index {
         add_entry(index, value, key, tid);
@@ -320,7 +323,8 @@ fn enter_in(index: &mut Option<RootIndex>, value: i128, key: u64, tid: Tid)
 /// Adds an entry to an index, which has memory for it.
 fn add_entry(index: &mut RootIndex, value: i128, key: u64, tid: Tid)
     requires room { 0 < room_in index.old }
-    requires fits { Fits index.old.is_by_key (record { value = value; key = key; tid = tid }) }
+    requires fits { Fits index.old.is_by_key index.old.is_narrow
+        (record { value = value; key = key; tid = tid }) }
     ensures adds { AddsEntry index.old.entries index.new.entries
         (record { value = value; key = key; tid = tid }) }
     ensures kind { index.new.is_by_key ≡ index.old.is_by_key }

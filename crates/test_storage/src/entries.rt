@@ -20,6 +20,8 @@ enum IndexStep {
     Insert(Parts),
     /// Such an entry can't be in the index.
     NotFor(Parts),
+    /// It is widened for this value and this key.
+    Widen(i128, u64),
     /// The first entry behind this one, or of all, is that one, or there is none.
     Next(Option<Parts>, Option<Parts>),
     /// Entries are inserted, from this key on so many, and each key is so far behind the one before; after 29999 comes 0.
@@ -94,6 +96,7 @@ impl Step for IndexStep {
             IndexStep::InsertRun(first, count, stride) => {
                 return insert_run(index, first, count, stride);
             }
+            IndexStep::Widen(value, key) => index.widen_for(value, key)?,
             IndexStep::NotFor(parts) => return Ok(!index.fits(&entry(parts))),
             IndexStep::Next(from, next) => {
                 return Ok(index.next_after(from.map(entry)).map(parts) == next);
@@ -145,7 +148,7 @@ static NEW_ENTRY_IN_THE_SECOND_LEAF: [IndexStep; 4] = [
 fn of_a_full_leaf_and_one_more_the_first_64_stay(rt: HostRuntime) -> Result<(), Fail> {
     run(rt.alloc(), RootIndex::new(rt.alloc()), &LEAVES_UPWARD)?;
     run(rt.alloc(), RootIndex::by_key(rt.alloc()), &LEAVES_UPWARD)?;
-    run(rt.alloc(), RootIndex::new(rt.alloc()), &LEAVES_DOWNWARD)?;
+    run(rt.alloc(), RootIndex::narrow(rt.alloc()), &LEAVES_DOWNWARD)?;
     run(
         rt.alloc(),
         RootIndex::by_key(rt.alloc()),
@@ -191,10 +194,40 @@ static VALUES: [IndexStep; 10] = [
     ),
 ];
 
+/// The least and the greatest value of 32 bits, and the greatest key, with a leaf of others between them; and then any values and keys.
+static NARROW: [IndexStep; 19] = [
+    IndexStep::NotFor((2147483648, 1, 0, 1)),
+    IndexStep::NotFor((-2147483649, 1, 0, 1)),
+    IndexStep::NotFor((1, 4294967296, 0, 1)),
+    IndexStep::Insert((2147483647, 4294967295, 65535, 65535)),
+    IndexStep::InsertRun(1, 129, 1),
+    IndexStep::Insert((-2147483648, 0, 0, 9)),
+    IndexStep::Widen(-2147483648, 4294967295),
+    IndexStep::NotFor((1, 4294967296, 0, 1)),
+    IndexStep::Piece(None, Some((64, 64, 64, 1))),
+    IndexStep::Widen(1, 4294967296),
+    IndexStep::Insert((1, 4294967296, 0, 1)),
+    IndexStep::Insert((9223372036854775807, 18446744073709551615, 1, 1)),
+    IndexStep::Count(133),
+    IndexStep::Next(None, Some((-2147483648, 0, 0, 9))),
+    IndexStep::Next(Some((-2147483648, 0, 0, 9)), Some((1, 1, 1, 1))),
+    IndexStep::Next(Some((1, 1, 1, 1)), Some((1, 4294967296, 0, 1))),
+    IndexStep::Next(
+        Some((129, 129, 129, 1)),
+        Some((2147483647, 4294967295, 65535, 65535)),
+    ),
+    IndexStep::Next(
+        Some((2147483647, 4294967295, 65535, 65535)),
+        Some((9223372036854775807, 18446744073709551615, 1, 1)),
+    ),
+    IndexStep::Piece(None, Some((63, 63, 63, 1))),
+];
+
 #[test]
 fn entries_are_read_as_they_were_inserted(rt: HostRuntime) -> Result<(), Fail> {
     run(rt.alloc(), RootIndex::by_key(rt.alloc()), &KEYS)?;
-    run(rt.alloc(), RootIndex::new(rt.alloc()), &VALUES)
+    run(rt.alloc(), RootIndex::new(rt.alloc()), &VALUES)?;
+    run(rt.alloc(), RootIndex::narrow(rt.alloc()), &NARROW)
 }
 
 /// Also where any one allocation fails, the first entry and each split have their leaf.
@@ -213,5 +246,6 @@ static PROMISED: [IndexStep; 9] = [
 #[test]
 fn promised_entries_take_no_memory(rt: HostRuntime) -> Result<(), Fail> {
     run(rt.alloc(), RootIndex::new(rt.alloc()), &PROMISED)?;
+    run(rt.alloc(), RootIndex::narrow(rt.alloc()), &PROMISED)?;
     run(rt.alloc(), RootIndex::by_key(rt.alloc()), &PROMISED)
 }

@@ -9,11 +9,11 @@ use Rattle.index_making.proofs.filling.insert_batch.Goals as goal
 pub insert_each-requires-clause-fits : goal.insert_each-requires-clause-fits
 insert_each-requires-clause-fits c =
     subst AllFitColumn (sym c.deref.ensures.value)
-    (All-permutation (Fits false) c.args.batch.now.items c.sort_unstable_by_key.new.self.items c.sort_unstable_by_key.ensures.permutation c.requires.fits)
+    (All-permutation (Fits false false) c.args.batch.now.items c.sort_unstable_by_key.new.self.items c.sort_unstable_by_key.ensures.permutation c.requires.fits)
 
 pub returns-in_err-insert_each-clause-fits : goal.returns-in_err-insert_each-clause-fits
 returns-in_err-insert_each-clause-fits c =
-    All-permutation (Fits false) c.args.batch.now.items c.sort_unstable_by_key.new.self.items c.sort_unstable_by_key.ensures.permutation c.requires.fits
+    All-permutation (Fits false false) c.args.batch.now.items c.sort_unstable_by_key.new.self.items c.sort_unstable_by_key.ensures.permutation c.requires.fits
 
 pub returns-clause-inserts : goal.returns-clause-inserts
 returns-clause-inserts c =

@@ -1,4 +1,4 @@
-use Rattle.std.proofs.Common.{suc, refl, sym, arith}
+use Rattle.std.proofs.Common.{suc, refl, arith}
 use Rattle.index_lookup.specs.Pages.{page_slots_of}
 use Rattle.index_entries.proofs.SetLemmas.{on_err}
 use Rattle.index_making.proofs.ListLemmas.{page-begun, place-on_page, current-on_page, last-on_page}

@@ -2,11 +2,11 @@ use Rattle.std.proofs.Common.{ℕ, Option, refl, subst}
 use Rattle.std.specs.Prelude.{IfErr}
 use Rattle.tuple_header.specs.Version.{rounded_size_of}
 use Rattle.heap_write.specs.declared.target.Target.{Target}
-use Rattle.heap_write.specs.Heap.{HeapView}
 use Rattle.heap_write.specs.Writes.{Inserts, TableIsFull}
 use Rattle.write_ids.specs.Ids.{NeedsFreeze}
 use Rattle.heap_write.specs.Refusals.{RootNeedsMemory, LacksForInsert}
 use Rattle.heap_pages.specs.Choice.{IsPlaceFor}
+use Rattle.heap_pages.specs.declared.pages.Placement.TheVariants.{NewPage}
 use Rattle.heap_write.specs.Growth.{place_of_target}
 use Rattle.heap_write.specs.contracts.heap.HeapState.{the_view}
 use Rattle.heap_write.proofs.Reserving.{needs-memory, room-left, insert-refused}
@@ -31,9 +31,10 @@ pub returns-in-Err-clause-fault : goal.returns-in-Err-clause-fault
 returns-in-Err-clause-fault c =
     let h = the_view c.self.inside in
     let free = iff_false c.needs_freeze.ensures c.if-needs_freeze.false in
-    let P : HeapView → ℕ → Type 0 = λ v size. (¬ NeedsFreeze v.statuses c.args.own.now) × (¬ TableIsFull v size) × RootNeedsMemory v c.args.own.now size in
-    let unassigned_levels = needs-memory h c.args.own.now c.row_size.result c.in-Err.ensures.needs in
-    subst (λ v. P v (rounded_size_of c.args.row.now)) c.self.view_is (subst (λ size. P h size) c.row_size.ensures.value (free, unassigned_levels.0, unassigned_levels.1))
+    let row = c.args.row.now in
+    let chosen = subst (λ size. IsPlaceFor h.pages.pages h.max_pages size NewPage) c.row_size.ensures.value c.in-Err.ensures.needs in
+    let needs = needs-memory h c.args.own.now row chosen in
+    subst (λ v. (¬ NeedsFreeze v.statuses c.args.own.now) × (¬ TableIsFull v (rounded_size_of row)) × RootNeedsMemory v c.args.own.now row) c.self.view_is (free, needs.0, needs.1)
 
 pub returns-in-Ok-Some-clause-fault : goal.returns-in-Ok-Some-clause-fault
 returns-in-Ok-Some-clause-fault c =

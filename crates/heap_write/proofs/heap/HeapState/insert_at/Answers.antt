@@ -30,9 +30,9 @@ refusal (Err x) P e needs = needs
 pub returns-then-is_err-clause-needs : goal.returns-then-is_err-clause-needs
 returns-then-is_err-clause-needs c =
     let h = the_view c.self.inside in
-    subst (λ (h : HeapView). NeedsEntry h.indexes ⊎ NeedsIds h c.args.own.now) c.self.view_is
+    subst (λ (h : HeapView). NeedsEntry h.indexes c.args.row.now ⊎ NeedsIds h c.args.own.now) c.self.view_is
     (elim c.then-is_err.branch [
-      | then-is_err-via-then-is_err w ↦ inl (refusal c.make_room.result (NeedsEntry h.indexes) (sym c.is_err.ensures.value ∙ w.if-is_err.true) c.make_room.ensures.refused)
+      | then-is_err-via-then-is_err w ↦ inl (refusal c.make_room.result (NeedsEntry h.indexes c.args.row.now) (sym c.is_err.ensures.value ∙ w.if-is_err.true) c.make_room.ensures.refused)
       | then-is_err-via-else-is_err+then-is_err-2 w ↦ inr (refusal w.reserve_ids.result (NeedsIds h c.args.own.now) (sym w.is_err-else-is_err.ensures.value ∙ w.if-is_err-2.true) w.reserve_ids.ensures.refused)
     ])
 

@@ -5,7 +5,6 @@ use Rattle.page_sheet.specs.Slots.{room_of}
 use Rattle.commit_status.specs.Window.{IsWindow}
 use Rattle.heap_write.specs.Heap.{HeapView}
 use Rattle.heap_write.specs.Growth.{IsReserved}
-use Rattle.heap_write.specs.Steps.{IsChosen}
 use Rattle.heap_write.proofs.PageLemmas.{there-within}
 use Rattle.heap_write.proofs.Replacing.{replaceable-kept, once-pruned}
 use Rattle.heap_write.proofs.Updating.{some-weaker, answers-memory, answers-elsewhere}
@@ -38,18 +37,17 @@ update_elsewhere-requires-clause-chosen c =
     let reserved = c.reserve_root-reserved in
     let grown = reserved.ensures in
     let pruned = once-pruned c.do_actions.new.self grown.keeps grown.own c.do_actions.ensures c.requires.around c.requires.may in
-    let chosen = subst (λ n. IsChosen reserved.new.self n c.in-Ok.target) c.row_size.ensures.value c.in-Ok.ensures.chosen in
     applied-chosen c.args.self.now reserved.new.self c.do_actions.new.self c.args.place.page (rounded_size_of c.args.row.now) c.args.actions.now c.in-Ok.target pruned.within grown.keeps
-    c.do_actions.ensures c.requires.room c.requires.full chosen
+    c.do_actions.ensures c.requires.room c.requires.full c.in-Ok.ensures.chosen
 
 pub update_elsewhere-requires-clause-ready : goal.update_elsewhere-requires-clause-ready
 update_elsewhere-requires-clause-ready c =
     let h = c.args.self.now in
     let size = rounded_size_of c.args.row.now in
     let grown = c.reserve_root-reserved.new.self in
-    some-weaker c.in-Ok.target (λ target. IsReserved grown.pages c.row_size.result target) (λ target. IsReserved c.do_actions.new.self.pages size target)
+    some-weaker c.in-Ok.target (λ target. IsReserved grown.pages size target) (λ target. IsReserved c.do_actions.new.self.pages size target)
     (λ target is_ready. applied-ready h grown c.do_actions.new.self c.args.place.page size c.args.actions.now target c.reserve_root-reserved.ensures.keeps c.do_actions.ensures
-    c.requires.room (subst (λ n. IsReserved grown.pages n target) c.row_size.ensures.value is_ready)) c.in-Ok.ensures.ready
+    c.requires.room is_ready) c.in-Ok.ensures.ready
 
 pub returns-in-Ok : goal.returns-in-Ok
 returns-in-Ok c = λ horizon plan.
@@ -66,7 +64,6 @@ returns-in-Err c = λ horizon plan.
     let h = c.args.self.now in
     let own = c.args.own.now in
     let reserved = c.reserve_root-reserved in
-    let needs = moves-needs h own c.args.place c.args.row.now horizon c.row_size.result c.args.actions.now c.requires.may.there c.requires.room plan c.requires.full
-    c.row_size.ensures.value c.in-Err.ensures.needs in
+    let needs = moves-needs h own c.args.place c.args.row.now horizon c.args.actions.now c.requires.may.there c.requires.room plan c.requires.full c.in-Err.ensures.needs in
     answers-memory h reserved.new.self own reserved.new.own c.args.place c.args.row.now horizon c.requires.may.free needs reserved.ensures.keeps reserved.ensures.own
     (subst (λ (h : HeapView). IsWindow h.statuses) c.self.view_is c.fact_window.ensures)

@@ -37,6 +37,6 @@ returns-in-Err c = λ horizon left.
     let h = c.args.self.now in
     let own = c.args.own.now in
     let reserved = c.reserve_root-reserved in
-    let needs = left-needs h own c.args.place c.args.row.now horizon c.row_size.result c.requires.may.there c.requires.room left c.row_size.ensures.value c.in-Err.ensures.needs in
+    let needs = left-needs h own c.args.place c.args.row.now horizon c.requires.may.there c.requires.room left c.in-Err.ensures.needs in
     answers-memory h reserved.new.self own reserved.new.own c.args.place c.args.row.now horizon c.requires.may.free needs reserved.ensures.keeps reserved.ensures.own
     (subst (λ (h : HeapView). IsWindow h.statuses) c.self.view_is c.fact_window.ensures)

@@ -16,3 +16,10 @@ returns-in-ByColumn-clause-found c =
     subst (λ (v : IndexView). IsLeast v.entries (λ e. ¬ IsBelow c.args.value c.args.key e) c.first_from-in-ByColumn.result.found) (sym (ap kind_view c.in-ByColumn.is) ∙ c.self.view_is)
     (subst (λ (v : ℤ). IsLeast c.in-ByColumn.index.entries (λ e. ¬ IsBelow v c.args.key e) c.first_from-in-ByColumn.result.found) (to_z-of_z w128 c.args.value c.ranges.value)
     c.first_from-in-ByColumn.ensures.found)
+
+pub returns-in-Narrow-clause-found : goal.returns-in-Narrow-clause-found
+returns-in-Narrow-clause-found c =
+    subst (λ (v : IndexView). IsLeast v.entries (λ e. ¬ IsBelow c.args.value c.args.key e) c.first_from-in-Narrow.result.found) (sym (ap kind_view c.in-Narrow.is) ∙ c.self.view_is)
+    (subst (λ (v : IndexView). IsLeast v.entries (λ e. ¬ IsBelow c.args.value c.args.key e) c.first_from-in-Narrow.result.found) c.entries.ensures
+    (subst (λ (v : ℤ). IsLeast c.entries.result.now.entries (λ e. ¬ IsBelow v c.args.key e) c.first_from-in-Narrow.result.found) (to_z-of_z w128 c.args.value c.ranges.value)
+    c.first_from-in-Narrow.ensures.found))
