@@ -1,11 +1,13 @@
-/* How much memory rows and pages take: memory LENGTH [ROWS [KEYS [VALUES]]]. It inserts rows with bodies of LENGTH bytes, ROWS of them or as
- * many as fit on 65,536 pages, and prints how many there were, and how much the resident memory grew. KEYS is `ascending` or `random`. With
- * VALUES, which is that too, there is an index by a column, whose values are so many different numbers in that order. */
+/* How much memory rows and pages take: memory LENGTH [ROWS [KEYS [VALUES [MORE]]]]. It inserts rows with bodies of LENGTH bytes, ROWS of
+ * them or as many as fit on 65,536 pages, and prints how many there were, and how much the resident memory grew. KEYS is `ascending` or
+ * `random`. With VALUES, which is that too, there is an index by a column, whose values are so many different numbers in that order, each
+ * with MORE added. Without MORE a row comes last whose value has more than 32 bits, and it prints how long that insert took. */
 #include <sandpipercot.h>
 #include <stdint.h>
 #include <stdio.h>
 #include <stdlib.h>
 #include <string.h>
+#include <time.h>
 #include <unistd.h>
 
 /* resident bytes of this process */
@@ -35,11 +37,28 @@ static uint32_t *numbers(const char *order, uint64_t count) {
     return all;
 }
 
+static double seconds(void) {
+    struct timespec now;
+    if (clock_gettime(CLOCK_MONOTONIC, &now)) exit(3);
+    return (double)now.tv_sec + (double)now.tv_nsec / 1e9;
+}
+
+/* inserts a row with a key and a value that were not there, of more than 32 bits */
+static void insert_wide(struct sandpiper *table, struct sandpiper_row *row, uint64_t key, double before) {
+    row->key = key;
+    row->cols[0] = INT64_MAX;
+    double began = seconds();
+    if (sandpiper_insert(table, 0, row) != SANDPIPER_DONE) exit(3);
+    double took = seconds() - began;
+    printf("the first value of more than 32 bits: %.3f s, and then %.1f MiB\n", took, (resident() - before) / 1048576);
+}
+
 int main(int count, char **words) {
-    if (count < 2 || count > 5) return 2;
+    if (count < 2 || count > 6) return 2;
     uint64_t most = count > 2 ? strtoull(words[2], NULL, 10) : UINT64_MAX;
     uint32_t *keys = numbers(count > 3 ? words[3] : "ascending", most);
     uint32_t *values = numbers(count > 4 ? words[4] : "ascending", most);
+    int64_t more = count > 5 ? strtoll(words[5], NULL, 10) : 0;
     struct sandpiper table = {0};
     struct sandpiper_settings settings = SANDPIPER_WIDEST;
     struct sandpiper_row row = {.length = (uint16_t)atoi(words[1])};
@@ -50,12 +69,13 @@ int main(int count, char **words) {
     sandpiper_begin(&table, 0);
     for (; rows < most; rows++) {
         row.key = keys ? keys[rows] : rows;
-        row.cols[0] = values ? values[rows] : (int64_t)rows;
+        row.cols[0] = more + (values ? values[rows] : (int64_t)rows);
         uint32_t status = sandpiper_insert(&table, 0, &row);
         if (status == SANDPIPER_NO_ROOM) break;
         if (status != SANDPIPER_DONE) return 3;
     }
     double grown = resident() - before;
     printf("%llu rows of %u bytes: %.1f MiB, %.0f bytes a row\n", (unsigned long long)rows, row.length, grown / 1048576, grown / (double)rows);
+    if (count == 5) insert_wide(&table, &row, rows, before);
     return sandpiper_commit(&table, 0) != SANDPIPER_COMMITTED || sandpiper_close(&table) != SANDPIPER_DONE;
 }
