@@ -32,6 +32,8 @@ from test_cuts import whole_answers  # noqa: E402
 
 NO_MEMORY = "error 16 NoMemory\n"
 LEAST, MOST = -(2**63), 2**63 - 1
+# a value and a key that no narrow index can have
+WIDE = 2**40
 INDEXES, READER = 5, 63
 THREADS_PAGES = 4
 # The steps that may grow something (docs/rules.md, Refusals): each script has each of them refused, and no other may be.
@@ -289,12 +291,14 @@ def all_steps(rows: int, sessions: int) -> List[str]:
     lines += ["commit 0", "begin 1", "begin 2", "openheap 2"]
     for key in range(0, rows, 2):
         lines += ["begin 0", row(0, "update", key, key * 7 % 50 + key % 4), "commit 0" if key % 8 else "abort 0", "prune 0"]
-    lines += ["begin 0", *(f"delete 0 {key}" for key in range(5, rows, 5)), "commit 0", "createindex 2", "createindex 0"]
+    lines += ["begin 0", *(f"delete 0 {key}" for key in range(5, rows, 5)), "commit 0", "createindex 1"]
+    lines += ["begin 0", row(0, "update", 1, WIDE), "commit 0", "createindex 2", "createindex 0"]
     lines += many_sessions(10, 10 + sessions)
     lines += ["begin 3", "beginrc 4", *cursors(3), *cursors(4), "beginrc 5", *savepoints(5, 32)]
     lines += ["get 1 2", "apply 0 0 r1:2 u3 d5", *vacuum("normal")]
     lines += [f"{'commit' if session % 3 else 'abort'} {session}" for session in range(10, 10 + sessions)]
-    return [*lines, "commit 5", "next 2 0", "abort 2", "prune 1", "commit 1", "abort 4", "abort 3", *vacuum("aggressive")]
+    lines += ["commit 5", "next 2 0", "abort 2", "begin 0", row(0, "insert", WIDE, 3), "commit 0"]
+    return [*lines, "prune 1", "commit 1", "abort 4", "abort 3", *vacuum("aggressive")]
 
 
 def for_worker(worker: int, turn: int) -> Iterator[str]:
